@@ -1,0 +1,2 @@
+// Event files.
+#![tactic(auto)]

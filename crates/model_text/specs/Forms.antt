@@ -1,0 +1,120 @@
+-- The forms of the values of keys.
+use Rattle.std.specs.Prelude.{ℕ, ◌==◌, Bool, false, not, ◌&&◌, ◌||◌, nat_le, Option, Some, None, List, [], ◌∷◌, ◌++◌, map, length, ℤ, pos, codes}
+use Rattle.std.specs.List.{filter, list_all, slice_split, before_first, after_first}
+use Rattle.std.specs.Option.{option_map, option_and_then, is_some}
+use Rattle.std.specs.Bool.{then_some}
+use Rattle.std.specs.Prelude.{int_le}
+use Rattle.std.specs.Str.{bytes_eq}
+use Rattle.quantity.specs.Bytes.{Bytes, is_byte, is_blank, is_empty, is_among, has_repeat, words, trimmed, parts_outside, all_there}
+use Rattle.quantity.specs.Names.{is_name}
+use Rattle.quantity.specs.Digits.{has_length, whole_number}
+use Rattle.quantity.specs.Literals.{value_in}
+use Rattle.source_text.specs.Tuples.{tuple}
+use Rattle.rule_syntax.specs.Tokens.{is_of_word}
+use Rattle.std.specs.Char.{is_ascii_alphabetic}
+
+-- ---- sizes and words
+
+abbrev pub is_positive : Option ℕ → Bool
+is_positive None = false
+is_positive (Some n) = nat_le 1 n
+
+abbrev pub is_size : Bytes → Bool
+is_size text = is_positive (whole_number 7 text)
+
+abbrev pub are_sizes : Option (List ℤ) → Bool
+are_sizes None = false
+are_sizes (Some ns) = list_all (λ n. int_le (pos 1) n) ns
+
+abbrev pub is_dim : Bytes → Bool
+is_dim text = are_sizes (tuple text)
+
+abbrev pub is_delay_time : Bytes → Bool
+is_delay_time text = is_at_most (whole_number 9 text)
+  where
+    is_at_most : Option ℕ → Bool
+    is_at_most None = false
+    is_at_most (Some n) = nat_le n 359999999
+
+abbrev pub is_one_of : List Bytes → Bytes → Bool
+is_one_of texts text = is_among texts text
+
+abbrev pub is_value_text : Bytes → Bool
+is_value_text text = is_some (value_in text)
+
+abbrev pub is_file_name : Bytes → Bool
+is_file_name text = not (is_empty text)
+
+abbrev pub are_names : Bytes → Bool
+are_names text = list_all is_name (words text)
+
+-- a word of the rule language
+abbrev pub is_word : Bytes → Bool
+is_word [] = false
+is_word (c ∷ cs) = is_ascii_alphabetic c && list_all is_of_word cs && has_length 1 64 (c ∷ cs)
+
+-- so many different words
+abbrev pub are_words : ℕ → Bytes → Bool
+are_words most text = has_length 1 most (words text) && list_all is_word (words text) && not (has_repeat (words text))
+
+abbrev pub are_ports : Bytes → Bool
+are_ports text = are_words 3 text && not (is_among (words text) (codes "out"))
+
+-- ---- tuples behind names
+
+pub record NamedTuple : Type 0 where
+  pub name : Bytes
+  pub place : List ℤ
+
+-- a name and a tuple without its closing parenthesis
+abbrev pub named_tuple : Bytes → Option NamedTuple
+named_tuple text =
+    option_map (λ is. record { name = before_first (is_byte 40) text; place = is }) (tuple (40 ∷ after_first (is_byte 40) text ++ 41 ∷ []))
+
+-- the parts that end with a closing parenthesis, where nothing but blanks follows the last
+abbrev pub closed_parts : List Bytes → Option (List Bytes)
+closed_parts [] = None
+closed_parts (p ∷ []) = then_some (is_empty (trimmed p)) []
+closed_parts (p ∷ q ∷ ps) = option_map (λ rest. p ∷ rest) (closed_parts (q ∷ ps))
+
+abbrev pub parts_of : Bytes → Option (List Bytes)
+parts_of text = closed_parts (slice_split (is_byte 41) text)
+
+-- tuples, each behind the group's name or behind nothing
+abbrev pub is_of_group : Bytes → NamedTuple → Bool
+is_of_group group t = is_empty t.name || bytes_eq t.name group
+
+abbrev pub tuples_of : Bytes → Bytes → Option (List NamedTuple)
+tuples_of group text =
+    option_and_then (λ ts. then_some (list_all (is_of_group group) ts) ts)
+    (option_and_then (λ parts. all_there (map (λ part. named_tuple (trimmed part)) parts)) (parts_of text))
+
+-- ---- port@group(tuple) rules
+
+pub record PortRuleText : Type 0 where
+  pub port : Bytes
+  pub place : List ℤ
+  pub rules : Bytes
+
+abbrev pub port_and_place : Bytes → Bytes → Option (Bytes × List ℤ)
+port_and_place group text =
+    option_and_then (λ t. then_some (is_name (before_first (is_byte 64) text) && bytes_eq t.name group) (before_first (is_byte 64) text, t.place))
+    (named_tuple (after_first (is_byte 64) text))
+
+abbrev pub begins_with_blank : Bytes → Bool
+begins_with_blank [] = false
+begins_with_blank (c ∷ cs) = is_blank c
+
+abbrev pub port_rule_text : Bytes → Bytes → Option PortRuleText
+port_rule_text group text =
+    let rules = after_first (is_byte 41) text in
+    option_and_then (λ p. then_some (begins_with_blank rules && is_name (trimmed rules)) (record { port = p.0; place = p.1; rules = trimmed rules }))
+    (port_and_place group (before_first (is_byte 41) text))
+
+-- ---- the ends of a link
+
+abbrev pub ends_of : Bytes → List Bytes
+ends_of text = filter (λ p. not (is_empty p)) (parts_outside is_blank (is_byte 40) (is_byte 41) 0 text)
+
+abbrev pub has_two_ends : Bytes → Bool
+has_two_ends text = is_empty text || (length (ends_of text) == 2)

@@ -1,0 +1,55 @@
+-- Sections by name, and entries by key.
+use Rattle.std.specs.Prelude.{ℕ, ◌==◌, Bool, false, ◌&&◌, ◌||◌, nat_lt, Option, Some, None, List, [], ◌∷◌, map, if◌then◌else◌}
+use Rattle.std.specs.List.{filter, find, flat_map}
+use Rattle.std.specs.Option.{option_map}
+use Rattle.std.specs.Str.{bytes_eq}
+use Rattle.quantity.specs.Bytes.{Bytes, words}
+use Rattle.source_text.specs.Kinds.{Refusal, refusal}
+use Rattle.source_text.specs.Lines.{Entry, Section}
+
+abbrev pub section_named : List Section → Bytes → Option Section
+section_named ss name = find (λ (s : Section). bytes_eq s.name name) ss
+
+abbrev pub entries_of : Bytes → Section → List Entry
+entries_of key s = filter (λ (e : Entry). bytes_eq e.key key) s.entries
+
+abbrev pub first_entry : Bytes → Section → Option Entry
+first_entry key s = find (λ (e : Entry). bytes_eq e.key key) s.entries
+
+abbrev pub value_of : Bytes → Section → Option Bytes
+value_of key s = option_map (λ (e : Entry). e.value) (first_entry key s)
+
+abbrev pub is_value : Bytes → Option Bytes → Bool
+is_value text None = false
+is_value text (Some value) = bytes_eq text value
+
+-- a word of an entry's value, with the entry's line
+pub record Item : Type 0 where
+  pub line : ℕ
+  pub text : Bytes
+
+abbrev pub items_of : Bytes → Section → List Item
+items_of key s = flat_map (λ (e : Entry). map (λ w. record { line = e.line; text = w }) (words e.value)) (entries_of key s)
+
+abbrev pub texts_of : Bytes → Section → List Bytes
+texts_of key s = map (λ (i : Item). i.text) (items_of key s)
+
+-- ---- refusals of a phase: the least line, and there the least number
+
+abbrev pub comes_before : Refusal → Refusal → Bool
+comes_before a b = nat_lt a.line b.line || ((a.line == b.line) && nat_lt a.kind b.kind)
+
+abbrev pub lesser : Refusal → Option Refusal → Refusal
+lesser a None = a
+lesser a (Some b) = if comes_before b a then b else a
+
+abbrev pub least : List Refusal → Option Refusal
+least [] = None
+least (r ∷ rs) = Some (lesser r (least rs))
+
+-- an entry's refusal of a kind, where a test fails
+abbrev pub at_entry : Entry → ℕ → Bool → List Refusal
+at_entry e kind is_right = if is_right then [] else refusal e.line kind ∷ []
+
+abbrev pub each_entry : Bytes → Section → (Entry → List Refusal) → List Refusal
+each_entry key s test = flat_map test (entries_of key s)

@@ -1,0 +1,113 @@
+-- The keys of sections: how often they may stand, and the form of their values.
+use Rattle.std.specs.Prelude.{◌==◌, Bool, false, not, ◌&&◌, ◌||◌, Option, Some, None, List, [], ◌∷◌, ◌++◌, map, length, if◌then◌else◌, codes}
+use Rattle.std.specs.List.{filter, flat_map, list_all}
+use Rattle.std.specs.Option.{is_some, option_to_list}
+use Rattle.quantity.specs.Bytes.{Bytes, is_among, words}
+use Rattle.quantity.specs.Names.{is_name}
+use Rattle.source_text.specs.Kinds.{Refusal, refusal, duplicate_key, missing_key, bad_value}
+use Rattle.source_text.specs.Lines.{Entry, Section}
+use Rattle.rule_syntax.specs.Phrases.{looked_up}
+use Rattle.model_text.specs.Keyed.{section_named, first_entry, value_of, Item, items_of, least}
+use Rattle.model_text.specs.Walk.{is_group, name_of, class_of, reached, atomics}
+use Rattle.model_text.specs.Forms.{is_size, is_dim, is_delay_time, is_value_text, is_file_name, are_names, is_one_of, are_words, are_ports, tuples_of, port_rule_text, has_two_ends}
+
+-- ---- keys that stand again
+
+abbrev pub group_keys : List Bytes
+group_keys =
+    codes "type" ∷ codes "dim" ∷ codes "height" ∷ codes "width" ∷ codes "delay" ∷ codes "defaultdelaytime" ∷ codes "border" ∷ codes "initialvalue"
+    ∷ codes "initialmapvalue" ∷ codes "initialcellsvalue" ∷ codes "localtransition" ∷ codes "statevariables" ∷ codes "statevalues"
+    ∷ codes "neighborports" ∷ codes "portvalues" ∷ []
+
+-- the parameters of a class that may stand once
+abbrev pub parameter_keys : List (Bytes × List Bytes)
+parameter_keys =
+    (codes "queue", codes "preparation" ∷ [])
+    ∷ (codes "generator", codes "start" ∷ codes "period" ∷ codes "value" ∷ codes "step" ∷ codes "count" ∷ [])
+    ∷ (codes "cpu", codes "delay" ∷ []) ∷ (codes "counter", codes "delay" ∷ codes "start" ∷ codes "step" ∷ [])
+    ∷ (codes "table", codes "states" ∷ codes "initial" ∷ []) ∷ []
+
+abbrev pub once_keys : Section → List Bytes
+once_keys s = if is_group s then group_keys else codes "type" ∷ []
+
+-- entries whose key is among these and stands before
+abbrev pub again : List Bytes → List Bytes → List Entry → List Refusal
+again once before [] = []
+again once before (e ∷ es) =
+    (if is_among once e.key && is_among before e.key then refusal e.line duplicate_key ∷ [] else []) ++ again once (e.key ∷ before) es
+
+-- ---- keys that are missing
+
+abbrev pub has_key : Bytes → Section → Bool
+has_key key s = is_some (first_entry key s)
+
+abbrev pub has_space : Section → Bool
+has_space s = has_key (codes "dim") s || (has_key (codes "height") s && has_key (codes "width") s)
+
+abbrev pub missing : Section → List Refusal
+missing s = if has_space s && has_key (codes "localtransition") s then [] else refusal s.line missing_key ∷ []
+
+-- ---- values off their form
+
+-- as many values as the words of another key, which is there
+abbrev pub values_fit : (Bytes → Bool) → Option Bytes → Bytes → Bool
+values_fit is_right None text = false
+values_fit is_right (Some names) text =
+    list_all is_value_text (words text) && (not (is_right names) || (length (words text) == length (words names)))
+
+abbrev pub forms : Section → List (Bytes × (Bytes → Bool))
+forms s = (codes "in", are_names) ∷ (codes "out", are_names) ∷ (codes "link", has_two_ends) ∷ []
+
+abbrev pub group_forms : Section → List (Bytes × (Bytes → Bool))
+group_forms s =
+    (codes "dim", is_dim) ∷ (codes "height", is_size) ∷ (codes "width", is_size)
+    ∷ (codes "delay", is_one_of (codes "transport" ∷ codes "inertial" ∷ []))
+    ∷ (codes "defaultdelaytime", is_delay_time)
+    ∷ (codes "border", is_one_of (codes "wrapped" ∷ codes "nowrapped" ∷ []))
+    ∷ (codes "neighbors", λ text. is_some (tuples_of s.name text))
+    ∷ (codes "initialvalue", is_value_text)
+    ∷ (codes "initialmapvalue", is_file_name) ∷ (codes "initialcellsvalue", is_file_name)
+    ∷ (codes "localtransition", is_name)
+    ∷ (codes "portintransition", λ text. is_some (port_rule_text s.name text))
+    ∷ (codes "statevariables", are_words 8) ∷ (codes "statevalues", values_fit (are_words 8) (value_of (codes "statevariables") s))
+    ∷ (codes "neighborports", are_ports) ∷ (codes "portvalues", values_fit are_ports (value_of (codes "neighborports") s))
+    ∷ forms s
+
+abbrev pub is_off : Option (Bytes → Bool) → Bytes → Bool
+is_off None text = false
+is_off (Some is_right) text = not (is_right text)
+
+abbrev pub off_form : List (Bytes × (Bytes → Bool)) → List Entry → List Refusal
+off_form table es = map (λ (e : Entry). refusal e.line bad_value) (filter (λ (e : Entry). is_off (looked_up table e.key) e.value) es)
+
+-- dim beside height or width, at the line of dim
+abbrev pub double_space : Section → List Refusal
+double_space s =
+    if has_key (codes "height") s || has_key (codes "width") s
+    then map (λ (e : Entry). refusal e.line bad_value) (option_to_list (first_entry (codes "dim") s))
+    else []
+
+-- words that stand before
+abbrev pub repeated : List Bytes → List Item → List Refusal
+repeated before [] = []
+repeated before (i ∷ is) = (if is_among before i.text then refusal i.line bad_value ∷ [] else []) ++ repeated (i.text ∷ before) is
+
+-- ---- the phase
+
+abbrev pub of_group : Section → List Refusal
+of_group s = missing s ++ off_form (group_forms s) s.entries ++ double_space s
+
+abbrev pub of_section : Section → List Refusal
+of_section s =
+    again (once_keys s) [] s.entries ++ repeated [] (items_of (codes "in") s) ++ repeated [] (items_of (codes "out") s)
+    ++ (if is_group s then of_group s else off_form (forms s) s.entries)
+
+abbrev pub parameters_again : Option (List Bytes) → Option Section → List Refusal
+parameters_again (Some keys) (Some s) = again keys [] s.entries
+parameters_again keys s = []
+
+abbrev pub of_atomic : List Section → Item → List Refusal
+of_atomic ss i = parameters_again (looked_up parameter_keys (class_of i)) (section_named ss (name_of i))
+
+abbrev pub keys_refused : List Section → Option Refusal
+keys_refused ss = least (flat_map of_section (reached ss) ++ flat_map (of_atomic ss) (atomics ss))

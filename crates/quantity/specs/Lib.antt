@@ -1,0 +1,10 @@
+pub mod Truth
+pub mod Arithmetic
+pub mod Delay
+pub mod Bytes
+pub mod Digits
+pub mod Names
+pub mod Literals
+pub mod Written
+pub mod ValueTexts
+pub mod Times

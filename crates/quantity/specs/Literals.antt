@@ -1,0 +1,36 @@
+-- Values as people write them.
+use Rattle.std.specs.Prelude.{ℕ, ◌+◌, ◌*◌, Bool, not, ◌&&◌, ◌||◌, Option, Some, ◌++◌, take, replicate, ℤ, pos, if◌then◌else◌, codes}
+use Rattle.std.specs.List.{before_first, after_first}
+use Rattle.std.specs.Bool.{then_some}
+use Rattle.std.specs.Option.{option_map}
+use Rattle.std.specs.Str.{bytes_eq, all_ascii_digits}
+use Rattle.quantity.specs.declared.value.Value.{Value}
+use Rattle.quantity.specs.declared.value.Value.TheVariants.{Undefined, Num}
+use Rattle.quantity.specs.Bytes.{Bytes, is_empty, is_byte}
+use Rattle.quantity.specs.Digits.{are_digits, number_in, without_sign, with_sign_of}
+
+abbrev pub whole_digits : Bytes → Bytes
+whole_digits text = before_first (is_byte 46) text
+
+abbrev pub decimals : Bytes → Bytes
+decimals text = after_first (is_byte 46) text
+
+-- 1 to 10 digits with an optional point and any digits, or a point and at least one digit
+abbrev pub is_unsigned_literal : Bytes → Bool
+is_unsigned_literal text =
+    all_ascii_digits (decimals text)
+    && (are_digits 1 10 (whole_digits text) || (is_empty (whole_digits text) && not (is_empty (decimals text))))
+
+-- in hundred-thousandths: decimals after the fifth are cut
+abbrev pub raw_in : Bytes → ℕ
+raw_in text = number_in (whole_digits text) * 100000 + number_in (take 5 (decimals text ++ replicate 5 48))
+
+abbrev pub unsigned_literal : Bytes → Option ℤ
+unsigned_literal text = then_some (is_unsigned_literal text) (pos (raw_in text))
+
+abbrev pub literal : Bytes → Option Value
+literal text = option_map (λ n. Num (with_sign_of text n)) (unsigned_literal (without_sign text))
+
+-- a literal or ?
+abbrev pub value_in : Bytes → Option Value
+value_in text = if bytes_eq text (codes "?") then Some Undefined else literal text

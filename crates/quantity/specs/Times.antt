@@ -1,0 +1,41 @@
+-- Times as texts: as people write them, and as logs have them.
+use Rattle.std.specs.Prelude.{ℕ, ◌+◌, ◌*◌, ◌/◌, ◌%◌, ◌&&◌, ◌==◌, nat_lt, Option, Some, None, List, [], ◌∷◌, if◌then◌else◌, decimal}
+use Rattle.std.specs.List.{slice_split, join_with_byte}
+use Rattle.std.specs.Bool.{then_some}
+use Rattle.std.specs.Option.{option_and_then}
+use Rattle.std.specs.Str.Parse.{digits_value}
+use Rattle.quantity.specs.Bytes.{Bytes, is_byte, all_there}
+use Rattle.quantity.specs.Digits.{whole_number, last_digits}
+use Rattle.quantity.specs.Written.{if_written, number_at_most}
+
+abbrev pub milliseconds_of : List ℕ → Option ℕ
+milliseconds_of (h ∷ m ∷ s ∷ ms ∷ []) = then_some (nat_lt m 60 && nat_lt s 60) (((h * 60 + m) * 60 + s) * 1000 + ms)
+milliseconds_of ns = None
+
+abbrev pub parsed_parts : List Bytes → Option (List ℕ)
+parsed_parts (h ∷ m ∷ s ∷ ms ∷ []) = all_there (whole_number 2 h ∷ whole_number 2 m ∷ whole_number 2 s ∷ whole_number 3 ms ∷ [])
+parsed_parts texts = None
+
+-- hours, minutes, seconds and milliseconds, with : between
+abbrev pub time_in : Bytes → Option ℕ
+time_in text = option_and_then milliseconds_of (parsed_parts (slice_split (is_byte 58) text))
+
+abbrev pub hours_text : ℕ → Bytes
+hours_text n = if nat_lt n 100 then last_digits 2 n else decimal n
+
+-- hours, minutes, seconds and milliseconds
+abbrev pub time_parts : ℕ → List Bytes
+time_parts ms =
+    hours_text (ms / 3600000) ∷ last_digits 2 (ms / 60000 % 60) ∷ last_digits 2 (ms / 1000 % 60) ∷ last_digits 3 (ms % 1000) ∷ []
+
+abbrev pub time_text : ℕ → Bytes
+time_text ms = join_with_byte 58 (time_parts ms)
+
+abbrev pub time_of : List Bytes → Option ℕ
+time_of (h ∷ m ∷ s ∷ ms ∷ []) =
+    number_at_most 719999998 (digits_value 10 h * 3600000 + digits_value 10 m * 60000 + digits_value 10 s * 1000 + digits_value 10 ms)
+time_of parts = None
+
+-- a time as it is written; it is at most this
+abbrev pub read_time : Bytes → Option ℕ
+read_time text = if_written time_text text (time_of (slice_split (λ c. c == 58) text))

@@ -1,0 +1,69 @@
+-- Values as texts, and the texts read back.
+use Rattle.std.specs.Prelude.{ℕ, zero, suc, ◌-◌, ◌/◌, ◌^◌, Bool, true, false, ◌&&◌, ◌==◌, nat_lt, Option, Some, None, [], ◌∷◌, ◌++◌, length, replicate, ℤ, pos, negsuc, neg_ℤ, unsigned_abs, if◌then◌else◌, codes, decimal}
+use Rattle.std.specs.Str.{bytes_eq}
+use Rattle.quantity.specs.declared.value.Value.{Value}
+use Rattle.quantity.specs.declared.value.Value.TheVariants.{Undefined, Num}
+use Rattle.quantity.specs.Bytes.{Bytes}
+use Rattle.quantity.specs.Digits.{last_digits}
+use Rattle.quantity.specs.Written.{if_written, number_in}
+
+-- the size that is shown, in units of the last decimal
+abbrev pub shown_size : ℕ → ℤ → ℕ
+shown_size decimals x = unsigned_abs x / 10 ^ (5 - decimals)
+
+abbrev pub is_below_zero : ℤ → Bool
+is_below_zero (pos n) = false
+is_below_zero (negsuc n) = true
+
+abbrev pub minus_if : Bool → Bytes
+minus_if b = if b then codes "-" else []
+
+abbrev pub fraction_text : ℕ → ℕ → Bytes
+fraction_text zero size = []
+fraction_text (suc k) size = codes "." ++ last_digits (suc k) size
+
+-- cut toward zero; a number that is cut to zero has no sign
+abbrev pub number_text : ℕ → ℤ → Bytes
+number_text decimals x =
+    let size = shown_size decimals x in
+    minus_if (is_below_zero x && nat_lt 0 size) ++ decimal (size / 10 ^ decimals) ++ fraction_text decimals size
+
+abbrev pub decimals_text : ℕ → Value → Bytes
+decimals_text decimals Undefined = codes "?"
+decimals_text decimals (Num x) = number_text decimals x
+
+-- right in this many places; a longer text stays whole
+abbrev pub in_width : ℕ → Bytes → Bytes
+in_width width text = replicate (width - length text) 32 ++ text
+
+abbrev pub value_text : ℕ → ℕ → Value → Bytes
+value_text decimals width v = in_width width (decimals_text decimals v)
+
+abbrev pub text5 : Value → Bytes
+text5 v = decimals_text 5 v
+
+abbrev pub without_point : Bytes → Bytes
+without_point [] = []
+without_point (c ∷ cs) = if c == 46 then without_point cs else c ∷ without_point cs
+
+abbrev pub positive : Option ℕ → Option ℤ
+positive None = None
+positive (Some n) = Some (pos n)
+
+abbrev pub negative : Option ℕ → Option ℤ
+negative None = None
+negative (Some n) = Some (neg_ℤ (pos n))
+
+abbrev pub signed_in : ℕ → Bytes → Option ℤ
+signed_in most [] = None
+signed_in most (c ∷ cs) = if c == 45 then negative (number_in most cs) else positive (number_in most (c ∷ cs))
+
+abbrev pub as_value : Option ℤ → Option Value
+as_value None = None
+as_value (Some x) = Some (Num x)
+
+abbrev pub guessed_value : Bytes → Option Value
+guessed_value text = if bytes_eq text (codes "?") then Some Undefined else as_value (signed_in (10 ^ 15) (without_point text))
+
+abbrev pub read_text5 : Bytes → Option Value
+read_text5 text = if_written text5 text (guessed_value text)

@@ -1,0 +1,18 @@
+use Rattle.std.proofs.Common.{◌≡◌, ◌≤◌, ◌-◌, length, take}
+use Rattle.room_edge.specs.Outside.{OnlyComplained, streams}
+use Rattle.room_edge.proofs.whole.complain_all.Given as goal
+
+abbrev pub invariant-loop-done : goal.invariant-loop-done
+invariant-loop-done g l =
+    let was = g.R.Room.outside l.fn.room in
+    let now = g.R.Room.outside l.room in
+    record {
+      within : l.done ≤ length l.bytes;
+      complained : now.complained ≡ streams was.complained (take l.done l.bytes);
+      complain_faults : was.complain_faults ≤ now.complain_faults;
+      faults : was.write_faults ≤ now.write_faults;
+      only : OnlyComplained was now;
+    }
+
+abbrev pub decreases-loop-done : goal.decreases-loop-done
+decreases-loop-done g l = length l.bytes - l.done

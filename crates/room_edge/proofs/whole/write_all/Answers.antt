@@ -1,0 +1,20 @@
+use Rattle.std.proofs.Common.{refl, sym, ◌∙◌, ap, rules, arith}
+use Rattle.room_edge.specs.Outside.{adds}
+use Rattle.room_edge.proofs.Adding.{adds-nil, adds_piece}
+use Rattle.room_edge.proofs.Only.{OnlyMade-refl, OnlyMade-trans}
+use Rattle.room_edge.proofs.whole.write_all.Goals as goal
+
+pub loop-done-init : goal.loop-done-init
+loop-done-init g c = record { within = omega arith; made = sym (adds-nil _ _); created = refl; faults = omega arith; only = OnlyMade-refl _ }
+
+pub loop-done-preserved : goal.loop-done-preserved
+loop-done-preserved g c =
+    let was = c.loop-done.invariant in
+    let step = c.in-Ok.ensures in
+    record {
+      within = search rules;
+      made = adds_piece _ _ _ _ _ _ _ was.made step.made;
+      created = step.created ∙ was.created;
+      faults = omega (arith, step.faults);
+      only = OnlyMade-trans _ _ _ was.only step.only;
+    }

@@ -1,0 +1,28 @@
+-- What a room in memory tells: all of it. No call of its fails.
+use Rattle.std.specs.Prelude.{ℕ, List, map, drop, Option, Some, Vec, String}
+use Rattle.std.specs.declared.alloc.Global.{Global}
+use Rattle.std.specs.Option.{option_map}
+use Rattle.std.specs.String.{string_bytes}
+use Rattle.std.specs.BTreeMap.{BTreeMap, get_by_text}
+use Rattle.room_edge.specs.Outside.{Outside}
+use Rattle.room_edge.specs.Folder.{folder_of}
+use Rattle.room_edge.specs.declared.sure.SureRoom.{SureRoom}
+
+abbrev pub names_of : Vec (String Global) Global → List (List ℕ)
+names_of names = map string_bytes names.items
+
+abbrev pub sure_outside : SureRoom → Outside
+sure_outside r = record {
+  files = Some (folder_of r.files);
+  made = Some (folder_of r.made);
+  shown = Some r.shown.items;
+  complained = Some r.complained.items;
+  rest = Some (drop r.taken r.input.items);
+  read_faults = 0;
+  write_faults = 0;
+  complain_faults = 0;
+  misses = r.misses;
+  tried = names_of r.tried;
+  created = names_of r.created;
+  opened = r.opened;
+}

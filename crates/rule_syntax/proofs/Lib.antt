@@ -1,0 +1,3 @@
+mod OneOutcome
+mod Sound
+mod Rules

@@ -1,0 +1,100 @@
+-- The rule that a text is in a group, or the kind of its refusal: the first that applies.
+use Rattle.std.specs.Prelude.{◌≡◌, ℕ, Bool, true, false, not, Option, Some, None, List, [], ◌∷◌, ◌++◌, map, length, if◌then◌else◌, codes, ◌↔◌}
+use Rattle.std.specs.declared.result.Result.{Result}
+use Rattle.std.specs.declared.result.Result.TheVariants.{Ok, Err}
+use Rattle.std.specs.List.{list_any, find}
+use Rattle.std.specs.Option.{ok_or, option_and_then}
+use Rattle.std.specs.Bool.{then_some}
+use Rattle.rule_syntax.specs.Expression.{Rule}
+use Rattle.quantity.specs.Bytes.{Bytes, is_among, has_repeat}
+use Rattle.source_text.specs.Kinds.{bad_rule, bad_sort, random_refused, unknown_function, not_a_neighbour, too_large, unknown_variable, unknown_neighbour_port}
+use Rattle.rule_syntax.specs.Tokens.{Token, tokens, words_in, is_large}
+use Rattle.rule_syntax.specs.Phrases.{Phrase, expr, Assigned, Written, counts, functions, first_texts}
+use Rattle.rule_syntax.specs.Grammar.{IsPhrase, IsRule}
+use Rattle.rule_syntax.specs.Reading.{phrase_of, written_rule}
+use Rattle.rule_syntax.specs.Scope.{Names, named_by, is_no_neighbour, is_no_variable, is_no_port, rule_in, has_right_sorts}
+
+abbrev pub random_names : List Bytes
+random_names =
+    codes "random" ∷ codes "randint" ∷ codes "randsign" ∷ codes "uniform" ∷ codes "normal" ∷ codes "exponential" ∷ codes "poisson"
+    ∷ codes "binomial" ∷ codes "beta" ∷ codes "gamma" ∷ codes "chi" ∷ []
+
+abbrev pub language : List Bytes
+language =
+    (codes "imp" ∷ codes "eqv" ∷ codes "or" ∷ codes "xor" ∷ codes "and" ∷ codes "not" ∷ codes "t" ∷ codes "f" ∷ codes "time"
+    ∷ codes "portvalue" ∷ codes "thisport" ∷ []) ++ first_texts counts ++ first_texts functions
+
+abbrev pub word_refused : Bytes → Option ℕ
+word_refused w = if is_among random_names w then Some random_refused else if is_among language w then None else Some unknown_function
+
+-- the first word that is no word of the language decides
+abbrev pub words_refused : List Bytes → Option ℕ
+words_refused ws = option_and_then word_refused (find (λ w. not (is_among language w)) ws)
+
+abbrev pub given_ports : Written → List Bytes
+given_ports r = map (λ (g : Assigned). g.name) r.gives
+
+abbrev pub has_port_twice : Written → Bool
+has_port_twice r = has_repeat (given_ports r)
+
+-- goes on unless there is a refusal
+abbrev pub unless : {A : Type 0} → Option ℕ → Result A ℕ → Result A ℕ
+unless None next = next
+unless (Some kind) next = Err kind
+
+abbrev pub and_on : {A B : Type 0} → Result A ℕ → (A → Result B ℕ) → Result B ℕ
+and_on (Ok x) go = go x
+and_on (Err kind) go = Err kind
+
+abbrev pub where_true : Bool → ℕ → Option ℕ
+where_true b kind = then_some b kind
+
+-- a rule of the grammar, judged by what it names and by its sorts
+abbrev pub judged : Names → Written → Result Rule ℕ
+judged names r =
+    unless (where_true (has_port_twice r) bad_rule)
+    (unless (where_true (list_any (is_no_neighbour names) (named_by r)) not_a_neighbour)
+    (unless (where_true (list_any (is_no_variable names) (named_by r)) unknown_variable)
+    (unless (where_true (list_any (is_no_port names) (named_by r)) unknown_neighbour_port)
+    (unless (where_true (not (has_right_sorts (length names.offsets) (rule_in names r))) bad_sort)
+    (Ok (rule_in names r))))))
+
+-- the order of refusals
+unfoldable pub rule_of : Names → Bytes → Result Rule ℕ
+rule_of names text =
+    and_on (ok_or (tokens text) bad_rule) (λ ts.
+    unless (words_refused (words_in ts))
+    (unless (where_true (is_large ts) too_large)
+    (and_on (ok_or (written_rule ts) bad_rule) (judged names))))
+
+-- ---- the same by the grammar alone
+
+-- tokens that no earlier refusal stops
+pub record Readable (text : Bytes) (ts : List Token) : Type 0 where
+  pub tokens : tokens text ≡ Some ts
+  pub words : words_refused (words_in ts) ≡ None
+  pub size : is_large ts ≡ false
+
+pub data RuleIs (names : Names) (text : Bytes) : Result Rule ℕ → Type 0 where
+  no_token : tokens text ≡ None → RuleIs names text (Err bad_rule)
+  strange_word : (ts : List Token) (kind : ℕ) → tokens text ≡ Some ts → words_refused (words_in ts) ≡ Some kind → RuleIs names text (Err kind)
+  large : (ts : List Token) → tokens text ≡ Some ts → words_refused (words_in ts) ≡ None → is_large ts ≡ true → RuleIs names text (Err too_large)
+  no_rule : (ts : List Token) → Readable text ts → ((r : Written) → IsRule ts r → ⊥) → RuleIs names text (Err bad_rule)
+  a_rule : (ts : List Token) (r : Written) → Readable text ts → IsRule ts r → RuleIs names text (judged names r)
+
+-- the rule that is found is the one of the grammar, and where none is found there is none
+abbrev pub IsTheGrammar : Type 0
+IsTheGrammar = (ts : List Token) (r : Written) → (written_rule ts ≡ Some r) ↔ IsRule ts r
+
+-- a phrase that is found is one of the grammar
+abbrev pub FindsPhrases : Type 0
+FindsPhrases = (ts : List Token) (x : Phrase) → phrase_of ts ≡ Some x → IsPhrase expr ts x
+
+-- a rule that is found is one of the grammar
+abbrev pub FindsRules : Type 0
+FindsRules = (ts : List Token) (r : Written) → written_rule ts ≡ Some r → IsRule ts r
+
+-- then a text has one outcome, and it is the one that is found
+abbrev pub HasOneOutcome : Type 0
+HasOneOutcome =
+    IsTheGrammar → (names : Names) (text : Bytes) (a : Result Rule ℕ) → (rule_of names text ≡ a) ↔ RuleIs names text a

@@ -1,0 +1,172 @@
+-- A run: cycle after cycle, until a verdict.
+use Rattle.std.specs.Prelude.{ℕ, zero, suc, ◌+◌, ◌*◌, Bool, true, false, not, ◌&&◌, ◌==◌, nat_lt, nat_le, Option, Some, None, List, [], ◌∷◌, ◌++◌, map, slice_get, if◌then◌else◌}
+use Rattle.std.specs.List.{filter, flat_map, filter_map, enumerate_from, position}
+use Rattle.std.specs.Option.{option_map, unwrap_or}
+use Rattle.std.specs.Str.{bytes_eq}
+use Rattle.quantity.specs.declared.value.Value.{Value}
+use Rattle.rule_syntax.specs.declared.outcome.RuleStop.{RuleStop}
+use Rattle.atomic_face.specs.declared.class.PortNo.{PortNo}
+pub use Rattle.event_list.specs.Events.{Event}
+use Rattle.atomic_face.specs.Classes.{Bag, is_at}
+use Rattle.model_tree.specs.Tree.{Word, Tree, leaves, ins_of}
+use Rattle.model_tree.specs.Pull.{top_pulled}
+use Rattle.run_model.specs.CellStep.{PortState, CellState, least}
+use Rattle.run_model.specs.Cycle.{LeafState, box_state, cell_state, initial_leaf, leaf_next, collected, given_by_leaf, bags, Moved, stayed, moved, stopped, moves, first_stop, all_after, next_of_all}
+
+-- ---- records of a cycle
+
+-- a value at a port of a leaf
+pub record PortRecord : Type 0 where
+  pub leaf : ℕ
+  pub port : ℕ
+  pub value : Value
+
+-- a leaf that moved: its computed value, where it is a cell, and its next time
+pub record StateRecord : Type 0 where
+  pub leaf : ℕ
+  pub value : Option Value
+  pub next : Option ℕ
+
+pub record OutRecord : Type 0 where
+  pub port : ℕ
+  pub value : Value
+
+pub record Cycle : Type 0 where
+  pub time : ℕ
+  pub y : List PortRecord
+  pub n : List PortRecord
+  pub x : List PortRecord
+  pub s : List StateRecord
+  pub out : List OutRecord
+
+abbrev pub port_records : ℕ × Bag → List PortRecord
+port_records b = map (λ (o : PortNo × Value). record { leaf = b.0; port = o.0.0; value = o.1 }) b.1
+
+abbrev pub records_of_bags : List Bag → List PortRecord
+records_of_bags bags = flat_map port_records (enumerate_from 0 bags)
+
+abbrev pub is_of_out : PortRecord → Bool
+is_of_out r = r.port == 0
+
+abbrev pub computed_of : LeafState → Option Value
+computed_of (box_state b) = None
+computed_of (cell_state c) = option_map (λ (p : PortState). p.computed) (slice_get c.ports 0)
+
+abbrev pub state_record : ℕ × Moved → Option StateRecord
+state_record m = at m.1
+  where
+    at : Moved → Option StateRecord
+    at stayed = None
+    at (moved s) = Some (record { leaf = m.0; value = computed_of s; next = leaf_next s })
+    at (stopped stop) = None
+
+abbrev pub out_records : ℕ × List Value → List OutRecord
+out_records p = map (λ v. record { port = p.0; value = v }) p.1
+
+-- ---- one cycle
+
+-- where a run stands: its leaves, the events not yet taken, and the last instant with the number of its cycles
+pub record RunState : Type 0 where
+  pub leaf_states : List LeafState
+  pub events : List Event
+  pub last : Option ℕ
+  pub count : ℕ
+
+abbrev pub start : Tree → List Event → RunState
+start tree events = record { leaf_states = map initial_leaf (leaves tree); events = events; last = None; count = 0 }
+
+abbrev pub first_event : List Event → Option ℕ
+first_event [] = None
+first_event (e ∷ es) = least (Some e.time) (first_event es)
+
+abbrev pub next_instant : RunState → Option ℕ
+next_instant s = least (next_of_all s.leaf_states) (first_event s.events)
+
+abbrev pub event_at : ℕ → ℕ → Event → Option Value
+event_at t port e = if (e.time == t) && (e.port == port) then Some e.value else None
+
+-- what stands at an input of top in a cycle: its events of that time, in file order
+abbrev pub at_top : Tree → ℕ → List Event → Word → List Value
+at_top tree t events name = from (position (λ p. bytes_eq p name) (ins_of tree))
+  where
+    from : Option ℕ → List Value
+    from None = []
+    from (Some port) = filter_map (event_at t port) events
+
+abbrev pub cycle_of : Tree → ℕ → List Bag → (Word → List Value) → List Moved → Cycle
+cycle_of tree t gave top ms =
+    record {
+      time = t;
+      y = filter is_of_out (records_of_bags gave);
+      n = filter (λ r. not (is_of_out r)) (records_of_bags gave);
+      x = records_of_bags (bags tree gave top);
+      s = filter_map state_record (enumerate_from 0 ms);
+      out = flat_map out_records (enumerate_from 0 (top_pulled tree (given_by_leaf gave)));
+    }
+
+abbrev pub cycles_at : ℕ → RunState → ℕ
+cycles_at t s = if is_at t s.last then s.count else 0
+
+abbrev pub state_after : ℕ → RunState → List Moved → RunState
+state_after t s ms =
+    record {
+      leaf_states = all_after s.leaf_states ms;
+      events = filter (λ (e : Event). not (e.time == t)) s.events;
+      last = Some t;
+      count = cycles_at t s + 1;
+    }
+
+pub data Verdict : Type 0 where
+  done : Verdict
+  too_many : (time : ℕ) → Verdict
+  stop : (leaf time : ℕ) → RuleStop → Verdict
+  unfinished : Verdict
+
+pub data Next : Type 0 where
+  ended : Verdict → Next
+  cycled : Cycle → RunState → Next
+
+abbrev pub unless_stop : ℕ → Option (ℕ × RuleStop) → Cycle → RunState → Next
+unless_stop t None c s = cycled c s
+unless_stop t (Some p) c s = ended (stop p.0 t p.1)
+
+abbrev pub moved_on : Tree → ℕ → RunState → List Bag → (Word → List Value) → List Moved → Next
+moved_on tree t s gave top ms = unless_stop t (first_stop 0 ms) (cycle_of tree t gave top ms) (state_after t s ms)
+
+abbrev pub cycled_at : Tree → ℕ → RunState → Next
+cycled_at tree t s =
+    let gave = collected t s.leaf_states in
+    let top = at_top tree t s.events in
+    moved_on tree t s gave top (moves tree t s.leaf_states gave top)
+
+abbrev pub next_at : Tree → ℕ → ℕ → RunState → Option ℕ → Next
+next_at tree end limit s None = ended done
+next_at tree end limit s (Some t) =
+    if nat_lt end t then ended done else if nat_le limit (cycles_at t s) then ended (too_many t) else cycled_at tree t s
+
+-- the next cycle, or the verdict
+unfoldable pub next_cycle : Tree → ℕ → ℕ → RunState → Next
+next_cycle tree end limit s = next_at tree end limit s (next_instant s)
+
+-- ---- the run
+
+pub record Run : Type 0 where
+  pub cycles : List Cycle
+  pub verdict : Verdict
+  pub left : RunState
+
+abbrev pub in_front : Cycle → Run → Run
+in_front c r = record r { cycles = c ∷ r.cycles }
+
+abbrev pub and_on : RunState → Next → (RunState → Run) → Run
+and_on s (ended v) go = record { cycles = []; verdict = v; left = s }
+and_on s (cycled c n) go = in_front c (go n)
+
+-- at most n cycles
+unfoldable pub run_from : ℕ → Tree → ℕ → ℕ → RunState → Run
+run_from zero tree end limit s = record { cycles = []; verdict = unfinished; left = s }
+run_from (suc n) tree end limit s = and_on s (next_cycle tree end limit s) (run_from n tree end limit)
+
+-- a run has at most (end + 1) * limit cycles, so this one is never unfinished
+unfoldable pub run : Tree → List Event → ℕ → ℕ → Run
+run tree events end limit = run_from (suc ((end + 1) * limit)) tree end limit (start tree events)

@@ -1,0 +1,4 @@
+pub mod Tuples
+pub mod Kinds
+pub mod Lines
+pub mod Examples

@@ -1,0 +1,10 @@
+pub mod Lines
+pub mod Frames
+pub mod BoxStates
+pub mod State
+pub mod Models
+pub mod ReadBack
+pub mod DrawnLines
+pub mod Examples
+pub mod Rows
+pub mod SavedRows
