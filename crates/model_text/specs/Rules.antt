@@ -6,12 +6,14 @@ use Rattle.std.specs.List.{filter_map, flat_map, position}
 use Rattle.std.specs.Option.{option_map, is_some, unwrap_or}
 use Rattle.std.specs.Result.{result_ok}
 use Rattle.std.specs.Str.{bytes_eq}
+use Rattle.rule_syntax.specs.declared.refusal.RuleRefusal.{RuleRefusal}
+use Rattle.rule_syntax.specs.declared.refusal.RuleRefusal.TheVariants.{BadRule, BadSort, RandomRefused, UnknownFunction, NotANeighbour, UnknownVariable, UnknownNeighbourPort, TooLarge, Memory}
 use Rattle.rule_syntax.specs.Expression.{Rule}
 use Rattle.cell_grid.specs.Region.{Region}
 use Rattle.cell_grid.specs.Space.{dims_of}
 use Rattle.model_tree.specs.Pull.{distinct}
 use Rattle.quantity.specs.Bytes.{Bytes}
-use Rattle.source_text.specs.Kinds.{Refusal, refusal, too_large, no_section}
+use Rattle.source_text.specs.Kinds.{Refusal, refusal, bad_rule, bad_sort, random_refused, unknown_function, not_a_neighbour, unknown_variable, unknown_neighbour_port, too_large, no_section}
 use Rattle.source_text.specs.Lines.{Entry, Section}
 use Rattle.rule_syntax.specs.Scope.{Names}
 use Rattle.rule_syntax.specs.RuleOf.{rule_of}
@@ -58,12 +60,24 @@ rule_set_number s name = unwrap_or (position (bytes_eq name) (rule_sets_named s)
 abbrev pub absent : List Section → Item → List Refusal
 absent ss i = if is_some (section_named ss i.text) then [] else refusal i.line no_section ∷ []
 
+-- a rule's refusal among those of models; want of memory is no text's
+abbrev pub rule_kind : RuleRefusal → ℕ
+rule_kind BadRule = bad_rule
+rule_kind BadSort = bad_sort
+rule_kind RandomRefused = random_refused
+rule_kind UnknownFunction = unknown_function
+rule_kind NotANeighbour = not_a_neighbour
+rule_kind UnknownVariable = unknown_variable
+rule_kind UnknownNeighbourPort = unknown_neighbour_port
+rule_kind TooLarge = too_large
+rule_kind Memory = bad_rule
+
 abbrev pub rule_refused : Names → Entry → List Refusal
 rule_refused names e = refused (rule_of names e.value)
   where
-    refused : Result Rule ℕ → List Refusal
+    refused : Result Rule RuleRefusal → List Refusal
     refused (Ok r) = []
-    refused (Err kind) = refusal e.line kind ∷ []
+    refused (Err why) = refusal e.line (rule_kind why) ∷ []
 
 -- the 1025th rule, where there is one
 abbrev pub too_many : List Entry → List Refusal
