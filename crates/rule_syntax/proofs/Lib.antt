@@ -5,3 +5,5 @@ mod Nesting
 mod Outer
 mod PhraseTokens
 mod Apart
+mod Edges
+mod Cuts
