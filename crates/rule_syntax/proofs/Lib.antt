@@ -7,3 +7,4 @@ mod PhraseTokens
 mod Apart
 mod Edges
 mod Cuts
+mod Blocks

@@ -1,0 +1,91 @@
+-- Blocks and cells are read from the tokens that they are.
+use Rattle.std.proofs.Common.{◌≡◌, ℕ, zero, suc, ◌+◌, Bool, true, false, cond, Option, Some, None, List, [], ◌∷◌, ◌++◌, map, take, drop, refl, sym, ap, subst, ◌∙◌, arith}
+use Rattle.std.specs.Prelude.{codes, ℤ, pos, neg_ℤ, ◌&&◌, ◌||◌, not}
+use Rattle.std.specs.List.{AllByRecursion, list_any, before_first, after_first, position_or_len, slice_split, onto_first}
+use Rattle.std.specs.Option.{option_map, option_and_then}
+use Rattle.std.specs.Bool.{then_some}
+use Rattle.std.specs.Str.{bytes_eq}
+use Rattle.quantity.specs.Bytes.{Bytes, all_there}
+use Rattle.quantity.specs.Digits.{whole_number, with_sign_of, has_length}
+use Rattle.rule_syntax.specs.Tokens.{Token, word, number, mark, is_mark}
+use Rattle.rule_syntax.specs.Phrases.{Cell, out}
+use Rattle.rule_syntax.specs.Grammar.{IsInt, IsPort, IsCell}
+use Rattle.rule_syntax.specs.Reading.{has, block, int_in, port_in, places_in, cell_before}
+use Rattle.rule_syntax.proofs.Sound.{take_more, drop_more}
+
+-- ---- up to the first token of a kind
+
+abbrev pub Absent : (Token → Bool) → List Token → Type 0
+Absent p ts = AllByRecursion (λ t. p t ≡ false) ts
+
+pub absent_append : (p : Token → Bool) (xs ys : List Token) → Absent p xs → Absent p ys → Absent p (xs ++ ys)
+absent_append p [] ys h k = k
+absent_append p (x ∷ xs) ys h k = (h.0, absent_append p xs ys h.1 k)
+
+pub before_absent : (p : Token → Bool) (xs : List Token) (y : Token) (ys : List Token) → Absent p xs → p y ≡ true → before_first p (xs ++ y ∷ ys) ≡ xs
+before_absent p [] y ys h e = ap (λ b. take (cond (not b) (1 + position_or_len p ys) 0) (y ∷ ys)) e
+before_absent p (x ∷ xs) y ys h e =
+    ap (λ b. take (cond (not b) (1 + position_or_len p (xs ++ y ∷ ys)) 0) (x ∷ (xs ++ y ∷ ys))) h.0
+    ∙ take_more (position_or_len p (xs ++ y ∷ ys)) x (xs ++ y ∷ ys) ∙ ap (λ zs. x ∷ zs) (before_absent p xs y ys h.1 e)
+
+pub after_absent : (p : Token → Bool) (xs : List Token) (y : Token) (ys : List Token) → Absent p xs → p y ≡ true → after_first p (xs ++ y ∷ ys) ≡ ys
+after_absent p [] y ys h e = ap (λ b. drop (cond (not b) (1 + position_or_len p ys) 0 + 1) (y ∷ ys)) e
+after_absent p (x ∷ xs) y ys h e =
+    ap (λ b. drop (cond (not b) (1 + position_or_len p (xs ++ y ∷ ys)) 0 + 1) (x ∷ (xs ++ y ∷ ys))) h.0
+    ∙ drop_more (position_or_len p (xs ++ y ∷ ys)) x (xs ++ y ∷ ys) ∙ after_absent p xs y ys h.1 e
+
+has_it : (text : Bytes) (xs : List Token) (y : Token) (ys : List Token) → is_mark text y ≡ true → has text (xs ++ y ∷ ys) ≡ true
+has_it text [] y ys e = ap (λ b. b || has text ys) e
+has_it text (x ∷ xs) y ys e = ap (λ b. is_mark text x || b) (has_it text xs y ys e) ∙ or_true (is_mark text x)
+  where
+    or_true : (b : Bool) → (b || true) ≡ true
+    or_true true = refl
+    or_true false = refl
+
+pub block_found : (opening closing : Token) (a b : Bytes) (inner rest : List Token) → is_mark a opening ≡ true → is_mark b closing ≡ true → Absent (is_mark b) inner → block a b (opening ∷ inner ++ closing ∷ rest) ≡ Some (inner, rest)
+block_found opening closing a b inner rest is_open is_close none =
+    ap (λ c. then_some (c && has b (inner ++ closing ∷ rest)) (before_first (is_mark b) (inner ++ closing ∷ rest), after_first (is_mark b) (inner ++ closing ∷ rest))) is_open
+    ∙ ap (λ c. then_some c (before_first (is_mark b) (inner ++ closing ∷ rest), after_first (is_mark b) (inner ++ closing ∷ rest))) (has_it b inner closing rest is_close)
+    ∙ ap (λ x. Some (x, after_first (is_mark b) (inner ++ closing ∷ rest))) (before_absent (is_mark b) inner closing rest none is_close)
+    ∙ ap (λ x. Some (inner, x)) (after_absent (is_mark b) inner closing rest none is_close)
+
+-- ---- cells
+
+pub int_found : (ts : List Token) (i : ℤ) → IsInt ts i → int_in ts ≡ Some i
+int_found _ _ (IsInt.bare {text} {n} e) = ap (option_map (λ n. with_sign_of [] (pos n))) e
+int_found _ _ (IsInt.plus {text} {n} e) = ap (option_map (λ n. with_sign_of (codes "+") (pos n))) e
+int_found _ _ (IsInt.minus {text} {n} e) = ap (option_map (λ n. with_sign_of (codes "-") (pos n))) e
+
+int_absent : (p : Token → Bool) (ts : List Token) (i : ℤ) → ((text : Bytes) → p (number text) ≡ false) → p (mark (codes "+")) ≡ false → p (mark (codes "-")) ≡ false → IsInt ts i → Absent p ts
+int_absent p _ _ at_number at_plus at_minus (IsInt.bare {text} e) = (at_number text, tt)
+int_absent p _ _ at_number at_plus at_minus (IsInt.plus {text} e) = (at_plus, (at_number text, tt))
+int_absent p _ _ at_number at_plus at_minus (IsInt.minus {text} e) = (at_minus, (at_number text, tt))
+
+int_closes : (ts : List Token) (i : ℤ) → IsInt ts i → Absent (is_mark (codes ")")) ts
+int_closes ts i h = int_absent (is_mark (codes ")")) ts i (λ text. refl) refl refl h
+
+split_behind : (ts us : List Token) (i : ℤ) → IsInt ts i → slice_split (is_mark (codes ",")) (ts ++ mark (codes ",") ∷ us) ≡ ts ∷ slice_split (is_mark (codes ",")) us
+split_behind _ us _ (IsInt.bare {text} e) = refl
+split_behind _ us _ (IsInt.plus {text} e) = refl
+split_behind _ us _ (IsInt.minus {text} e) = refl
+
+split_last : (ts : List Token) (i : ℤ) → IsInt ts i → slice_split (is_mark (codes ",")) ts ≡ ts ∷ []
+split_last _ _ (IsInt.bare {text} e) = refl
+split_last _ _ (IsInt.plus {text} e) = refl
+split_last _ _ (IsInt.minus {text} e) = refl
+
+abbrev numbers_of : Option (List ℤ) → Option (List ℤ)
+numbers_of o = option_and_then (λ is. then_some (has_length 2 3 is) is) o
+
+pub two_places : (row column : List Token) (i j : ℤ) → IsInt row i → IsInt column j → places_in (row ++ mark (codes ",") ∷ column) ≡ Some (i ∷ j ∷ [])
+two_places row column i j r d =
+    ap (λ parts. numbers_of (all_there (map int_in parts))) (split_behind row column i r ∙ ap (λ parts. row ∷ parts) (split_last column j d))
+    ∙ ap (λ o. numbers_of (all_there (o ∷ int_in column ∷ []))) (int_found row i r) ∙ ap (λ o. numbers_of (all_there (Some i ∷ o ∷ []))) (int_found column j d)
+
+pub three_places : (row column plane : List Token) (i j k : ℤ) → IsInt row i → IsInt column j → IsInt plane k → places_in (row ++ mark (codes ",") ∷ (column ++ mark (codes ",") ∷ plane)) ≡ Some (i ∷ j ∷ k ∷ [])
+three_places row column plane i j k r d f =
+    ap (λ parts. numbers_of (all_there (map int_in parts)))
+    (split_behind row (column ++ mark (codes ",") ∷ plane) i r ∙ ap (λ parts. row ∷ parts) (split_behind column plane j d ∙ ap (λ parts. column ∷ parts) (split_last plane k f)))
+    ∙ ap (λ o. numbers_of (all_there (o ∷ int_in column ∷ int_in plane ∷ []))) (int_found row i r)
+    ∙ ap (λ o. numbers_of (all_there (Some i ∷ o ∷ int_in plane ∷ []))) (int_found column j d)
+    ∙ ap (λ o. numbers_of (all_there (Some i ∷ Some j ∷ o ∷ []))) (int_found plane k f)
