@@ -1,5 +1,5 @@
 -- Blocks and cells are read from the tokens that they are.
-use Rattle.std.proofs.Common.{◌≡◌, ℕ, zero, suc, ◌+◌, Bool, true, false, cond, Option, Some, None, List, [], ◌∷◌, ◌++◌, map, take, drop, refl, sym, ap, subst, ◌∙◌, arith}
+use Rattle.std.proofs.Common.{◌≡◌, ℕ, zero, suc, ◌+◌, Bool, true, false, cond, Option, Some, None, List, [], ◌∷◌, ◌++◌, map, take, drop, refl, sym, ap, subst, ◌∙◌, arith, append_assoc}
 use Rattle.std.specs.Prelude.{codes, ℤ, pos, neg_ℤ, ◌&&◌, ◌||◌, not}
 use Rattle.std.specs.List.{AllByRecursion, list_any, before_first, after_first, position_or_len, slice_split, onto_first}
 use Rattle.std.specs.Option.{option_map, option_and_then}
@@ -89,3 +89,50 @@ three_places row column plane i j k r d f =
     ∙ ap (λ o. numbers_of (all_there (o ∷ int_in column ∷ int_in plane ∷ []))) (int_found row i r)
     ∙ ap (λ o. numbers_of (all_there (Some i ∷ o ∷ int_in plane ∷ []))) (int_found column j d)
     ∙ ap (λ o. numbers_of (all_there (Some i ∷ Some j ∷ o ∷ []))) (int_found plane k f)
+
+pub port_found : (ts : List Token) (w : Bytes) → IsPort ts w → (rest : List Token) → port_in rest ≡ Some (out, rest) → port_in (ts ++ rest) ≡ Some (w, rest)
+port_found _ _ IsPort.plain rest e = e
+port_found _ _ (IsPort.named {w}) rest e = refl
+
+cell_of_places : (is : List ℤ) (inner port rest : List Token) (w : Bytes) → Absent (is_mark (codes ")")) inner → places_in inner ≡ Some is → IsPort port w → port_in rest ≡ Some (out, rest) → cell_before (mark (codes "(") ∷ inner ++ mark (codes ")") ∷ (port ++ rest)) ≡ Some (record { place = is; port = w }, rest)
+cell_of_places is inner port rest w none places p e =
+    ap (option_and_then (λ (b : List Token × List Token). option_and_then (λ js. option_map (λ (q : Bytes × List Token). (record { place = js; port = q.0 }, q.1)) (port_in b.1)) (places_in b.0)))
+    (block_found (mark (codes "(")) (mark (codes ")")) (codes "(") (codes ")") inner (port ++ rest) refl refl none)
+    ∙ ap (option_and_then (λ js. option_map (λ (q : Bytes × List Token). (record { place = js; port = q.0 }, q.1)) (port_in (port ++ rest)))) places
+    ∙ ap (option_map (λ (q : Bytes × List Token). (record { place = is; port = q.0 }, q.1))) (port_found port w p rest e)
+
+-- a cell before tokens that name no port
+pub cell_found : (ts : List Token) (c : Cell) → IsCell ts c → (rest : List Token) → port_in rest ≡ Some (out, rest) → cell_before (ts ++ rest) ≡ Some (c, rest)
+cell_found _ _ (IsCell.flat {row} {column} {port} {i} {j} {p} r d h) rest e =
+    ap (λ us. cell_before (mark (codes "(") ∷ us)) (append_assoc (row ++ mark (codes ",") ∷ column) (mark (codes ")") ∷ port) rest)
+    ∙ cell_of_places (i ∷ j ∷ []) (row ++ mark (codes ",") ∷ column) port rest p
+    (absent_append (is_mark (codes ")")) row (mark (codes ",") ∷ column) (int_closes row i r) (refl, int_closes column j d)) (two_places row column i j r d) h e
+cell_found _ _ (IsCell.deep {row} {column} {plane} {port} {i} {j} {k} {p} r d f h) rest e =
+    ap (λ us. cell_before (mark (codes "(") ∷ us)) (append_assoc (row ++ mark (codes ",") ∷ column ++ mark (codes ",") ∷ plane) (mark (codes ")") ∷ port) rest)
+    ∙ cell_of_places (i ∷ j ∷ k ∷ []) (row ++ mark (codes ",") ∷ column ++ mark (codes ",") ∷ plane) port rest p
+    (absent_append (is_mark (codes ")")) (row ++ mark (codes ",") ∷ column) (mark (codes ",") ∷ plane)
+    (absent_append (is_mark (codes ")")) row (mark (codes ",") ∷ column) (int_closes row i r) (refl, int_closes column j d)) (refl, int_closes plane k f))
+    (ap places_in (append_assoc row (mark (codes ",") ∷ column) (mark (codes ",") ∷ plane)) ∙ three_places row column plane i j k r d f) h e
+
+-- a cell has a comma behind its first number
+pub record HasComma (ts : List Token) : Type 0 where
+  pub row : List Token
+  pub rest : List Token
+  pub number : ℤ
+  pub is_number : IsInt row number
+  pub are : ts ≡ mark (codes "(") ∷ (row ++ mark (codes ",") ∷ rest)
+
+pub cell_has_comma : (ts : List Token) (c : Cell) → IsCell ts c → HasComma ts
+cell_has_comma _ _ (IsCell.flat {row} {column} {port} {i} {j} {p} r d h) =
+    record { row = row; rest = column ++ mark (codes ")") ∷ port; number = i; is_number = r; are = ap (λ us. mark (codes "(") ∷ us) (append_assoc row (mark (codes ",") ∷ column) (mark (codes ")") ∷ port)) }
+cell_has_comma _ _ (IsCell.deep {row} {column} {plane} {port} {i} {j} {k} {p} r d f h) =
+    record {
+      row = row;
+      rest = column ++ mark (codes ",") ∷ plane ++ mark (codes ")") ∷ port;
+      number = i;
+      is_number = r;
+      are = ap (λ us. mark (codes "(") ∷ us) (regrouped row column plane (mark (codes ")") ∷ port));
+    }
+  where
+    regrouped : (row column plane rest : List Token) → (row ++ mark (codes ",") ∷ column ++ mark (codes ",") ∷ plane) ++ rest ≡ row ++ mark (codes ",") ∷ (column ++ mark (codes ",") ∷ plane ++ rest)
+    regrouped row column plane rest = simp append_assoc

@@ -8,3 +8,4 @@ mod Apart
 mod Edges
 mod Cuts
 mod Blocks
+mod Atoms
