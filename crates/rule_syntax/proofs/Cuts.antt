@@ -70,7 +70,7 @@ no_join l k ts x h p =
     ap (last_or None) (no_cut (joins_at l) ts (λ a v c e. not_at l v (is_closed 0 a) (ends_operand (last_or None a))
     (λ closed ended. outer_at (NotJoined l) None ts (not_joined l k ts x h p None (λ m. refl)) a v c e closed ended)))
 
-joins_found : (l : Level) (t : Token) (b : Binary) → Joins l t b → operator_in l t ≡ Some b
+pub joins_found : (l : Level) (t : Token) (b : Binary) → Joins l t b → operator_in l t ≡ Some b
 joins_found l (word w) b j = j
 joins_found l (number n) b j = absurd j
 joins_found l (mark m) b j = j

@@ -9,3 +9,4 @@ mod Edges
 mod Cuts
 mod Blocks
 mod Atoms
+mod Found
