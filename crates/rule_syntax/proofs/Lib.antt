@@ -10,3 +10,4 @@ mod Cuts
 mod Blocks
 mod Atoms
 mod Found
+mod RulesFound
