@@ -1,14 +1,13 @@
 -- No operator of a looser level stands in a phrase outside parentheses, and no comma does.
-use Rattle.std.proofs.Common.{◌≡◌, ℕ, zero, suc, ◌<◌, ◌≤◌, Bool, true, false, cond, Option, Some, None, List, [], ◌∷◌, ◌++◌, refl, sym, ap, subst, ◌∙◌, arith}
+use Rattle.std.proofs.Common.{◌≡◌, ℕ, ◌<◌, ◌≤◌, true, false, Option, Some, None, List, [], ◌∷◌, refl, sym, ◌∙◌, arith}
 use Rattle.std.specs.Prelude.{codes}
-use Rattle.std.specs.List.{last_or, AllByRecursion}
-use Rattle.std.specs.Str.{bytes_eq}
+use Rattle.std.specs.List.{AllByRecursion}
 use Rattle.quantity.specs.Bytes.{Bytes, is_among}
 use Rattle.rule_syntax.specs.declared.node.Binary.{Binary}
 use Rattle.rule_syntax.specs.Tokens.{Token, word, number, mark, is_mark}
 use Rattle.rule_syntax.specs.Phrases.{Phrase, Level, expr, disj, conj, neg, comp, sum, prod, signed, primary, tighter, left_of, operator_words, operator_marks, looked_up}
 use Rattle.rule_syntax.specs.Grammar.{Joins, IsPhrase}
-use Rattle.rule_syntax.specs.Reading.{operator_in, ends, ends_operand, is_closed}
+use Rattle.rule_syntax.specs.Reading.{operator_in, ends, ends_operand}
 use Rattle.rule_syntax.proofs.Nesting.{lookup_all}
 use Rattle.rule_syntax.proofs.Outer.{Outer}
 use Rattle.rule_syntax.proofs.PhraseTokens.{operator_names, Suits, Spread, spread}

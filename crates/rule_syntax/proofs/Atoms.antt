@@ -1,27 +1,24 @@
 -- Primaries are read from the tokens that they are.
-use Rattle.std.proofs.Common.{◌≡◌, ℕ, zero, suc, ◌+◌, Bool, true, false, cond, Option, Some, None, List, [], ◌∷◌, ◌++◌, map, refl, sym, ap, subst, ◌∙◌, arith, append_assoc, append-nil}
-use Rattle.std.specs.Prelude.{codes, ℤ, ◌&&◌, ◌||◌}
-use Rattle.std.specs.List.{AllByRecursion, last_or}
+use Rattle.std.proofs.Common.{◌≡◌, Bool, true, false, Option, Some, None, List, [], ◌∷◌, ◌++◌, refl, sym, ap, subst, ◌∙◌, append-nil}
+use Rattle.std.specs.Prelude.{codes, ℤ, ◌&&◌}
 use Rattle.std.specs.Option.{option_map, option_or, option_and_then}
 use Rattle.std.specs.Bool.{then_some}
 use Rattle.std.specs.Str.{bytes_eq}
-use Rattle.quantity.specs.declared.value.Value.TheVariants.{Num}
 use Rattle.quantity.specs.Bytes.{Bytes, is_empty}
-use Rattle.quantity.specs.Literals.{unsigned_literal}
 use Rattle.rule_syntax.specs.declared.node.Count.{Count}
 use Rattle.rule_syntax.specs.declared.node.Function.{Function}
 use Rattle.rule_syntax.specs.Tokens.{Token, word, number, mark, is_mark}
 use Rattle.rule_syntax.specs.Phrases as P
 use Rattle.rule_syntax.specs.Phrases.{Cell, Phrase, expr, out, counts, functions, looked_up}
-use Rattle.rule_syntax.specs.Grammar.{IsInt, IsPort, IsCell, IsPhrase}
-use Rattle.rule_syntax.specs.Reading.{is_closed, block, block_begins, cell_before, whole_cell, constants, word_phrase, is_port_value, atom, Enclosed, without_last, closes, without_last_close, enclosed}
+use Rattle.rule_syntax.specs.Grammar.{IsInt, IsCell, IsPhrase}
+use Rattle.rule_syntax.specs.Reading.{is_closed, block_begins, cell_before, whole_cell, constants, is_port_value, atom, without_last, closes, without_last_close, enclosed}
 use Rattle.rule_syntax.proofs.Nesting.{lookup_all, last_append, CutOf, in_first, in_second, cut_of, nested_closed}
-use Rattle.rule_syntax.proofs.Outer.{Outer, outer_at}
+use Rattle.rule_syntax.proofs.Outer.{outer_at}
 use Rattle.rule_syntax.proofs.PhraseTokens.{int_nested}
 use Rattle.rule_syntax.proofs.Apart.{NoComma, no_comma}
 use Rattle.rule_syntax.proofs.Edges.{Starts, starts}
 use Rattle.rule_syntax.proofs.Blocks.{cell_found, HasComma, cell_has_comma}
-use Rattle.rule_syntax.proofs.Sound.{none_some, false_true, then_is, cell_is}
+use Rattle.rule_syntax.proofs.Sound.{false_true, cell_is}
 
 -- ---- cells
 

@@ -1,13 +1,12 @@
 -- Blocks and cells are read from the tokens that they are.
-use Rattle.std.proofs.Common.{◌≡◌, ℕ, zero, suc, ◌+◌, Bool, true, false, cond, Option, Some, None, List, [], ◌∷◌, ◌++◌, map, take, drop, refl, sym, ap, subst, ◌∙◌, arith, append_assoc}
-use Rattle.std.specs.Prelude.{codes, ℤ, pos, neg_ℤ, ◌&&◌, ◌||◌, not}
-use Rattle.std.specs.List.{AllByRecursion, list_any, before_first, after_first, position_or_len, slice_split, onto_first}
+use Rattle.std.proofs.Common.{◌≡◌, ◌+◌, Bool, true, false, cond, Option, Some, List, [], ◌∷◌, ◌++◌, map, take, drop, refl, ap, ◌∙◌, append_assoc}
+use Rattle.std.specs.Prelude.{codes, ℤ, pos, ◌&&◌, ◌||◌, not}
+use Rattle.std.specs.List.{AllByRecursion, before_first, after_first, position_or_len, slice_split}
 use Rattle.std.specs.Option.{option_map, option_and_then}
 use Rattle.std.specs.Bool.{then_some}
-use Rattle.std.specs.Str.{bytes_eq}
 use Rattle.quantity.specs.Bytes.{Bytes, all_there}
-use Rattle.quantity.specs.Digits.{whole_number, with_sign_of, has_length}
-use Rattle.rule_syntax.specs.Tokens.{Token, word, number, mark, is_mark}
+use Rattle.quantity.specs.Digits.{with_sign_of, has_length}
+use Rattle.rule_syntax.specs.Tokens.{Token, number, mark, is_mark}
 use Rattle.rule_syntax.specs.Phrases.{Cell, out}
 use Rattle.rule_syntax.specs.Grammar.{IsInt, IsPort, IsCell}
 use Rattle.rule_syntax.specs.Reading.{has, block, int_in, port_in, places_in, cell_before}

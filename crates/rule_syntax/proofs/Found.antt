@@ -1,10 +1,9 @@
 -- Each phrase of the grammar is found.
-use Rattle.std.proofs.Common.{◌≡◌, ℕ, zero, suc, ◌+◌, ◌*◌, ◌≤◌, ◌<◌, Bool, true, false, cond, Option, Some, None, List, [], ◌∷◌, ◌++◌, map, length, refl, sym, ap, subst, ◌∙◌, arith, append_assoc, append-nil, length-append}
-use Rattle.std.specs.Prelude.{codes, ℤ, ◌&&◌, ◌==◌, ◌-◌}
+use Rattle.std.proofs.Common.{◌≡◌, ℕ, zero, suc, ◌+◌, ◌*◌, ◌≤◌, Bool, true, false, cond, Option, Some, None, List, [], ◌∷◌, ◌++◌, map, length, refl, sym, ap, ◌∙◌, arith, append_assoc, append-nil, length-append}
+use Rattle.std.specs.Prelude.{codes, ◌&&◌, ◌==◌, ◌-◌}
 use Rattle.std.specs.List.{onto_first}
 use Rattle.std.specs.Option.{option_map, option_or}
 use Rattle.std.specs.Bool.{then_some}
-use Rattle.std.specs.Str.{bytes_eq}
 use Rattle.std.proofs.lemmas.Bool.Decides.{nat_tests}
 use Rattle.quantity.specs.declared.truth.Tri.TheVariants.{True, False}
 use Rattle.quantity.specs.declared.value.Value.TheVariants.{Undefined, Num}
@@ -13,7 +12,7 @@ use Rattle.rule_syntax.specs.declared.node.Unary.{Unary}
 use Rattle.rule_syntax.specs.declared.node.Unary.TheVariants.{Plus, Minus, Not}
 use Rattle.rule_syntax.specs.declared.node.Binary.{Binary}
 use Rattle.rule_syntax.specs.declared.node.Function.{Function}
-use Rattle.rule_syntax.specs.Tokens.{Token, word, number, mark, is_mark, is_word}
+use Rattle.rule_syntax.specs.Tokens.{Token, word, number, mark, is_mark}
 use Rattle.rule_syntax.specs.Phrases as P
 use Rattle.rule_syntax.specs.Phrases.{Phrase, Level, expr, disj, conj, neg, comp, sum, prod, signed, primary, tighter, left_of, phrases, argument_count, looked_up, functions}
 use Rattle.rule_syntax.specs.Grammar.{Joins, IsPhrase, IsList}
@@ -27,7 +26,6 @@ use Rattle.rule_syntax.proofs.Apart.{rank, NoComma, no_comma}
 use Rattle.rule_syntax.proofs.Edges.{Starts, starts}
 use Rattle.rule_syntax.proofs.Cuts.{cut, HasOperators, at_expr, at_disj, at_conj, at_comp, at_sum, at_prod, has_operators, closer_is_tighter, no_join, join_at, joins_found}
 use Rattle.rule_syntax.proofs.Atoms.{cell_atom, count_atom, call_atom, enclosed_atom, enclosed_found, call_found}
-use Rattle.rule_syntax.proofs.Sound.{none_some}
 
 -- ---- the arguments of a call
 

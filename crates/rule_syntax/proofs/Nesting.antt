@@ -1,12 +1,12 @@
 -- The parentheses of phrases, and the tokens that stand outside of them.
-use Rattle.std.proofs.Common.{◌≡◌, ◌⊎◌, inl, inr, ℕ, zero, suc, ◌<◌, ◌≤◌, ◌+◌, Bool, true, false, cond, Option, Some, None, List, [], ◌∷◌, ◌++◌, refl, sym, ap, subst, ◌∙◌, arith, append_assoc}
+use Rattle.std.proofs.Common.{◌≡◌, ℕ, ◌+◌, Bool, true, false, cond, Option, Some, List, [], ◌∷◌, ◌++◌, refl, sym, ap, subst, ◌∙◌, arith, append_assoc}
 use Rattle.std.specs.Prelude.{not, ◌&&◌, ◌||◌, ◌==◌, ◌-◌, codes}
 use Rattle.std.proofs.lemmas.Bool.Decides.{nat_tests}
 use Rattle.std.specs.List.{last_or, find, AllByRecursion}
 use Rattle.std.specs.Option.{option_map}
 use Rattle.std.specs.Str.{bytes_eq}
 use Rattle.quantity.specs.Bytes.{Bytes}
-use Rattle.rule_syntax.specs.Tokens.{Token, word, number, mark, is_mark, parentheses_after}
+use Rattle.rule_syntax.specs.Tokens.{Token, mark, is_mark, parentheses_after}
 use Rattle.rule_syntax.specs.Phrases.{looked_up}
 use Rattle.rule_syntax.specs.Reading.{is_closed}
 use Rattle.rule_syntax.proofs.Sound.{none_some, same_bytes}

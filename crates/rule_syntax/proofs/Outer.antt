@@ -1,20 +1,11 @@
 -- What holds of the tokens of phrases that stand outside parentheses.
-use Rattle.std.proofs.Common.{◌≡◌, ℕ, zero, suc, ◌+◌, Bool, true, false, cond, Option, Some, None, List, [], ◌∷◌, ◌++◌, refl, sym, ap, subst, ◌∙◌, append_assoc}
-use Rattle.std.specs.Prelude.{codes, ℤ}
-use Rattle.std.specs.List.{last_or, AllByRecursion}
-use Rattle.std.specs.Str.{bytes_eq}
-use Rattle.quantity.specs.Bytes.{Bytes, is_among}
-use Rattle.rule_syntax.specs.declared.node.Binary.{Binary}
-use Rattle.rule_syntax.specs.declared.node.Count.{Count}
-use Rattle.rule_syntax.specs.declared.node.Function.{Function}
-use Rattle.rule_syntax.specs.Tokens.{Token, word, number, mark, is_mark}
-use Rattle.rule_syntax.specs.Phrases.{Phrase, Level, expr, disj, conj, neg, comp, sum, prod, signed, primary, tighter, left_of, operator_words, operator_marks, counts, functions, looked_up}
-use Rattle.rule_syntax.specs.Grammar.{Joins, IsInt, IsPort, IsCell, IsPhrase, IsList}
-use Rattle.rule_syntax.specs.Grammar as G
+use Rattle.std.proofs.Common.{◌≡◌, true, false, Option, Some, List, [], ◌∷◌, ◌++◌, sym, ap, subst, ◌∙◌, append_assoc}
+use Rattle.std.specs.Prelude.{codes}
+use Rattle.std.specs.List.{last_or}
+use Rattle.rule_syntax.specs.Tokens.{Token, mark}
 use Rattle.rule_syntax.specs.Reading.{is_closed}
 use Rattle.rule_syntax.proofs.Nesting.{lookup_all, last_append, IsPlain, Nested, CutOf, in_first, in_second, cut_of, plain_closed, nested_closed, nested_open, close_one}
 use Rattle.rule_syntax.proofs.Nesting as N
-use Rattle.rule_syntax.proofs.Sound.{none_some}
 
 -- each token outside parentheses, with the token before it
 pub data Outer (Q : Option Token → Token → Type 0) : Option Token → List Token → Type 0 where

@@ -1,21 +1,19 @@
 -- The tokens of a phrase: its parentheses, and the tokens outside of them.
-use Rattle.std.proofs.Common.{◌≡◌, ℕ, zero, suc, ◌+◌, Bool, true, false, cond, Option, Some, None, List, [], ◌∷◌, ◌++◌, refl, sym, ap, subst, ◌∙◌, append_assoc, append-nil}
+use Rattle.std.proofs.Common.{◌≡◌, Bool, false, Option, Some, List, [], ◌∷◌, ◌++◌, refl}
 use Rattle.std.specs.Prelude.{codes, ℤ}
 use Rattle.std.specs.List.{last_or, AllByRecursion}
-use Rattle.std.specs.Str.{bytes_eq}
 use Rattle.quantity.specs.Bytes.{Bytes, is_among}
 use Rattle.rule_syntax.specs.declared.node.Binary.{Binary}
 use Rattle.rule_syntax.specs.declared.node.Count.{Count}
 use Rattle.rule_syntax.specs.declared.node.Function.{Function}
 use Rattle.rule_syntax.specs.Tokens.{Token, word, number, mark, is_mark}
-use Rattle.rule_syntax.specs.Phrases.{Cell, Phrase, Level, expr, disj, conj, neg, comp, sum, prod, signed, primary, tighter, left_of, operator_words, operator_marks, counts, functions, looked_up}
+use Rattle.rule_syntax.specs.Phrases.{Cell, Phrase, Level, expr, disj, conj, neg, comp, sum, prod, signed, primary, tighter, left_of, operator_marks, counts, functions, looked_up}
 use Rattle.rule_syntax.specs.Grammar.{Joins, IsInt, IsPort, IsCell, IsPhrase, IsList}
 use Rattle.rule_syntax.specs.Grammar as G
 use Rattle.rule_syntax.proofs.Nesting.{lookup_all, last_append, is_delimiter, IsPlain, Nested}
 use Rattle.rule_syntax.proofs.Nesting as N
 use Rattle.rule_syntax.proofs.Outer.{Outer, outer_append, nested_append}
 use Rattle.rule_syntax.proofs.Outer as O
-use Rattle.rule_syntax.proofs.Sound.{none_some}
 
 -- ---- operators
 

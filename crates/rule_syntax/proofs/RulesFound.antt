@@ -1,7 +1,7 @@
 -- Each rule of the grammar is found.
-use Rattle.std.proofs.Common.{◌≡◌, ℕ, zero, suc, ◌+◌, Bool, true, false, cond, Option, Some, None, List, [], ◌∷◌, ◌++◌, map, refl, sym, ap, subst, ◌∙◌, arith, append_assoc, append-nil}
-use Rattle.std.specs.Prelude.{codes, ℤ, ◌&&◌, ◌||◌, not}
-use Rattle.std.specs.List.{AllByRecursion, slice_split, onto_first}
+use Rattle.std.proofs.Common.{◌≡◌, Bool, true, false, cond, Option, Some, None, List, [], ◌∷◌, ◌++◌, map, refl, sym, ap, ◌∙◌, append_assoc, append-nil}
+use Rattle.std.specs.Prelude.{codes, ◌&&◌, ◌||◌, not}
+use Rattle.std.specs.List.{slice_split, onto_first}
 use Rattle.std.specs.Option.{option_map, option_or}
 use Rattle.std.specs.Bool.{then_some}
 use Rattle.std.specs.Str.{bytes_eq}
@@ -13,11 +13,11 @@ use Rattle.rule_syntax.specs.Tokens.{Token, word, number, mark, is_mark}
 use Rattle.rule_syntax.specs.Phrases as P
 use Rattle.rule_syntax.specs.Phrases.{Cell, Phrase, expr, Assigned, Written, out}
 use Rattle.rule_syntax.specs.Grammar.{IsCell, IsPhrase, IsNumber, AreAssigned, IsValue, AreSets, IsDelay, IsRule, braced, at_out, a_phrase, a_number, a_question, a_cell, some_gives, delay_phrase, delay_number, rule}
-use Rattle.rule_syntax.specs.Reading.{has, block, port_in, is_sign, phrase_of, Part, and_on, number_before, phrase_block, assigned, ended_parts, all_assigned, block_begins, given_in, question_before, cell_before, cell_phrase_before, value_before, sets_in, sets_block, sets_before, delay_before, last_block, written_rule}
+use Rattle.rule_syntax.specs.Reading.{block, port_in, is_sign, phrase_of, and_on, number_before, phrase_block, assigned, ended_parts, all_assigned, block_begins, given_in, question_before, cell_phrase_before, value_before, sets_in, sets_block, sets_before, delay_before, last_block, written_rule}
 use Rattle.rule_syntax.proofs.Nesting.{is_delimiter, IsPlain, Nested}
 use Rattle.rule_syntax.proofs.Nesting as N
 use Rattle.rule_syntax.proofs.Apart.{no_comma}
-use Rattle.rule_syntax.proofs.Edges.{Starts, starts}
+use Rattle.rule_syntax.proofs.Edges.{starts}
 use Rattle.rule_syntax.proofs.Blocks.{Absent, absent_append, block_found, cell_found, HasComma, cell_has_comma}
 use Rattle.rule_syntax.proofs.Found.{phrase_found}
 use Rattle.rule_syntax.proofs.Sound.{none_some, false_true}
