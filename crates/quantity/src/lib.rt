@@ -5,6 +5,7 @@ pub mod memory;
 pub mod name;
 pub mod place;
 pub mod raw;
+mod short_text;
 pub mod time;
 pub mod truth;
 pub mod value;
