@@ -75,6 +75,11 @@ pub record RunState : Type 0 where
 abbrev pub start : Tree → List Event → RunState
 start tree events = record { leaf_states = map initial_leaf (leaves tree); events = events; last = None; count = 0 }
 
+-- a saved state of this time, with the events after it
+abbrev pub resumed : ℕ → List LeafState → List Event → RunState
+resumed time states events =
+    record { leaf_states = states; events = filter (λ (e : Event). nat_lt time e.time) events; last = None; count = 0 }
+
 abbrev pub first_event : List Event → Option ℕ
 first_event [] = None
 first_event (e ∷ es) = least (Some e.time) (first_event es)
@@ -175,5 +180,9 @@ run_from (suc n) tree end limit s = and_on s (next_cycle tree end limit s) (run_
 abbrev pub most_cycles : ℕ → ℕ → ℕ
 most_cycles end limit = (end + 1) * limit
 
+-- from a state to the verdict
+abbrev pub run_to : Tree → ℕ → ℕ → RunState → Run
+run_to tree end limit s = run_from (most_cycles end limit) tree end limit s
+
 unfoldable pub run : Tree → List Event → ℕ → ℕ → Run
-run tree events end limit = run_from (most_cycles end limit) tree end limit (start tree events)
+run tree events end limit = run_to tree end limit (start tree events)
