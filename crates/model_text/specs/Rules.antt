@@ -7,19 +7,20 @@ use Rattle.std.specs.Option.{option_map, is_some, unwrap_or}
 use Rattle.std.specs.Result.{result_ok}
 use Rattle.std.specs.Str.{bytes_eq}
 use Rattle.rule_syntax.specs.declared.refusal.RuleRefusal.{RuleRefusal}
-use Rattle.rule_syntax.specs.declared.refusal.RuleRefusal.TheVariants.{BadRule, BadSort, RandomRefused, UnknownFunction, NotANeighbour, UnknownVariable, UnknownNeighbourPort, TooLarge, Memory}
 use Rattle.rule_syntax.specs.Expression.{Rule}
 use Rattle.cell_grid.specs.Region.{Region}
 use Rattle.cell_grid.specs.Space.{dims_of}
 use Rattle.model_tree.specs.Pull.{distinct}
 use Rattle.quantity.specs.Bytes.{Bytes}
-use Rattle.source_text.specs.Kinds.{Refusal, refusal, bad_rule, bad_sort, random_refused, unknown_function, not_a_neighbour, unknown_variable, unknown_neighbour_port, too_large, no_section}
-use Rattle.source_text.specs.Lines.{Entry, Section}
+use Rattle.model_text.specs.declared.kind.Kind.TheVariants.{TooLarge, NoSection}
+use Rattle.model_text.specs.Refusals.{Refusal, refusal, kind_of_rule}
+use Rattle.ma_lines.specs.declared.section.Entry.{Entry}
+use Rattle.ma_lines.specs.Sections.{Section}
 use Rattle.rule_syntax.specs.Scope.{Names}
 use Rattle.rule_syntax.specs.RuleOf.{rule_of}
 use Rattle.model_text.specs.Keyed.{section_named, entries_of, texts_of, Item, least}
 use Rattle.model_text.specs.Walk.{groups}
-use Rattle.model_text.specs.Places.{zone_in}
+use Rattle.cell_grid.specs.ZoneTexts.{zone_in}
 use Rattle.model_text.specs.Spaces.{space_of, offsets_of, PortPlace, port_place}
 
 -- the names that a group's rules may use
@@ -58,30 +59,18 @@ rule_set_number s name = unwrap_or (position (bytes_eq name) (rule_sets_named s)
 -- ---- the phase
 
 abbrev pub absent : List Section → Item → List Refusal
-absent ss i = if is_some (section_named ss i.text) then [] else refusal i.line no_section ∷ []
-
--- a rule's refusal among those of models; want of memory is no text's
-abbrev pub rule_kind : RuleRefusal → ℕ
-rule_kind BadRule = bad_rule
-rule_kind BadSort = bad_sort
-rule_kind RandomRefused = random_refused
-rule_kind UnknownFunction = unknown_function
-rule_kind NotANeighbour = not_a_neighbour
-rule_kind UnknownVariable = unknown_variable
-rule_kind UnknownNeighbourPort = unknown_neighbour_port
-rule_kind TooLarge = too_large
-rule_kind Memory = bad_rule
+absent ss i = if is_some (section_named ss i.text) then [] else refusal i.line NoSection ∷ []
 
 abbrev pub rule_refused : Names → Entry → List Refusal
 rule_refused names e = refused (rule_of names e.value)
   where
     refused : Result Rule RuleRefusal → List Refusal
     refused (Ok r) = []
-    refused (Err why) = refusal e.line (rule_kind why) ∷ []
+    refused (Err why) = refusal e.line (kind_of_rule why) ∷ []
 
 -- the 1025th rule, where there is one
 abbrev pub too_many : List Entry → List Refusal
-too_many rules = map (λ (e : Entry). refusal e.line too_large) (take 1 (drop 1024 rules))
+too_many rules = map (λ (e : Entry). refusal e.line TooLarge) (take 1 (drop 1024 rules))
 
 abbrev pub of_rules : Names → Section → List Refusal
 of_rules names s = flat_map (rule_refused names) (entries_of (codes "rule") s) ++ too_many (entries_of (codes "rule") s)

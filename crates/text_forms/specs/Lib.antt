@@ -1,6 +1,5 @@
 pub mod Lines
 pub mod Frames
-pub mod BoxStates
 pub mod State
 pub mod Models
 pub mod ReadBack

@@ -13,7 +13,7 @@ use Rattle.quantity.specs.ValueTexts.{text5, guessed_value, signed_in}
 use Rattle.quantity.specs.Times.{time_text, read_time}
 use Rattle.quantity.specs.Written.{if_written, number_in, for_some}
 use Rattle.text_forms.specs.Lines.{leaf_name, leaf_text, ended, is_leaf, is_value}
-use Rattle.text_forms.specs.BoxStates.{is_box_state}
+use Rattle.atomic_face.specs.BoxStates.{is_box_state}
 
 -- ---- what is written
 
