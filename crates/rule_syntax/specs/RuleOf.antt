@@ -13,7 +13,7 @@ use Rattle.rule_syntax.specs.Tokens.{Token, tokens, words_in, is_large}
 use Rattle.rule_syntax.specs.Phrases.{Phrase, expr, Assigned, Written, counts, functions, first_texts}
 use Rattle.rule_syntax.specs.Grammar.{IsPhrase, IsRule}
 use Rattle.rule_syntax.specs.Reading.{phrase_of, written_rule}
-use Rattle.rule_syntax.specs.Scope.{Names, named_by, is_no_neighbour, is_no_variable, is_no_port, rule_in, has_right_sorts}
+use Rattle.rule_syntax.specs.Scope.{Names, named_by, is_no_neighbour, is_no_variable, is_no_port, rule_in, has_right_sorts, extent_of, is_sound}
 
 abbrev pub random_names : List Bytes
 random_names =
@@ -96,3 +96,7 @@ pub record ReadsOneWay : Type 0 where
 -- a text has one outcome, and it is the one that is found
 abbrev pub HasOneOutcome : Type 0
 HasOneOutcome = (names : Names) (text : Bytes) (a : Result Rule RuleRefusal) → (rule_of names text ≡ a) ↔ RuleIs names text a
+
+-- what a text is read to is sound for the group whose names it was read with
+abbrev pub ReadsSoundRules : Type 0
+ReadsSoundRules = (names : Names) (text : Bytes) (r : Rule) → rule_of names text ≡ Ok r → is_sound (extent_of names) r ≡ true

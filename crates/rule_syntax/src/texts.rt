@@ -1,5 +1,5 @@
 // Laws of rules as texts.
-ghost use Rattle.rule_syntax.specs.RuleOf.{FindsTheGrammar, HasOneOutcome, ReadsOneWay};
+ghost use Rattle.rule_syntax.specs.RuleOf.{FindsTheGrammar, HasOneOutcome, ReadsOneWay, ReadsSoundRules};
 ghost use Rattle.rule_syntax.specs.TextExamples.{DepthIsBounded, RulesAreRead};
 
 /// Texts of rules and what they are read to, or why they are refused.
@@ -25,4 +25,9 @@ pub fn tokens_read_one_way()
 /// A text has one outcome, a rule or a refusal, and it is the one that the order of tests gives over the grammar alone.
 pub fn one_outcome()
     ensures { HasOneOutcome }
+{}
+
+/// A rule that is read is sound for the offsets, variables and ports that it was read with.
+pub fn read_rules_are_sound()
+    ensures { ReadsSoundRules }
 {}
