@@ -2,3 +2,4 @@ pub mod Roots
 pub mod DigitLemmas
 pub mod TimeLemmas
 pub mod Lengths
+pub mod LiteralLemmas
