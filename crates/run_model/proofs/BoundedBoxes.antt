@@ -1,7 +1,7 @@
 -- A box with bounded settings and state keeps its state bounded, and gives bounded values.
-use Rattle.std.proofs.Common.{◌≡◌, ℕ, zero, suc, ◌+◌, ◌≤◌, Bool, true, false, cond, Option, Some, None, List, [], ◌∷◌, ◌++◌, map, refl, sym, ap, subst, arith}
-use Rattle.std.specs.Prelude.{IfSome, ⊤, if◌then◌else◌, nat_le, ◌==◌, ◌^◌, ℤ, pos, negsuc}
-use Rattle.std.specs.List.{All, filter, fold, find}
+use Rattle.std.proofs.Common.{◌≡◌, ℕ, ◌+◌, Bool, true, false, Option, Some, None, List, [], ◌∷◌, ◌++◌, refl, sym, subst, arith}
+use Rattle.std.specs.Prelude.{IfSome, if◌then◌else◌, nat_le, ◌==◌, ◌^◌, ℤ, pos, negsuc}
+use Rattle.std.specs.List.{All, fold, find}
 use Rattle.std.specs.Bool.{beq}
 use Rattle.std.specs.Option.{option_map}
 use Rattle.std.proofs.lemmas.List.Elements.{All-nil, All-cons, All-head, All-tail, All-append, All-filter}
@@ -12,7 +12,7 @@ use Rattle.atomic_face.specs.declared.class.Class.{Class}
 use Rattle.atomic_face.specs.declared.class.Class.TheVariants.{Queue, Generator, Cpu, Counter, Table}
 use Rattle.atomic_face.specs.declared.class.PortNo.{PortNo}
 use Rattle.atomic_face.specs.Words.{no_time, time_in, word_of, value_in, milliseconds}
-use Rattle.atomic_face.specs.Classes.{Bag, outputs, is_at, same_time, QueueState, queue_state, queue_words, without_first, first_value, queue_internal, queue_input, queue_inputs, queue_closing, queue_next, queue_moved, is_empty, first_time, GeneratorState, GeneratorSettings, generator_state, generator_settings, generator_words, generator_internal, is_none_left, one_less, cpu_pairs, cpu_words, cpu_next, cpu_put, cpu_inputs, cpu_moved, pairs_at, values_in, CounterState, counter_state, counter_words, counter_input, counter_inputs, counter_closing, counter_internal, counter_moved, or_none, setting, TableSettings, TableState, Take, Hold, no_hold, same_word, any_word, held_value, table_settings, table_state, table_words, entered, due_after, hold_of, taken, takes, table_input, table_internal, table_moved, next_of, output_of, moved_state, initial_state}
+use Rattle.atomic_face.specs.Classes.{Bag, outputs, is_at, same_time, QueueState, queue_state, without_first, first_value, queue_internal, queue_input, queue_inputs, queue_closing, queue_next, is_empty, first_time, GeneratorState, GeneratorSettings, generator_state, generator_settings, generator_words, generator_internal, is_none_left, one_less, cpu_pairs, cpu_next, cpu_put, cpu_inputs, cpu_moved, pairs_at, values_in, CounterState, counter_state, counter_words, counter_input, counter_inputs, counter_closing, counter_internal, or_none, setting, TableSettings, TableState, Take, Hold, no_hold, same_word, any_word, held_value, table_settings, table_state, entered, due_after, hold_of, taken, takes, table_input, table_internal, next_of, output_of, moved_state, initial_state}
 use Rattle.run_model.specs.Bounds.{IsDelay, IsTime, IsValueWord, IsBoundedHold, AreBoundedSettings, AreBoundedWords, IsBoundedBox}
 use Rattle.run_model.proofs.WaitingBoxes.{cpu_pairs-cpu_words}
 use Rattle.run_model.proofs.BoundedValues.{sum-is}
@@ -93,9 +93,11 @@ generator-is settings state t bag set time h = due (is_at t (time_in (generator_
     summed : (period left : ℤ) (o : Option Value) → IsDelay (milliseconds period) → IfSome o IsBounded → IfSome (option_map generator_words (option_map (λ v. record { next = pos (t + milliseconds period); value = word_of v; left = left }) o)) (IsBoundedBox Generator)
     summed period left None delay k = tt
     summed period left (Some v) delay k = (omega (arith, delay, time), word-is v k)
+
     goes_on : (s : GeneratorSettings) (g : GeneratorState) (b : Bool) → IsDelay (milliseconds s.period) → IsValueWord g.value → IfSome (option_map generator_words (if b then Some (record g { next = no_time; left = one_less g.left }) else option_map (λ v. record { next = pos (t + milliseconds s.period); value = word_of v; left = one_less g.left }) (sum_of (value_in g.value) (value_in s.step)))) (IsBoundedBox Generator)
     goes_on s g true delay k = (tt, k)
     goes_on s g false delay k = summed s.period (one_less g.left) (sum_of (value_in g.value) (value_in s.step)) delay (sum-is (value_in g.value) (value_in s.step))
+
     due : (b : Bool) → IfSome (if b then option_map generator_words (generator_internal (generator_settings settings) t (generator_state state)) else Some state) (IsBoundedBox Generator)
     due true = goes_on (generator_settings settings) (generator_state state) (is_none_left (one_less (generator_state state).left)) set.1 h.1
     due false = h
@@ -139,6 +141,7 @@ counter_input-is settings c i set h = at_port (i.0.0 == 0)
     summed : (o : Option Value) → IfSome o IsBounded → IfSome (option_map (λ v. record c { total = word_of v }) o) IsCounter
     summed None k = tt
     summed (Some v) k = (h.0, word-is v k)
+
     at_port : (b : Bool) → IfSome (if b then option_map (λ v. record c { total = word_of v }) (sum_of (value_in c.total) (value_in (setting settings 2))) else Some (record c { total = setting settings 1 })) IsCounter
     at_port true = summed (sum_of (value_in c.total) (value_in (setting settings 2))) (sum-is (value_in c.total) (value_in (setting settings 2)))
     at_port false = (h.0, set.1)

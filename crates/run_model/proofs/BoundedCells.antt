@@ -1,12 +1,9 @@
 -- A cell with bounded values keeps them bounded.
-use Rattle.std.proofs.Common.{◌≡◌, ℕ, zero, suc, ◌+◌, ◌*◌, ◌/◌, ◌%◌, ◌<◌, ◌≤◌, Bool, true, false, cond, Option, Some, None, List, [], ◌∷◌, map, length, set, get_or, refl, sym, ◌∙◌, ap, subst, arith}
-use Rattle.std.specs.Prelude.{Result, Ok, Err, IfOk, IfSome, ⊤, if◌then◌else◌, nat_le, nat_lt, ◌==◌, ◌&&◌, ℤ, pos, negsuc, slice_get, unwrap_or}
-use Rattle.std.specs.List.{All, range_with_len, enumerate_from, flat_map}
-use Rattle.std.proofs.lemmas.List.{length-map}
-use Rattle.std.proofs.lemmas.List.Elements.{All-nil, All-cons, All-head, All-tail, All-set, All-map}
+use Rattle.std.proofs.Common.{◌≡◌, ℕ, ◌+◌, ◌/◌, ◌%◌, Bool, true, false, Option, Some, None, List, [], ◌∷◌, set, refl, arith}
+use Rattle.std.specs.Prelude.{Result, Ok, Err, IfOk, IfSome, if◌then◌else◌, nat_le, nat_lt, ◌==◌, ◌&&◌, pos, negsuc}
+use Rattle.std.specs.List.{All, enumerate_from}
+use Rattle.std.proofs.lemmas.List.Elements.{All-nil, All-cons, All-head, All-tail, All-set}
 use Rattle.std.proofs.lemmas.Bool.Decides.{nat_tests}
-use Rattle.std.proofs.Math.Nat.{mod-le}
-use Rattle.quantity.specs.declared.place.Offset.{Offset}
 use Rattle.quantity.specs.declared.value.Value.{Value}
 use Rattle.quantity.specs.declared.value.Value.TheVariants.{Undefined, Num}
 use Rattle.quantity.specs.declared.truth.Tri.{Tri}
@@ -19,16 +16,15 @@ use Rattle.rule_syntax.specs.declared.outcome.RuleStop.{RuleStop}
 use Rattle.rule_syntax.specs.Expression.{Expr, Rule}
 use Rattle.rule_syntax.specs.Meaning.{Sight, number_in, truth_in, meaning}
 use Rattle.rule_syntax.specs.Chosen.{Given, Chosen, delay_of, unless_overflow, after, values_of, variables_after, with_delay, given, if_true, chosen}
-use Rattle.cell_grid.specs.Space.{Space, place_of, plane_count, cell_count}
 use Rattle.atomic_face.specs.Classes.{Bag, is_at}
 use Rattle.atomic_face.specs.declared.class.PortNo.{PortNo}
 use Rattle.model_tree.specs.declared.group.DelayKind.{DelayKind}
 use Rattle.model_tree.specs.declared.group.DelayKind.TheVariants.{Transport, Inertial}
 use Rattle.model_tree.specs.Tree.{Group}
-use Rattle.run_model.specs.CellStep.{PortState, CellState, Stepped, initial_port, initial_cell, first_time, least, next_of_ports, first_emitted, port_emitted, cell_emitted, port_output, cell_output, delayed, port_took, took, rule_set, and_took, by_rules, cell_moved}
+use Rattle.run_model.specs.CellStep.{PortState, CellState, initial_port, initial_cell, first_time, least, next_of_ports, first_emitted, port_emitted, cell_emitted, port_output, cell_output, delayed, port_took, took, and_took, cell_moved}
 use Rattle.run_model.specs.Bounds.{IsDelay, IsTime, IsBoundedPart, IsBoundedRule, IsBoundedGroup, IsBoundedPair, IsBoundedPort, IsBoundedCell}
 use Rattle.run_model.proofs.CellKeeps.{took-keeps, cell_moved-keeps}
-use Rattle.run_model.proofs.BoundedLists.{flat_map-each, enumerated-each, map-each, all-each}
+use Rattle.run_model.proofs.BoundedLists.{flat_map-each, enumerated-each, map-each}
 use Rattle.run_model.proofs.BoundedMeaning.{IsBoundedAnswer, IsBoundedSight, at_or, meaning-is}
 
 -- ---- the chosen rule
@@ -141,6 +137,7 @@ port_emitted-bounded t p h = test (is_at t (first_time p.pairs))
     first : (ps : List (ℕ × Value)) → All IsBoundedPair ps → IsBoundedPort (first_emitted p.computed ps)
     first [] k = record { emitted = tt; computed = h.computed; pairs = All-nil IsBoundedPair }
     first (q ∷ ps) k = record { emitted = (All-head IsBoundedPair q ps k).1; computed = h.computed; pairs = All-tail IsBoundedPair q ps k }
+
     test : (b : Bool) → IsBoundedPort (if b then first_emitted p.computed p.pairs else p)
     test true = first p.pairs h.pairs
     test false = h

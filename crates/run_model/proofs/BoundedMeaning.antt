@@ -1,11 +1,10 @@
 -- What an expression with bounded numbers means over bounded values is bounded.
-use Rattle.std.proofs.Common.{◌≡◌, ℕ, zero, suc, ◌+◌, ◌*◌, ◌^◌, ◌/◌, ◌%◌, ◌≤◌, Bool, true, false, cond, Option, Some, None, List, [], ◌∷◌, map, length, refl, arith}
-use Rattle.std.specs.Prelude.{IfSome, ⊤, if◌then◌else◌, ◌&&◌, ◌==◌, nat_lt, ℤ, pos, negsuc, slice_get, unwrap_or}
-use Rattle.std.specs.List.{All, count_by}
+use Rattle.std.proofs.Common.{ℕ, zero, suc, ◌/◌, ◌%◌, ◌≤◌, Bool, true, false, Option, Some, None, List, [], ◌∷◌, length, arith}
+use Rattle.std.specs.Prelude.{IfSome, ⊤, if◌then◌else◌, ◌&&◌, ◌==◌, nat_lt, pos, negsuc, slice_get, unwrap_or}
+use Rattle.std.specs.List.{All}
 use Rattle.std.proofs.lemmas.List.{length-map}
-use Rattle.std.proofs.lemmas.List.Elements.{All-nil, All-cons, All-head, All-tail, All-map}
+use Rattle.std.proofs.lemmas.List.Elements.{All-nil, All-cons, All-head, All-tail}
 use Rattle.std.proofs.lemmas.List.Sums.{count_by-le-length}
-use Rattle.quantity.specs.declared.place.Place.{Place}
 use Rattle.quantity.specs.declared.truth.Tri.{Tri}
 use Rattle.quantity.specs.declared.truth.Tri.TheVariants.{True, False, Undef}
 use Rattle.quantity.specs.declared.value.Value.{Value}

@@ -1,8 +1,8 @@
 -- Operations on bounded values give bounded values.
-use Rattle.std.proofs.Common.{◌≡◌, ℕ, zero, suc, ◌+◌, ◌*◌, ◌^◌, ◌/◌, ◌%◌, ◌<◌, ◌≤◌, Bool, true, false, cond, Option, Some, None, refl, sym, ◌∙◌, ap, subst, arith, min}
-use Rattle.std.specs.Prelude.{IfSome, ⊤, if◌then◌else◌, nat_le, ◌==◌, ℤ, pos, negsuc, ◌+ℤ◌, ◌-ℤ◌, ◌*ℤ◌, neg_ℤ, unsigned_abs, int_lt, int_div, int_rem}
+use Rattle.std.proofs.Common.{◌≡◌, ℕ, zero, suc, ◌+◌, ◌*◌, ◌^◌, ◌/◌, ◌<◌, ◌≤◌, Bool, true, false, Option, Some, None, refl, ◌∙◌, ap, arith}
+use Rattle.std.specs.Prelude.{IfSome, if◌then◌else◌, nat_le, ℤ, pos, negsuc, ◌+ℤ◌, ◌-ℤ◌, ◌*ℤ◌, neg_ℤ, unsigned_abs, int_lt, int_div, int_rem}
 use Rattle.std.specs.Int.{int_signum}
-use Rattle.std.proofs.lemmas.Int.{ints, unsigned_abs-mul, rem_below, quot-rem}
+use Rattle.std.proofs.lemmas.Int.{unsigned_abs-mul, rem_below}
 use Rattle.std.proofs.lemmas.Bool.Decides.{nat_tests}
 use Rattle.quantity.specs.declared.value.Value.{Value}
 use Rattle.quantity.specs.declared.value.Value.TheVariants.{Undefined, Num}

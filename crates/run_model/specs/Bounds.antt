@@ -1,5 +1,5 @@
 -- The values of a run are bounded, and its times are small: so each record has a line of a log.
-use Rattle.std.specs.Prelude.{◌≡◌, ℕ, ◌≤◌, false, List, [], ◌∷◌, length, ℤ, IfSome, ⊤}
+use Rattle.std.specs.Prelude.{◌≡◌, ℕ, ◌≤◌, false, List, length, ℤ, IfSome, ⊤}
 use Rattle.std.specs.List.{All}
 use Rattle.quantity.specs.declared.value.Value.{Value}
 use Rattle.quantity.specs.Arithmetic.{IsBounded}
@@ -8,7 +8,6 @@ use Rattle.rule_syntax.specs.Expression.{Expr, Exprs, Rule}
 use Rattle.cell_grid.specs.Space.{cell_count}
 use Rattle.atomic_face.specs.declared.class.Class.{Class}
 use Rattle.atomic_face.specs.declared.class.Class.TheVariants.{Queue, Generator, Cpu, Counter, Table}
-use Rattle.atomic_face.specs.Held.{Held}
 use Rattle.atomic_face.specs.Words.{time_in, value_in, milliseconds}
 use Rattle.atomic_face.specs.Classes.{first_time, generator_settings, setting, Hold, table_settings, same_word, any_word, queue_state, generator_state, cpu_pairs, counter_state, table_state}
 use Rattle.model_tree.specs.Tree.{Group, Tree, Trees, coupled, cells, atomic, nil, cons}
