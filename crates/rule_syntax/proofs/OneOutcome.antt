@@ -4,7 +4,8 @@ use Rattle.std.specs.declared.result.Result.{Result}
 use Rattle.rule_syntax.specs.Expression.{Rule}
 use Rattle.std.specs.Option.{ok_or}
 use Rattle.quantity.specs.Bytes.{Bytes}
-use Rattle.source_text.specs.Kinds.{bad_rule, too_large}
+use Rattle.rule_syntax.specs.declared.refusal.RuleRefusal.{RuleRefusal}
+use Rattle.rule_syntax.specs.declared.refusal.RuleRefusal.TheVariants.{BadRule, TooLarge}
 use Rattle.rule_syntax.specs.Tokens.{Token, tokens, words_in, is_large}
 use Rattle.rule_syntax.specs.Phrases.{Written}
 use Rattle.rule_syntax.specs.Grammar.{IsRule}
@@ -19,19 +20,19 @@ found : IsTheGrammar → (names : Names) (text : Bytes) → RuleIs names text (r
 unfolding rule_of
 found g names text = by_tokens (tokens text) refl
   where
-    by_rule : (ts : List Token) → Readable text ts → (o : Option Written) → written_rule ts ≡ o → RuleIs names text (and_on (ok_or o bad_rule) (judged names))
+    by_rule : (ts : List Token) → Readable text ts → (o : Option Written) → written_rule ts ≡ o → RuleIs names text (and_on (ok_or o BadRule) (judged names))
     by_rule ts h None e = no_rule ts h (λ r d. none_some (sym e ∙ (g ts r).1 d))
     by_rule ts h (Some r) e = a_rule ts r h ((g ts r).0 e)
 
-    by_size : (ts : List Token) → tokens text ≡ Some ts → words_refused (words_in ts) ≡ None → (b : Bool) → is_large ts ≡ b → RuleIs names text (unless (where_true b too_large) (and_on (ok_or (written_rule ts) bad_rule) (judged names)))
+    by_size : (ts : List Token) → tokens text ≡ Some ts → words_refused (words_in ts) ≡ None → (b : Bool) → is_large ts ≡ b → RuleIs names text (unless (where_true b TooLarge) (and_on (ok_or (written_rule ts) BadRule) (judged names)))
     by_size ts e w true s = large ts e w s
     by_size ts e w false s = by_rule ts (record { tokens = e; words = w; size = s }) (written_rule ts) refl
 
-    by_words : (ts : List Token) → tokens text ≡ Some ts → (o : Option ℕ) → words_refused (words_in ts) ≡ o → RuleIs names text (unless o (unless (where_true (is_large ts) too_large) (and_on (ok_or (written_rule ts) bad_rule) (judged names))))
+    by_words : (ts : List Token) → tokens text ≡ Some ts → (o : Option RuleRefusal) → words_refused (words_in ts) ≡ o → RuleIs names text (unless o (unless (where_true (is_large ts) TooLarge) (and_on (ok_or (written_rule ts) BadRule) (judged names))))
     by_words ts e (Some kind) w = strange_word ts kind e w
     by_words ts e None w = by_size ts e w (is_large ts) refl
 
-    by_tokens : (o : Option (List Token)) → tokens text ≡ o → RuleIs names text (and_on (ok_or o bad_rule) (λ ts. unless (words_refused (words_in ts)) (unless (where_true (is_large ts) too_large) (and_on (ok_or (written_rule ts) bad_rule) (judged names)))))
+    by_tokens : (o : Option (List Token)) → tokens text ≡ o → RuleIs names text (and_on (ok_or o BadRule) (λ ts. unless (words_refused (words_in ts)) (unless (where_true (is_large ts) TooLarge) (and_on (ok_or (written_rule ts) BadRule) (judged names)))))
     by_tokens None e = no_token e
     by_tokens (Some ts) e = by_words ts e (words_refused (words_in ts)) refl
 
@@ -42,7 +43,7 @@ no_written g ts h = go (written_rule ts) refl
     go None e = refl
     go (Some r) e = absurd (h r ((g ts r).0 e))
 
-only : IsTheGrammar → (names : Names) (text : Bytes) (a : Result Rule ℕ) → RuleIs names text a → rule_of names text ≡ a
+only : IsTheGrammar → (names : Names) (text : Bytes) (a : Result Rule RuleRefusal) → RuleIs names text a → rule_of names text ≡ a
 unfolding rule_of
 only g names text _ (no_token e) = rw e refl
 only g names text _ (strange_word ts kind e w) = rw (e, w) refl
