@@ -11,6 +11,7 @@ pub mod InitialFiles
 pub mod Trees
 pub mod Drawings
 pub mod ModelOf
+pub mod Accepted
 pub mod Models
 pub mod Examples
 pub mod RefusalExamples
