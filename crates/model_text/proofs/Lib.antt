@@ -1,1 +1,7 @@
+mod Basics
 mod Phases
+mod Walked
+mod Linked
+mod Keys
+mod Offsets
+mod GroupOffsets

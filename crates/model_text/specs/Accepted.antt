@@ -1,19 +1,21 @@
 -- What the phases say of a model that is accepted.
-use Rattle.std.specs.Prelude.{◌≡◌, Option, None, List, [], ◌∷◌}
+use Rattle.std.specs.Prelude.{◌≡◌, ◌≤◌, true, false, Option, None, List, [], ◌∷◌, map, length}
+use Rattle.std.specs.List.{AllByRecursion}
 use Rattle.std.specs.declared.result.Result.TheVariants.{Ok}
 use Rattle.std.specs.Option.{option_or}
-use Rattle.quantity.specs.Bytes.{Bytes}
+use Rattle.quantity.specs.Bytes.{Bytes, has_repeat}
 use Rattle.source_text.specs.Lines.{Files}
 use Rattle.ma_lines.specs.Sections.{Section, sections_of}
 use Rattle.atomic_face.specs.declared.class.Class.{Class}
 use Rattle.model_tree.specs.Tree.{Tree}
+use Rattle.model_tree.specs.Sound.{are_accepted}
 use Rattle.model_text.specs.Refusals.{Refusal}
-use Rattle.model_text.specs.Walk.{top_refused, tree_refused}
+use Rattle.model_text.specs.Walk.{top, name_of, items_in, walk, reached, atomics, top_refused, tree_refused}
 use Rattle.model_text.specs.Keys.{keys_refused}
 use Rattle.model_text.specs.Spaces.{cells_refused, spaces_refused}
 use Rattle.model_text.specs.Stock.{stock_refused}
 use Rattle.model_text.specs.Rules.{rules_refused}
-use Rattle.model_text.specs.Links.{links_refused}
+use Rattle.model_text.specs.Links.{links_refused, links_of, face_of}
 use Rattle.model_text.specs.InitialFiles.{initial_files, first_file_stop}
 use Rattle.model_text.specs.Drawings.{Drawing, drawing_refused}
 use Rattle.model_text.specs.Trees.{tree_of}
@@ -64,3 +66,19 @@ abbrev pub PassesEachPhase : Type 0
 PassesEachPhase =
     (bytes : Bytes) (files : Files) (classes : List Class) (drawing : Option Drawing) (t : Tree) →
     (model_of bytes files classes drawing).found ≡ model t → Accepted bytes files classes drawing t
+
+-- ---- what the walk says
+
+-- no two components have one name, and none is named as top
+abbrev pub ComponentsDiffer : Type 0
+ComponentsDiffer = (ss : List Section) → tree_refused ss ≡ None → has_repeat (top ∷ map name_of (items_in (walk ss))) ≡ false
+
+abbrev pub AtomicsFit : Type 0
+AtomicsFit = (ss : List Section) → tree_refused ss ≡ None → length (atomics ss) ≤ 4096
+
+-- ---- what the links say
+
+-- each link of a section is one that is accepted after those before it
+abbrev pub LinksAreAccepted : Type 0
+LinksAreAccepted =
+    (ss : List Section) → links_refused ss ≡ None → AllByRecursion (λ s. are_accepted (face_of ss s) [] (links_of s) ≡ true) (reached ss)

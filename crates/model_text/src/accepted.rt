@@ -1,5 +1,6 @@
 // Laws of the models that are accepted.
-ghost use Rattle.model_text.specs.Accepted.{FirstPhaseDecides, PassesEachPhase};
+ghost use Rattle.model_text.specs.Accepted.{FirstPhaseDecides, PassesEachPhase, ComponentsDiffer, AtomicsFit, LinksAreAccepted};
+ghost use Rattle.model_text.specs.GroupLaws.{OffsetsAreRight};
 
 /// The first phase that refuses decides, in the order of the phases.
 pub fn first_phase_decides()
@@ -9,4 +10,24 @@ pub fn first_phase_decides()
 /// A model that is accepted is refused by no phase, and is the tree of the file's sections.
 pub fn accepted_models_pass_each_phase()
     ensures { PassesEachPhase }
+{}
+
+/// No two components of an accepted model have one name.
+pub fn accepted_components_differ()
+    ensures { ComponentsDiffer }
+{}
+
+/// An accepted model has at most 4096 atomic components.
+pub fn accepted_atomics_fit()
+    ensures { AtomicsFit }
+{}
+
+/// Each link of an accepted model is one that is accepted after those before it.
+pub fn accepted_links_are_accepted_in_order()
+    ensures { LinksAreAccepted }
+{}
+
+/// The groups of an accepted model have at most 128 offsets, each near, and all different.
+pub fn accepted_offsets_are_right()
+    ensures { OffsetsAreRight }
 {}
