@@ -42,16 +42,16 @@ pub has_form : (table : List (Bytes × (Bytes → Bool))) (key : Bytes) (p : Byt
     → (v : Bytes) → option_map (λ (e : Entry). e.value) (find (has_key key) es) ≡ Some v → p v ≡ true
 has_form table key p known [] h v e = absurd (none_some e)
 has_form table key p known (x ∷ es) h v e =
-    go (bytes_eq x.key key) refl e
+    go (has_form table key p known es) (bytes_eq x.key key) refl e
   where
     parts : (is_off (looked_up table x.key) x.value ≡ false) × (off_form table es ≡ [])
     parts = first_off table x es h
-    go : (b : Bool) → bytes_eq x.key key ≡ b → option_map (λ (e : Entry). e.value) (cond b (Some x) (find (has_key key) es)) ≡ Some v → p v ≡ true
-    go true same f =
+    go : (off_form table es ≡ [] → (v : Bytes) → option_map (λ (e : Entry). e.value) (find (has_key key) es) ≡ Some v → p v ≡ true) → (b : Bool) → bytes_eq x.key key ≡ b → option_map (λ (e : Entry). e.value) (cond b (Some x) (find (has_key key) es)) ≡ Some v → p v ≡ true
+    go later true same f =
         let off : is_off (looked_up table key) x.value ≡ false = subst (λ k. is_off (looked_up table k) x.value ≡ false) (same_bytes x.key key same) parts.0 in
         let right : p x.value ≡ true = is_true (p x.value) (subst (λ o. is_off o x.value ≡ false) known off) in
         subst (λ w. p w ≡ true) (some_same x.value v f) right
-    go false same f = has_form table key p known es parts.1 v f
+    go later false same f = later parts.1 v f
 
 -- ---- keys that stand once
 
@@ -77,25 +77,25 @@ both_stand once before k key same o b f =
 
 none_more : (once : List Bytes) (key : Bytes) → is_among once key ≡ true → (before : List Bytes) → is_among before key ≡ true → (es : List Entry) → again once before es ≡ [] → filter (has_key key) es ≡ []
 none_more once key o before b [] h = refl
-none_more once key o before b (e ∷ es) h = go (bytes_eq e.key key) refl
+none_more once key o before b (e ∷ es) h = go (none_more once key o (e.key ∷ before) (or_right (bytes_eq key e.key) (is_among before key) b) es) (bytes_eq e.key key) refl
   where
     parts : (is_among once e.key && is_among before e.key ≡ false) × (again once (e.key ∷ before) es ≡ [])
     parts = not_again once before e es h
-    go : (c : Bool) → bytes_eq e.key key ≡ c → cond c (e ∷ filter (has_key key) es) (filter (has_key key) es) ≡ []
-    go true same = absurd (both_stand once before e.key key (same_bytes e.key key same) o b parts.0)
-    go false same = none_more once key o (e.key ∷ before) (or_right (bytes_eq key e.key) (is_among before key) b) es parts.1
+    go : (again once (e.key ∷ before) es ≡ [] → filter (has_key key) es ≡ []) → (c : Bool) → bytes_eq e.key key ≡ c → cond c (e ∷ filter (has_key key) es) (filter (has_key key) es) ≡ []
+    go later true same = absurd (both_stand once before e.key key (same_bytes e.key key same) o b parts.0)
+    go later false same = later parts.1
 
 -- the entries of such a key are the first, or none
 pub stands_once : (once : List Bytes) (key : Bytes) → is_among once key ≡ true → (before : List Bytes) (es : List Entry) → again once before es ≡ [] → filter (has_key key) es ≡ option_to_list (find (has_key key) es)
 stands_once once key o before [] h = refl
-stands_once once key o before (e ∷ es) h = go (bytes_eq e.key key) refl
+stands_once once key o before (e ∷ es) h = go (stands_once once key o (e.key ∷ before) es) (bytes_eq e.key key) refl
   where
     parts : (is_among once e.key && is_among before e.key ≡ false) × (again once (e.key ∷ before) es ≡ [])
     parts = not_again once before e es h
-    go : (c : Bool) → bytes_eq e.key key ≡ c → cond c (e ∷ filter (has_key key) es) (filter (has_key key) es) ≡ option_to_list (cond c (Some e) (find (has_key key) es))
-    go true same =
+    go : (again once (e.key ∷ before) es ≡ [] → filter (has_key key) es ≡ option_to_list (find (has_key key) es)) → (c : Bool) → bytes_eq e.key key ≡ c → cond c (e ∷ filter (has_key key) es) (filter (has_key key) es) ≡ option_to_list (cond c (Some e) (find (has_key key) es))
+    go later true same =
         ap (λ xs. e ∷ xs) (none_more once key o (e.key ∷ before) (or_left (bytes_eq key e.key) (is_among before key) (equals_back e.key key same)) es parts.1)
-    go false same = stands_once once key o (e.key ∷ before) es parts.1
+    go later false same = later parts.1
 
 abbrev pub words_of : Option Bytes → List Bytes
 words_of None = []

@@ -5,3 +5,4 @@ mod Linked
 mod Keys
 mod Offsets
 mod GroupOffsets
+mod Values

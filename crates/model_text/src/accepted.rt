@@ -1,6 +1,6 @@
 // Laws of the models that are accepted.
 ghost use Rattle.model_text.specs.Accepted.{FirstPhaseDecides, PassesEachPhase, ComponentsDiffer, AtomicsFit, LinksAreAccepted};
-ghost use Rattle.model_text.specs.GroupLaws.{OffsetsAreRight};
+ghost use Rattle.model_text.specs.GroupLaws.{OffsetsAreRight, ValuesFit};
 
 /// The first phase that refuses decides, in the order of the phases.
 pub fn first_phase_decides()
@@ -30,4 +30,9 @@ pub fn accepted_links_are_accepted_in_order()
 /// The groups of an accepted model have at most 128 offsets, each near, and all different.
 pub fn accepted_offsets_are_right()
     ensures { OffsetsAreRight }
+{}
+
+/// A group has as many initial values as cells, whatever its rows and files.
+pub fn accepted_groups_have_a_value_for_each_cell()
+    ensures { ValuesFit }
 {}
