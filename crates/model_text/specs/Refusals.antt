@@ -1,12 +1,12 @@
 -- Refusals of models: a line and a kind, and the number, name and text of each kind.
-use Rattle.std.specs.Prelude.{ℕ, ◌==◌, ◌∷◌, ◌++◌, if◌then◌else◌, codes, decimal}
+use Rattle.std.specs.Prelude.{ℕ, ◌∷◌, ◌++◌, codes, decimal}
 use Rattle.quantity.specs.Bytes.{Bytes}
 use Rattle.ma_lines.specs.declared.section.LineRefusal.TheVariants as L
 use Rattle.ma_lines.specs.declared.section.LineRefusal.{LineRefusal}
 use Rattle.model_tree.specs.declared.refusal.LinkRefusal.TheVariants as K
 use Rattle.model_tree.specs.declared.refusal.LinkRefusal.{LinkRefusal}
-use Rattle.rule_syntax.specs.declared.refusal.RuleRefusal.{RuleRefusal}
 use Rattle.rule_syntax.specs.declared.refusal.RuleRefusal.TheVariants as R
+use Rattle.rule_syntax.specs.declared.refusal.RuleRefusal.{RuleRefusal}
 use Rattle.model_text.specs.declared.kind.Kind.{Kind}
 use Rattle.model_text.specs.declared.kind.Kind.TheVariants.{BadLine, DuplicateSection, NoTop, DuplicateKey, MissingKey, BadValue, UnknownComponent, DuplicateComponent, ComponentCycle, UnknownClass, OutOfStock, BadParameter, UnknownPort, SelfLink, PassThrough, DuplicateLink, TooManyRoutes, BadRule, BadSort, RandomRefused, UnknownFunction, NotANeighbour, BadZone, BadInitial, TooLarge, TooLong, NoSection, NoSuchPlane, UnknownVariable, UnknownNeighbourPort}
 
@@ -102,7 +102,6 @@ kind_of_link K.PassThrough = PassThrough
 kind_of_link K.DuplicateLink = DuplicateLink
 kind_of_link K.Memory = UnknownPort
 
--- want of memory is no text's
 abbrev pub kind_of_rule : RuleRefusal → Kind
 kind_of_rule R.BadRule = BadRule
 kind_of_rule R.BadSort = BadSort
