@@ -20,7 +20,7 @@ use Rattle.text_forms.proofs.WrittenLines.{Sep, join_no, given_fits, given_no, m
 
 -- ---- the log cut at its line ends
 
-line_end : Sep 10
+pub line_end : Sep 10
 line_end = record { digit = refl; name = refl; minus = refl; point = refl; colon = refl; open_at = refl; close_at = refl; comma = refl; question = refl }
 
 strokes_no : (parts : List Bytes) → list_all (has_no 10) parts ≡ true → list_all (has_no 10) (with_strokes parts) ≡ true

@@ -33,7 +33,7 @@ pub record Sep (c : ℕ) : Type 0 where
   pub comma : (44 == c) ≡ false
   pub question : (63 == c) ≡ false
 
-blank : Sep 32
+pub blank : Sep 32
 blank = record { digit = refl; name = refl; minus = refl; point = refl; colon = refl; open_at = refl; close_at = refl; comma = refl; question = refl }
 
 stroke : Sep 47
@@ -49,13 +49,13 @@ join_no c d e (x ∷ y ∷ ys) h =
 time_fits : (t : ℕ) → t ≤ 719999998 → t / 3600000 < 10 ^ 64
 time_fits t le = omega arith
 
-time_no : (c : ℕ) → Sep c → (t : ℕ) → t ≤ 719999998 → has_no c (time_text t) ≡ true
+pub time_no : (c : ℕ) → Sep c → (t : ℕ) → t ≤ 719999998 → has_no c (time_text t) ≡ true
 time_no c s t le =
     join_no c 58 s.colon (hours_text (t / 3600000) ∷ last_digits 2 (t / 60000 % 60) ∷ last_digits 2 (t / 1000 % 60) ∷ last_digits 3 (t % 1000) ∷ [])
     (and_true _ _ (no_digit c s.digit (hours_text (t / 3600000)) (hours_digits (t / 3600000) (time_fits t le) (nat_lt (t / 3600000) 100)))
     (and_true _ _ (no_in_last c s.digit 2 (t / 60000 % 60)) (and_true _ _ (no_in_last c s.digit 2 (t / 1000 % 60)) (and_true _ true (no_in_last c s.digit 3 (t % 1000)) refl))))
 
-value_no : (c : ℕ) → Sep c → (v : Value) → is_value v ≡ true → has_no c (text5 v) ≡ true
+pub value_no : (c : ℕ) → Sep c → (v : Value) → is_value v ≡ true → has_no c (text5 v) ≡ true
 value_no c s Undefined h = and_true _ true (ap not s.question) refl
 value_no c s (Num (pos n)) h = ap (λ m. has_no c (body m)) (div_one n) ∙ body_no c n (grind (arith, nat_tests)) s.digit s.point
 value_no c s (Num (negsuc n)) h = ap (has_no c) (negative_text n) ∙ and_true _ _ (ap not s.minus) (body_no c (suc n) (grind (arith, nat_tests)) s.digit s.point)
@@ -70,7 +70,7 @@ differ c d e f = go (d == c) refl
     go false g = g
     go true g = let no : false ≡ true = sym e ∙ ap is_name_byte (sym (same g)) ∙ f in absurd cc
 
-name_no : (c : ℕ) → is_name_byte c ≡ false → (w : Bytes) → list_all is_name_byte w ≡ true → has_no c w ≡ true
+pub name_no : (c : ℕ) → is_name_byte c ≡ false → (w : Bytes) → list_all is_name_byte w ≡ true → has_no c w ≡ true
 name_no c e [] h = refl
 name_no c e (d ∷ ds) h =
     let k = both (is_name_byte d) (list_all is_name_byte ds) h in
@@ -105,7 +105,7 @@ leaf_parts l h =
     let n = both (list_all is_name_byte l.name && nat_le 1 (length l.name)) (nat_le (length l.name) 64) m.0 in
     ((both (list_all is_name_byte l.name) (nat_le 1 (length l.name)) n.0).0, m.1)
 
-leaf_no : (c : ℕ) → Sep c → (l : LeafName) → is_leaf l ≡ true → has_no c (leaf_text l) ≡ true
+pub leaf_no : (c : ℕ) → Sep c → (l : LeafName) → is_leaf l ≡ true → has_no c (leaf_text l) ≡ true
 leaf_no c s l h =
     let k = leaf_parts l h in
     list_all-append (λ z. not (z == c)) l.name (at_text l.at) ∙ and_true _ _ (name_no c s.name l.name k.0) (at_no c s l.at k.1)

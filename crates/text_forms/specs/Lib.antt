@@ -1,7 +1,9 @@
 pub mod Lines
 pub mod Frames
 pub mod BoxStates
-pub mod State
+pub mod StateText
+pub mod LeafStates
+pub mod StateOf
 pub mod Models
 pub mod ReadBack
 pub mod DrawnLines
