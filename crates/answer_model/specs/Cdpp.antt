@@ -8,12 +8,17 @@ use Rattle.atomic_face.specs.declared.class.Class.{Class}
 use Rattle.model_tree.specs.Tree.{Word, Tree, ins_of}
 use Rattle.run_model.specs.Run.{Event, RunState, Run, start, run_from}
 use Rattle.model_text.specs.Models.{made_text}
-use Rattle.text_forms.specs.State.{Refusal, Saved, state_of}
+use Rattle.text_forms.specs.StateOf.{Saved, state_of}
+use Rattle.answer_model.specs.Refusals.{state_refused}
 use Rattle.answer_model.specs.Asked.{Asked, Source, file, made, Drawing, FramesFile, asked, usage}
 use Rattle.answer_model.specs.Answer.{Answer, if_asked, missing, with_file, only_complains, refused_text, unless_refused}
 use Rattle.answer_model.specs.RunFiles.{answer_of_run}
 
 -- ---- how files are read, which other definitions say
+
+pub record Refusal : Type 0 where
+  pub line : ℕ
+  pub kind : Bytes
 
 pub data ModelOf : Type 0 where
   model : Tree → ModelOf
@@ -75,7 +80,7 @@ abbrev pub with_state : Asked → Folder → Tree → List Word → (Option Save
 with_state a files tree inputs go =
     elim a.state [
       | None ↦ go None inputs
-      | Some name ↦ with_file files name inputs (λ bytes looked. unless_refused 14 (refusal_text (codes "state")) looked (state_of bytes tree a.end) (λ saved. go (Some saved) looked))
+      | Some name ↦ with_file files name inputs (λ bytes looked. unless_refused 14 state_refused looked (state_of bytes tree a.end) (λ saved. go (Some saved) looked))
     ]
 
 -- words, model, events, state, run: the first that ends decides

@@ -12,7 +12,8 @@ use Rattle.rule_syntax.specs.declared.outcome.RuleStop.TheVariants.{NoTrueRule, 
 use Rattle.rule_syntax.specs.Meaning.{whole}
 use Rattle.model_tree.specs.Tree.{Tree, leaves, leaf_count}
 use Rattle.run_model.specs.Run.{Event, PortRecord, Cycle, Verdict, done, too_many, stop, unfinished}
-use Rattle.text_forms.specs.Lines.{leaf_name, leaf_text, ended}
+use Rattle.text_forms.specs.LogLine.{leaf_text}
+use Rattle.text_forms.specs.Lines.{leaf_name, ended}
 use Rattle.served_tree.specs.Order.{mark_of}
 use Rattle.answer_model.specs.Asked.{Asked, file, made}
 

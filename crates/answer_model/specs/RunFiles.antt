@@ -9,7 +9,8 @@ use Rattle.run_model.specs.Cycle.{LeafState, box_state, cell_state}
 use Rattle.run_model.specs.Run.{Event, Cycle, done, Run}
 use Rattle.text_forms.specs.Lines.{log_bytes, out_bytes}
 use Rattle.text_forms.specs.Frames.{frames_of}
-use Rattle.text_forms.specs.State.{Saved, text_of_state}
+use Rattle.text_forms.specs.StateText.{text_of_state}
+use Rattle.text_forms.specs.StateOf.{Saved}
 use Rattle.answer_model.specs.Asked.{Asked, FramesFile}
 use Rattle.answer_model.specs.Answer.{Files, Answer}
 use Rattle.answer_model.specs.RunEnd.{said}

@@ -12,7 +12,8 @@ use Rattle.cell_grid.specs.Space.{Space}
 use Rattle.model_tree.specs.Tree.{Word, Leaf, leaves}
 use Rattle.run_model.specs.Run.{Cycle, PortRecord, StateRecord}
 use Rattle.quantity.specs.Bytes.{Bytes}
-use Rattle.text_forms.specs.Lines.{LogLine, given, moved, line_text, is_line, parts_of, with_strokes, ended, leaf_name, given_line, moved_line, out_port_name, in_port_name, cycle_lines, letter_of, log_lines}
+use Rattle.text_forms.specs.LogLine.{LogLine, given, moved, line_text, is_line, parts_of, with_strokes}
+use Rattle.text_forms.specs.Lines.{ended, leaf_name, given_line, moved_line, out_port_name, in_port_name, cycle_lines, letter_of, log_lines}
 use Rattle.text_forms.specs.Frames.{Shown, shown_of, shown_by, shown_in, line_time, not_before, and_shown, shown_at, cell_of, lines_from, drawn_lines}
 use Rattle.text_forms.specs.DrawnLines.{NamesCells, never_fall, have_leaves, DrawnFromCycles}
 use Rattle.text_forms.proofs.Written.{has_no, none_at, both, and_true}

@@ -1,9 +1,9 @@
 -- Only what is written is read.
-use Rattle.std.proofs.Common.{◌≡◌, ℕ, ◌+◌, ◌==◌, Bool, true, false, cond, Option, Some, None, List, [], ◌∷◌, ◌++◌, refl, sym, ap, ◌∙◌, subst, length, map, codes, IsTrue, Result, Ok, Err, drop, nat_lt, nat_le, if◌then◌else◌}
+use Rattle.std.proofs.Common.{◌≡◌, ℕ, ◌+◌, ◌==◌, Bool, true, false, cond, Option, Some, None, List, [], ◌∷◌, ◌++◌, refl, sym, ap, ◌∙◌, subst, length, codes, IsTrue, Result, Ok, Err, drop, nat_lt, nat_le, if◌then◌else◌}
 use Rattle.std.proofs.lemmas.List.{append-nil, append_assoc}
 use Rattle.std.proofs.lemmas.Slice.Eq.{bytes_eq-Decides}
 use Rattle.std.proofs.lemmas.List.Splits.{join_with_byte-slice_split}
-use Rattle.std.specs.List.{slice_split, flat_map, join_with_byte, zip}
+use Rattle.std.specs.List.{slice_split, flat_map, join_with_byte}
 use Rattle.std.specs.Str.{bytes_eq}
 use Rattle.model_tree.specs.Tree.{Tree, Leaf, leaves}
 use Rattle.run_model.specs.Cycle.{LeafState}
@@ -11,11 +11,12 @@ use Rattle.quantity.specs.Bytes.{Bytes}
 use Rattle.quantity.specs.ValueTexts.{text5, guessed_value}
 use Rattle.quantity.specs.Times.{time_text, read_time, time_of}
 use Rattle.quantity.specs.Written.{if_written, for_some}
-use Rattle.text_forms.specs.Lines.{LogLine, parts_in, is_line, line_in, if_line, line_text, ended}
+use Rattle.text_forms.specs.LogLine.{LogLine, parts_in, is_line, line_in, if_line, line_text}
+use Rattle.text_forms.specs.Lines.{ended}
 use Rattle.text_forms.specs.declared.refusal.StateRefusal.{StateRefusal}
 use Rattle.text_forms.specs.declared.refusal.StateRefusal.TheVariants.{BadStateLine, EndBefore, TooLarge}
 use Rattle.text_forms.specs.StateText.{text_of_state, state_lines, leaf_line, leaf_lines, at_line}
-use Rattle.text_forms.specs.StateOf.{Saved, next_line, just, nothing_more, leaves_in, read_at, state_at, read_leaf, leaf_in, if_leaf_state, words_in}
+use Rattle.text_forms.specs.StateOf.{Saved, next_line, just, nothing_more, leaves_in, read_at, state_at, read_leaf, leaf_state_in, if_leaf_state, words_in}
 use Rattle.text_forms.specs.ReadBack.{ReadsNothingElse}
 
 abbrev value_or : {A : Type 0} → Option A → A → A
@@ -88,7 +89,7 @@ nothing_after n x y ([] ∷ next ∷ more) h = absurd cc
 nothing_after n x y ((c ∷ cs) ∷ more) h = absurd cc
 
 leaf_kept : (t : ℕ) (l : Leaf) (line : Bytes) (s : LeafState) → read_leaf t l line ≡ Some s → line ≡ leaf_line l s
-leaf_kept t l line s h = (kept (leaf_line l) line s (if_leaf_state t l (leaf_in l (drop 2 (words_in line)))) h).1
+leaf_kept t l line s h = (kept (leaf_line l) line s (if_leaf_state t l (leaf_state_in l (drop 2 (words_in line)))) h).1
 
 and_rest : (n t : ℕ) (ls : List Leaf) (s : LeafState) (rest : List Bytes) (ss : List LeafState) (r : Result (List LeafState) StateRefusal) → ((xs : List LeafState) → r ≡ Ok xs → rest ≡ leaf_lines ls xs ++ [] ∷ []) → (elim r as (λ x. Result (List LeafState) StateRefusal) [ Err e ↦ Err e | Ok xs ↦ Ok (s ∷ xs) ]) ≡ Ok ss → (xs : List LeafState) × (rest ≡ leaf_lines ls xs ++ [] ∷ []) × (s ∷ xs ≡ ss)
 and_rest n t ls s rest ss (Err e) go h = absurd cc

@@ -19,7 +19,7 @@ use Rattle.quantity.specs.Written.{is_digit, if_written, number_at_most, number_
 use Rattle.quantity.specs.Digits.{last_digits}
 use Rattle.quantity.specs.Times.{hours_text, time_text, time_of, read_time}
 use Rattle.quantity.specs.ValueTexts.{without_point, signed_in, guessed_value, as_value, positive, negative, text5, read_text5, minus_if}
-use Rattle.text_forms.specs.Lines.{is_value}
+use Rattle.text_forms.specs.LogLine.{is_value}
 
 -- ---- parts that are joined and split
 

@@ -1,9 +1,9 @@
 -- A state that is written is read.
-use Rattle.std.proofs.Common.{◌≡◌, ℕ, zero, suc, ◌+◌, ◌-◌, ◌<◌, ◌≤◌, ◌^◌, ◌==◌, ◌&&◌, not, Bool, true, false, cond, Option, Some, None, List, [], ◌∷◌, ◌++◌, refl, sym, ap, ◌∙◌, arith, length, map, drop, codes, nat_lt, nat_le, decimal, Result, Ok, Err}
+use Rattle.std.proofs.Common.{◌≡◌, ℕ, suc, ◌+◌, ◌<◌, ◌≤◌, ◌^◌, ◌==◌, ◌&&◌, not, Bool, true, false, cond, Option, Some, None, List, [], ◌∷◌, ◌++◌, refl, sym, ap, ◌∙◌, arith, length, map, drop, codes, nat_lt, nat_le, decimal, Result, Ok, Err}
 use Rattle.std.specs.Prelude.{ℤ, pos, negsuc, IsTrue}
 use Rattle.std.specs.Fmt.{signed_decimal}
-use Rattle.std.specs.List.{slice_split, list_all, flat_map, join_with_byte, zip, AllZip}
-use Rattle.std.proofs.lemmas.List.{append-nil, append_assoc}
+use Rattle.std.specs.List.{slice_split, list_all, flat_map, AllZip}
+use Rattle.std.proofs.lemmas.List.{append_assoc}
 use Rattle.std.proofs.lemmas.List.Splits.{slice_split_at}
 use Rattle.std.proofs.lemmas.List.Folds.{list_all-append}
 use Rattle.std.proofs.lemmas.Bool.Decides.{nat_tests}
@@ -11,19 +11,19 @@ use Rattle.std.proofs.lemmas.Fmt.{decimal_is_IsNumeral_wide}
 use Rattle.std.specs.Str.Parse.{digits_value}
 use Rattle.quantity.specs.declared.value.Value.{Value}
 use Rattle.quantity.specs.Bytes.{Bytes}
-use Rattle.quantity.specs.Written.{is_digit, if_written, number_at_most, number_in, for_some}
+use Rattle.quantity.specs.Written.{is_digit, number_at_most, number_in, for_some}
 use Rattle.quantity.specs.Times.{time_text, read_time}
 use Rattle.quantity.specs.ValueTexts.{text5, guessed_value, signed_in, positive, negative}
-use Rattle.atomic_face.specs.Held.{Held}
 use Rattle.model_tree.specs.Tree.{Tree, Leaf, atomic_leaf, cell_leaf, leaves}
-use Rattle.run_model.specs.CellStep.{PortState, CellState}
+use Rattle.run_model.specs.CellStep.{PortState}
 use Rattle.run_model.specs.Cycle.{LeafState, box_state, cell_state}
 use Rattle.text_forms.specs.declared.refusal.StateRefusal.{StateRefusal}
 use Rattle.text_forms.specs.declared.refusal.StateRefusal.TheVariants.{BadStateLine, EndBefore, TooLarge}
-use Rattle.text_forms.specs.Lines.{leaf_name, leaf_text, ended, is_leaf, is_value}
+use Rattle.text_forms.specs.LogLine.{leaf_text, is_leaf, is_value}
+use Rattle.text_forms.specs.Lines.{leaf_name, ended}
 use Rattle.text_forms.specs.StateText.{pair_words, port_words, leaf_words, leaf_line, at_line, leaf_lines, state_lines, text_of_state}
 use Rattle.text_forms.specs.LeafStates.{rises, is_port_state, is_leaf_state, has_values_in_range, is_word, IsStateOf, has_names}
-use Rattle.text_forms.specs.StateOf.{all_in, pairs_in, port_in, ports_in, leaf_in, if_leaf_state, words_in, read_leaf, Saved, next_line, just, nothing_more, leaves_in, read_at, state_at, state_of}
+use Rattle.text_forms.specs.StateOf.{all_in, pairs_in, port_in, ports_in, leaf_state_in, if_leaf_state, words_in, read_leaf, Saved, next_line, just, leaves_in, read_at, state_at, state_of}
 use Rattle.text_forms.proofs.Written.{has_no, none_at, both, and_true, split_joined, all_digits, no_digit, written, at_most, signed_digits, time_read, value_guess}
 use Rattle.text_forms.proofs.WrittenLines.{Sep, blank, join_no, time_no, value_no, name_no, leaf_no}
 use Rattle.text_forms.proofs.Drawn.{line_end}
@@ -219,7 +219,7 @@ leaf_words_no c s (cell_leaf g first cell) (cell_state x) named f =
     (list_all-append (has_no c) (flat_map port_words x.ports) (map text5 x.variables) ∙ and_true _ _ (ports_no c s x.ports f.1) (values_no c s x.variables f.2)))
 
 -- what is read of the words after the leaf's name
-leaf_guess : (l : Leaf) (s : LeafState) → LeafFits l s → leaf_in l (drop 2 (leaf_words l s)) ≡ Some s
+leaf_guess : (l : Leaf) (s : LeafState) → LeafFits l s → leaf_state_in l (drop 2 (leaf_words l s)) ≡ Some s
 leaf_guess (atomic_leaf name class settings) (box_state b) f =
     ap (λ o. for_some o (λ words. Some (box_state (record { kind = class; settings = settings; state = words })))) (all_back signed_decimal (signed_in (10 ^ 17)) is_word word_back b.state f.2)
     ∙ (λ i. Some (box_state (record { kind = sym f.0 i; settings = sym f.1 i; state = b.state })))
@@ -238,8 +238,8 @@ words_back l (cell_state c) h = split_joined 32 (codes "cell") (leaf_text (leaf_
 leaf_back : (t : ℕ) (l : Leaf) (s : LeafState) → t ≤ 719999998 → is_leaf (leaf_name l) ≡ true → IsStateOf t l s → read_leaf t l (leaf_line l s) ≡ Some s
 leaf_back t l s le named h =
     let f = leaf_fits t l s le h in
-    written (leaf_line l) (if_leaf_state t l (leaf_in l (drop 2 (words_in (leaf_line l s))))) s
-    (ap (λ ws. if_leaf_state t l (leaf_in l (drop 2 ws))) (words_back l s (leaf_words_no 32 blank l s named f))
+    written (leaf_line l) (if_leaf_state t l (leaf_state_in l (drop 2 (words_in (leaf_line l s))))) s
+    (ap (λ ws. if_leaf_state t l (leaf_state_in l (drop 2 ws))) (words_back l s (leaf_words_no 32 blank l s named f))
     ∙ ap (if_leaf_state t l) (leaf_guess l s f) ∙ ap (λ b. cond b (Some s) None) (leaf_holds t l s h))
 
 leaf_line_no : (t : ℕ) (l : Leaf) (s : LeafState) → t ≤ 719999998 → is_leaf (leaf_name l) ≡ true → IsStateOf t l s → has_no 10 (leaf_line l s) ≡ true

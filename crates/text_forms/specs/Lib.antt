@@ -1,3 +1,4 @@
+pub mod LogLine
 pub mod Lines
 pub mod Frames
 pub mod BoxStates

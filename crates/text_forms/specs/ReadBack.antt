@@ -7,7 +7,7 @@ use Rattle.run_model.specs.Cycle.{LeafState}
 use Rattle.quantity.specs.Bytes.{Bytes}
 use Rattle.quantity.specs.ValueTexts.{text5, read_text5}
 use Rattle.quantity.specs.Times.{time_text, read_time}
-use Rattle.text_forms.specs.Lines.{LogLine, is_line, is_value, line_text, read_line}
+use Rattle.text_forms.specs.LogLine.{LogLine, is_line, is_value, line_text, read_line}
 use Rattle.text_forms.specs.LeafStates.{IsStateOf, has_names}
 use Rattle.text_forms.specs.StateText.{text_of_state}
 use Rattle.text_forms.specs.StateOf.{Saved, state_of}

@@ -1,5 +1,5 @@
 -- Texts of states that compute.
-use Rattle.std.specs.Prelude.{◌≡◌, ℕ, true, false, List, [], ◌∷◌, ◌++◌, ℤ, pos, negsuc, codes, Ok, Err}
+use Rattle.std.specs.Prelude.{◌≡◌, true, false, List, [], ◌∷◌, ◌++◌, ℤ, pos, negsuc, codes, Ok, Err}
 use Rattle.atomic_face.specs.declared.class.Class.TheVariants.{Queue}
 use Rattle.model_tree.specs.Examples.{twice_and_once}
 use Rattle.run_model.specs.Cycle.{LeafState}

@@ -39,10 +39,10 @@ ports_in zero ws = Some ([], ws)
 ports_in (suc n) ws =
     for_some (port_in ws) (λ (p, rest). for_some (ports_in n rest) (λ (ps, rest). Some (p ∷ ps, rest)))
 
-abbrev pub leaf_in : Leaf → List Bytes → Option LeafState
-leaf_in (atomic_leaf name class settings) ws =
+abbrev pub leaf_state_in : Leaf → List Bytes → Option LeafState
+leaf_state_in (atomic_leaf name class settings) ws =
     for_some (all_in (signed_in (10 ^ 17)) ws) (λ words. Some (box_state (record { kind = class; settings = settings; state = words })))
-leaf_in (cell_leaf g first cell) ws =
+leaf_state_in (cell_leaf g first cell) ws =
     for_some (ports_in (suc (length g.ports)) ws) (λ (ports, rest).
     for_some (all_in guessed_value rest) (λ xs. Some (cell_state (record { ports = ports; variables = xs }))))
 
@@ -53,7 +53,7 @@ abbrev pub words_in : Bytes → List Bytes
 words_in line = slice_split (λ c. c == 32) line
 
 abbrev pub read_leaf : ℕ → Leaf → Bytes → Option LeafState
-read_leaf t l line = if_written (leaf_line l) line (if_leaf_state t l (leaf_in l (drop 2 (words_in line))))
+read_leaf t l line = if_written (leaf_line l) line (if_leaf_state t l (leaf_state_in l (drop 2 (words_in line))))
 
 -- ---- line after line
 

@@ -9,7 +9,8 @@ use Rattle.run_model.specs.Cycle.{LeafState, box_state, cell_state}
 use Rattle.quantity.specs.Bytes.{Bytes}
 use Rattle.quantity.specs.ValueTexts.{text5}
 use Rattle.quantity.specs.Times.{time_text}
-use Rattle.text_forms.specs.Lines.{leaf_name, leaf_text, ended}
+use Rattle.text_forms.specs.LogLine.{leaf_text}
+use Rattle.text_forms.specs.Lines.{leaf_name, ended}
 
 abbrev pub pair_words : ℕ × Value → List Bytes
 pair_words p = decimal p.0 ∷ text5 p.1 ∷ []
