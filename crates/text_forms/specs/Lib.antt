@@ -1,7 +1,6 @@
 pub mod LogLine
 pub mod Lines
 pub mod Frames
-pub mod BoxStates
 pub mod StateText
 pub mod LeafStates
 pub mod StateOf
