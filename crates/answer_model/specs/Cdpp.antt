@@ -1,12 +1,11 @@
 -- What the simulator answers to words and files.
-use Rattle.std.specs.Prelude.{ℕ, suc, ◌+◌, ◌*◌, nat_lt, Option, Some, None, List, [], ◌++◌}
-use Rattle.std.specs.List.{filter}
+use Rattle.std.specs.Prelude.{ℕ, Option, Some, None, List, [], ◌++◌}
 use Rattle.std.specs.Option.{option_map}
 use Rattle.quantity.specs.Bytes.{Bytes}
 use Rattle.room_edge.specs.Outside.{Folder}
 use Rattle.atomic_face.specs.declared.class.Class.{Class}
 use Rattle.model_tree.specs.Tree.{Word, Tree, ins_of}
-use Rattle.run_model.specs.Run.{Event, RunState, Run, start, run_from}
+use Rattle.run_model.specs.Run.{Event, RunState, Run, start, resumed, run_to}
 use Rattle.event_list.specs.Events.{events_of}
 use Rattle.model_text.specs.Drawings.{Drawing}
 use Rattle.model_text.specs.ModelOf as model_file
@@ -23,11 +22,10 @@ use Rattle.answer_model.specs.RunFiles.{answer_of_run}
 -- the start, or a saved state with the events after its time
 abbrev pub begins : Tree → List Event → Option Saved → RunState
 begins tree events None = start tree events
-begins tree events (Some s) =
-    record { leaf_states = s.states; events = filter (λ (e : Event). nat_lt s.time e.time) events; last = None; count = 0 }
+begins tree events (Some s) = resumed s.time s.states events
 
 unfoldable pub run_on : Tree → List Event → ℕ → ℕ → Option Saved → Run
-run_on tree events end limit from = run_from (suc ((end + 1) * limit)) tree end limit (begins tree events from)
+run_on tree events end limit from = run_to tree end limit (begins tree events from)
 
 -- ---- the stages
 

@@ -11,7 +11,7 @@ use Rattle.rule_syntax.specs.declared.outcome.RuleStop.{RuleStop}
 use Rattle.rule_syntax.specs.declared.outcome.RuleStop.TheVariants.{NoTrueRule, Overflow, BadDelay}
 use Rattle.rule_syntax.specs.Meaning.{whole}
 use Rattle.model_tree.specs.Tree.{Tree, leaves, leaf_count}
-use Rattle.run_model.specs.Run.{Event, PortRecord, Cycle, Verdict, done, too_many, stop, unfinished}
+use Rattle.run_model.specs.Run.{Event, PortRecord, Cycle, Verdict, done, too_many, stop}
 use Rattle.text_forms.specs.LogLine.{leaf_text}
 use Rattle.text_forms.specs.Lines.{leaf_name, ended}
 use Rattle.served_tree.specs.Order.{mark_of}
@@ -76,9 +76,7 @@ shows line = record { status = 0; shown = ended line; complained = [] }
 abbrev pub complains : ℕ → Bytes → Said
 complains status line = record { status = status; shown = []; complained = ended line }
 
--- no run is left unfinished
 abbrev pub said : Asked → Tree → List Event → List Cycle → Verdict → Said
 said a tree events cycles done = shows (done_line a tree cycles ++ mark_text a tree events)
 said a tree events cycles (too_many t) = complains 11 (many_line a.limit t)
 said a tree events cycles (stop leaf t why) = complains (stop_status why) (stop_line tree leaf t why)
-said a tree events cycles unfinished = record { status = 0; shown = []; complained = [] }
