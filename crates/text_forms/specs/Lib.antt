@@ -7,6 +7,7 @@ pub mod StateOf
 pub mod Models
 pub mod ReadBack
 pub mod DrawnLines
+pub mod TextsJoin
 pub mod Examples
 pub mod Rows
 pub mod SavedRows
