@@ -29,12 +29,12 @@ are_sizes (Some ns) = list_all (λ n. int_le (pos 1) n) ns
 abbrev pub is_dim : Bytes → Bool
 is_dim text = are_sizes (tuple text)
 
+abbrev pub is_at_most : ℕ → Option ℕ → Bool
+is_at_most most None = false
+is_at_most most (Some n) = nat_le n most
+
 abbrev pub is_delay_time : Bytes → Bool
-is_delay_time text = is_at_most (whole_number 9 text)
-  where
-    is_at_most : Option ℕ → Bool
-    is_at_most None = false
-    is_at_most (Some n) = nat_le n 359999999
+is_delay_time text = is_at_most 359999999 (whole_number 9 text)
 
 abbrev pub is_one_of : List Bytes → Bytes → Bool
 is_one_of texts text = is_among texts text

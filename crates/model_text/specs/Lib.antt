@@ -11,6 +11,8 @@ pub mod InitialFiles
 pub mod Trees
 pub mod Drawings
 pub mod ModelOf
+pub mod Accepted
+pub mod GroupLaws
 pub mod Models
 pub mod Examples
 pub mod RefusalExamples

@@ -1,11 +1,12 @@
 -- Refusals of models: a line and a kind, and the number, name and text of each kind.
-use Rattle.std.specs.Prelude.{ℕ, ◌==◌, ◌∷◌, ◌++◌, if◌then◌else◌, codes, decimal}
+use Rattle.std.specs.Prelude.{ℕ, ◌∷◌, ◌++◌, codes, decimal}
 use Rattle.quantity.specs.Bytes.{Bytes}
 use Rattle.ma_lines.specs.declared.section.LineRefusal.TheVariants as L
 use Rattle.ma_lines.specs.declared.section.LineRefusal.{LineRefusal}
 use Rattle.model_tree.specs.declared.refusal.LinkRefusal.TheVariants as K
 use Rattle.model_tree.specs.declared.refusal.LinkRefusal.{LinkRefusal}
-use Rattle.source_text.specs.Kinds as R
+use Rattle.rule_syntax.specs.declared.refusal.RuleRefusal.TheVariants as R
+use Rattle.rule_syntax.specs.declared.refusal.RuleRefusal.{RuleRefusal}
 use Rattle.model_text.specs.declared.kind.Kind.{Kind}
 use Rattle.model_text.specs.declared.kind.Kind.TheVariants.{BadLine, DuplicateSection, NoTop, DuplicateKey, MissingKey, BadValue, UnknownComponent, DuplicateComponent, ComponentCycle, UnknownClass, OutOfStock, BadParameter, UnknownPort, SelfLink, PassThrough, DuplicateLink, TooManyRoutes, BadRule, BadSort, RandomRefused, UnknownFunction, NotANeighbour, BadZone, BadInitial, TooLarge, TooLong, NoSection, NoSuchPlane, UnknownVariable, UnknownNeighbourPort}
 
@@ -101,13 +102,13 @@ kind_of_link K.PassThrough = PassThrough
 kind_of_link K.DuplicateLink = DuplicateLink
 kind_of_link K.Memory = UnknownPort
 
-abbrev pub kind_of_rule : ℕ → Kind
-kind_of_rule n =
-    if n == R.bad_sort then BadSort
-    else if n == R.random_refused then RandomRefused
-    else if n == R.unknown_function then UnknownFunction
-    else if n == R.not_a_neighbour then NotANeighbour
-    else if n == R.unknown_variable then UnknownVariable
-    else if n == R.unknown_neighbour_port then UnknownNeighbourPort
-    else if n == R.too_large then TooLarge
-    else BadRule
+abbrev pub kind_of_rule : RuleRefusal → Kind
+kind_of_rule R.BadRule = BadRule
+kind_of_rule R.BadSort = BadSort
+kind_of_rule R.RandomRefused = RandomRefused
+kind_of_rule R.UnknownFunction = UnknownFunction
+kind_of_rule R.NotANeighbour = NotANeighbour
+kind_of_rule R.UnknownVariable = UnknownVariable
+kind_of_rule R.UnknownNeighbourPort = UnknownNeighbourPort
+kind_of_rule R.TooLarge = TooLarge
+kind_of_rule R.Memory = BadRule

@@ -15,6 +15,7 @@ use Rattle.model_text.specs.declared.kind.Kind.TheVariants.{TooLarge, NoSection}
 use Rattle.model_text.specs.Refusals.{Refusal, refusal, kind_of_rule}
 use Rattle.ma_lines.specs.declared.section.Entry.{Entry}
 use Rattle.ma_lines.specs.Sections.{Section}
+use Rattle.rule_syntax.specs.declared.refusal.RuleRefusal.{RuleRefusal}
 use Rattle.rule_syntax.specs.Scope.{Names}
 use Rattle.rule_syntax.specs.RuleOf.{rule_of}
 use Rattle.model_text.specs.Keyed.{section_named, entries_of, texts_of, Item, least}
@@ -63,7 +64,7 @@ absent ss i = if is_some (section_named ss i.text) then [] else refusal i.line N
 abbrev pub rule_refused : Names → Entry → List Refusal
 rule_refused names e = refused (rule_of names e.value)
   where
-    refused : Result Rule ℕ → List Refusal
+    refused : Result Rule RuleRefusal → List Refusal
     refused (Ok r) = []
     refused (Err why) = refusal e.line (kind_of_rule why) ∷ []
 
