@@ -20,3 +20,6 @@ pub use raw::Raw;
 pub use time::Time;
 pub use truth::Tri;
 pub use value::{Compare, Overflow, Value};
+
+#[cfg(test)]
+mod tests;
