@@ -237,7 +237,8 @@ body_no c n le d p =
     list_all-append (λ x. not (x == c)) (decimal (n / 100000)) (46 ∷ last_digits 5 n)
     ∙ and_true _ _ (no_digit c d (decimal (n / 100000)) (whole_is n le).digits) (and_true _ _ (ap not p) (no_in_last c d 5 n))
 
-fits : (z : ℤ) → IsBounded (Num z) → bounded z ≡ Some (Num z)
+-- a number that isn't too large is a value
+pub fits : (z : ℤ) → IsBounded (Num z) → bounded z ≡ Some (Num z)
 fits (pos n) le = let e : nat_le n (10 ^ 15) ≡ true = grind (arith, nat_tests) in ap (λ b. cond b (Some (Num (pos n))) None) e
 fits (negsuc n) le = let e : nat_le (suc n) (10 ^ 15) ≡ true = grind (arith, nat_tests) in ap (λ b. cond b (Some (Num (negsuc n))) None) e
 

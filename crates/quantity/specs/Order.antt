@@ -1,11 +1,11 @@
 -- How comparisons agree with each other, and what too large is.
-use Rattle.std.specs.Prelude.{◌≡◌, ◌<◌, ◌^◌, ◌↔◌, None, ℤ, unsigned_abs}
+use Rattle.std.specs.Prelude.{◌≡◌, ◌<◌, ◌^◌, ◌↔◌, None, Some, ℤ, unsigned_abs}
 use Rattle.quantity.specs.declared.truth.Tri.TheVariants.{True, Undef}
 use Rattle.quantity.specs.declared.value.Compare.{Compare}
 use Rattle.quantity.specs.declared.value.Compare.TheVariants.{Equal, Unequal, Less, LessEqual, Greater, GreaterEqual}
 use Rattle.quantity.specs.declared.value.Value.{Value}
 use Rattle.quantity.specs.declared.value.Value.TheVariants.{Undefined}
-use Rattle.quantity.specs.Arithmetic.{bounded, least_of, greatest_of, comparison}
+use Rattle.quantity.specs.Arithmetic.{IsBounded, bounded, sum_of, least_of, greatest_of, whole_part, fraction_of, comparison}
 use Rattle.quantity.specs.Truth.{negation, disjunction}
 
 pub record ComparisonsAgree : Type 0 where
@@ -24,3 +24,7 @@ pub record ComparisonsAgree : Type 0 where
 -- a raw number makes no value just where it is too large
 abbrev pub OverflowsPastTheBound : Type 0
 OverflowsPastTheBound = (raw : ℤ) → (bounded raw ≡ None) ↔ (10 ^ 15 < unsigned_abs raw)
+
+-- the whole part of a number and what is left make the number
+abbrev pub PartsMakeTheNumber : Type 0
+PartsMakeTheNumber = (a : Value) → IsBounded a → sum_of (whole_part a) (fraction_of a) ≡ Some a

@@ -1,6 +1,6 @@
 // Laws of the definitions, and values worked out by them.
 ghost use Rattle.quantity.specs.Examples.{ComparisonsAsSaid, FunctionsAsSaid, LiteralsAsSaid, NamesAsSaid, ProductsAsSaid, SumsAsSaid, TextsAsSaid, TimesAsSaid};
-ghost use Rattle.quantity.specs.Order.{ComparisonsAgree, OverflowsPastTheBound};
+ghost use Rattle.quantity.specs.Order.{ComparisonsAgree, OverflowsPastTheBound, PartsMakeTheNumber};
 ghost use Rattle.quantity.specs.ReadBack.{ReadsNothingElse, ReadsWhatIsWritten};
 ghost use Rattle.quantity.specs.Tables.{LogicLaws, TablesAsSaid};
 
@@ -22,6 +22,11 @@ pub fn order()
 /// A result overflows exactly where its raw number passes 10^15.
 pub fn overflow()
     ensures { OverflowsPastTheBound }
+{}
+
+/// The whole part of a number and what is left make the number.
+pub fn whole_and_fraction()
+    ensures { PartsMakeTheNumber }
 {}
 
 /// What is written of a value or a time is read back.

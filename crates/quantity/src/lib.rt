@@ -1,4 +1,4 @@
-// Values, truth values, times, places and names.
+// Values, truth values, times, places and names, with their texts.
 #![tactic(auto)]
 
 pub mod digits;
