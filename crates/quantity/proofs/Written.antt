@@ -24,7 +24,7 @@ use Rattle.quantity.specs.Literals.{is_number_of, unsigned_raw, signed_raw}
 use Rattle.quantity.specs.Times.{hours_text, time_text, time_of, read_time, milliseconds_of}
 use Rattle.quantity.specs.ValueTexts.{guessed_value, text5, read_text5, minus_if}
 use Rattle.quantity.specs.ReadBack.{ReadsWhatIsWritten}
-use Rattle.quantity.proofs.DigitLemmas.{all_ascii_digits-list_all}
+use Rattle.quantity.proofs.DigitLemmas.{all_ascii_digits-list_all, both}
 
 -- ---- parts that are joined and split
 
@@ -37,11 +37,6 @@ not_false false e = refl
 
 pub none_at : (c : ℕ) (part : Bytes) → has_no c part ≡ true → All (λ x. (x == c) ≡ false) part
 none_at c part h k d lt = not_false _ (AllPass-from_list_all (λ x. not (x == c)) part h k d lt)
-
-pub both : (a b : Bool) → a && b ≡ true → (a ≡ true) × (b ≡ true)
-both true true e = (refl, refl)
-both true false e = absurd cc
-both false b e = absurd cc
 
 pub and_true : (a b : Bool) → a ≡ true → b ≡ true → a && b ≡ true
 and_true a b e f = ap (λ x. x && b) e ∙ f
@@ -242,7 +237,8 @@ body_no c n le d p =
     list_all-append (λ x. not (x == c)) (decimal (n / 100000)) (46 ∷ last_digits 5 n)
     ∙ and_true _ _ (no_digit c d (decimal (n / 100000)) (whole_is n le).digits) (and_true _ _ (ap not p) (no_in_last c d 5 n))
 
-fits : (z : ℤ) → IsBounded (Num z) → bounded z ≡ Some (Num z)
+-- a number that isn't too large is a value
+pub fits : (z : ℤ) → IsBounded (Num z) → bounded z ≡ Some (Num z)
 fits (pos n) le = let e : nat_le n (10 ^ 15) ≡ true = grind (arith, nat_tests) in ap (λ b. cond b (Some (Num (pos n))) None) e
 fits (negsuc n) le = let e : nat_le (suc n) (10 ^ 15) ≡ true = grind (arith, nat_tests) in ap (λ b. cond b (Some (Num (negsuc n))) None) e
 

@@ -10,3 +10,5 @@ pub mod ValueTexts
 pub mod Times
 pub mod ReadBack
 pub mod Tables
+pub mod Examples
+pub mod Order
