@@ -52,7 +52,7 @@ mutual
       zip-append HasPorts (leaves_from t first) (all_leaves_from ts (first + leaf_count t)) (taken_in t n give (own (name_of t))) (all_taken_in ts (n + leaf_count t) give own)
       (taken-fits t first n give (own (name_of t))) (all_taken-fits ts (first + leaf_count t) (n + leaf_count t) give own)
 
-abbrev TakesAt : Leaf → Bag → Type 0
+abbrev pub TakesAt : Leaf → Bag → Type 0
 TakesAt l bag = All (λ (i : PortNo × Value). IsInPort l i.0.0) bag
 
 in_port : (l : Leaf) (port : ℕ) → port < in_ports l → IsInPort l port
@@ -65,7 +65,7 @@ bag-fits l ports h =
     (λ p lt. map-each (λ (i : PortNo × Value). IsInPort l i.0.0) (λ v. (record { 0 = p.0 }, v)) (λ v. ⊤) (λ v t. in_port l p.0 lt) p.1 (λ k d q. tt))
     (enumerate_from 0 ports) (numbers-below ports 0 (in_ports l) (omega (arith, h)))
 
-bags-fit : (tree : Tree) (gave : List Bag) (top : Word → List Value) → AllZip TakesAt (leaves tree) (bags tree gave top)
+pub bags-fit : (tree : Tree) (gave : List Bag) (top : Word → List Value) → AllZip TakesAt (leaves tree) (bags tree gave top)
 bags-fit tree gave top =
     zip-map HasPorts TakesAt bag_of bag-fits (leaves tree) (pulled tree (given_by_leaf gave) top) (taken-fits tree 0 0 (given_by_leaf gave) top)
 
@@ -135,7 +135,7 @@ leaf_moved-fits t emitted woken bag (cell_leaf g first cell) (cell_state c) h =
     stepped (Ok d) k = k
     stepped (Err why) k = tt
 
-abbrev MovesTo : Leaf → Moved → Type 0
+abbrev pub MovesTo : Leaf → Moved → Type 0
 MovesTo l m = MovedHas (Fits l) m
 
 asked-fits : (t : ℕ) (emitted : List LeafState) (gave : List Bag) (l : Leaf) (s : LeafState) (bag : Bag) → Fits l s → MovesTo l (asked t emitted gave l s bag)
@@ -151,7 +151,7 @@ all_asked-fit t emitted gave (l ∷ ls) [] bags h k = absurd h
 all_asked-fit t emitted gave (l ∷ ls) (s ∷ ss) [] h k = absurd k
 all_asked-fit t emitted gave (l ∷ ls) (s ∷ ss) (b ∷ bs) h k = (asked-fits t emitted gave l s b h.0, all_asked-fit t emitted gave ls ss bs h.1 k.1)
 
-moves-fit : (tree : Tree) (t : ℕ) (s : RunState) → FitsTree tree s.leaf_states → AllZip MovesTo (leaves tree) (moves_at tree t s)
+pub moves-fit : (tree : Tree) (t : ℕ) (s : RunState) → FitsTree tree s.leaf_states → AllZip MovesTo (leaves tree) (moves_at tree t s)
 moves-fit tree t s h =
     all_asked-fit t (map (leaf_emitted t) s.leaf_states) (collected t s.leaf_states) (leaves tree) s.leaf_states (bags tree (collected t s.leaf_states) (at_top tree t s.events)) h
     (bags-fit tree (collected t s.leaf_states) (at_top tree t s.events))
@@ -161,7 +161,7 @@ after-fits l s stayed h k = h
 after-fits l s (moved n) h k = k
 after-fits l s (stopped why) h k = h
 
-all_after-fit : (ls : List Leaf) (ss : List LeafState) (ms : List Moved) → AllZip Fits ls ss → AllZip MovesTo ls ms → AllZip Fits ls (all_after ss ms)
+pub all_after-fit : (ls : List Leaf) (ss : List LeafState) (ms : List Moved) → AllZip Fits ls ss → AllZip MovesTo ls ms → AllZip Fits ls (all_after ss ms)
 all_after-fit [] [] [] h k = tt
 all_after-fit [] [] (m ∷ ms) h k = absurd k
 all_after-fit [] (s ∷ ss) ms h k = absurd h
