@@ -17,17 +17,18 @@ pub record Cycled (tree : Tree) (end limit : ℕ) (s n : RunState) (c : Cycle) (
   pub few : cycles_at t s < limit
   pub cycle : c ≡ cycle_of tree t (collected t s.leaf_states) (at_top tree t s.events) (moves_at tree t s)
   pub next : n ≡ state_after t s (moves_at tree t s)
+  pub none : first_stop 0 (moves_at tree t s) ≡ None
 
 module _ (tree : Tree) (end limit : ℕ) (s n : RunState) (c : Cycle) where
-  by_stop : (t : ℕ) (o : Option (ℕ × RuleStop)) (d : Cycle) (m : RunState) → unless_stop t o d m ≡ cycled c n → (c ≡ d) × (n ≡ m)
-  by_stop t None d m e = (cc, cc)
+  by_stop : (t : ℕ) (o : Option (ℕ × RuleStop)) (d : Cycle) (m : RunState) → unless_stop t o d m ≡ cycled c n → (c ≡ d) × (n ≡ m) × (o ≡ None)
+  by_stop t None d m e = (cc, cc, refl)
   by_stop t (Some p) d m e = absurd (cc)
 
   by_limit : (t : ℕ) (b : Bool) → nat_le limit (cycles_at t s) ≡ b → next_instant s ≡ Some t → t ≤ end → cond b (ended (too_many t)) (cycled_at tree t s) ≡ cycled c n → Cycled tree end limit s n c t
   by_limit t true is instant within e = absurd (cc)
   by_limit t false is instant within e =
       let both = by_stop t (first_stop 0 (moves_at tree t s)) (cycle_of tree t (collected t s.leaf_states) (at_top tree t s.events) (moves_at tree t s)) (state_after t s (moves_at tree t s)) e in
-      record { instant = instant; within = within; few = grind (arith, nat_tests); cycle = both.0; next = both.1 }
+      record { instant = instant; within = within; few = grind (arith, nat_tests); cycle = both.0; next = both.1; none = both.2 }
 
   by_end : (t : ℕ) (b : Bool) → nat_lt end t ≡ b → next_instant s ≡ Some t → cond b (ended done) (cond (nat_le limit (cycles_at t s)) (ended (too_many t)) (cycled_at tree t s)) ≡ cycled c n → Cycled tree end limit s n c t
   by_end t true is instant e = absurd (cc)
