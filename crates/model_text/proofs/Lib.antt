@@ -6,3 +6,6 @@ mod Keys
 mod Offsets
 mod GroupOffsets
 mod Values
+mod GroupKeys
+mod Sizes
+mod GroupNames

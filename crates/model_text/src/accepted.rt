@@ -1,6 +1,6 @@
 // Laws of the models that are accepted.
 ghost use Rattle.model_text.specs.Accepted.{FirstPhaseDecides, PassesEachPhase, ComponentsDiffer, AtomicsFit, LinksAreAccepted};
-ghost use Rattle.model_text.specs.GroupLaws.{OffsetsAreRight, ValuesFit};
+ghost use Rattle.model_text.specs.GroupLaws.{OffsetsAreRight, ValuesFit, SizesAreRight, NamesAreRight};
 
 /// The first phase that refuses decides, in the order of the phases.
 pub fn first_phase_decides()
@@ -35,4 +35,14 @@ pub fn accepted_offsets_are_right()
 /// A group has as many initial values as cells, whatever its rows and files.
 pub fn accepted_groups_have_a_value_for_each_cell()
     ensures { ValuesFit }
+{}
+
+/// The groups of an accepted model have at least one cell, and a default delay of at most 99:59:59:999.
+pub fn accepted_groups_have_right_sizes()
+    ensures { SizesAreRight }
+{}
+
+/// The groups of an accepted model have at most 8 variables and 3 further ports, with different names and a value for each.
+pub fn accepted_groups_have_right_names()
+    ensures { NamesAreRight }
 {}
