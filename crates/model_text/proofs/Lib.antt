@@ -9,3 +9,5 @@ mod Values
 mod GroupKeys
 mod Sizes
 mod GroupNames
+mod GroupRules
+mod Numbers

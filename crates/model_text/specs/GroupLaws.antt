@@ -1,17 +1,20 @@
 -- What the phases say of the groups of an accepted model.
-use Rattle.std.specs.Prelude.{◌≡◌, ◌≤◌, true, false, None, List, [], ◌∷◌, length, codes}
-use Rattle.std.specs.List.{list_all, AllByRecursion}
+use Rattle.std.specs.Prelude.{◌≡◌, ◌≤◌, ◌&&◌, nat_lt, true, false, None, List, [], ◌∷◌, map, length, codes}
+use Rattle.std.specs.List.{list_all, filter_map, AllByRecursion}
 use Rattle.quantity.specs.Bytes.{has_repeat}
 use Rattle.rule_syntax.specs.Phrases.{out}
 use Rattle.cell_grid.specs.Space.{cell_count}
 use Rattle.source_text.specs.Lines.{Files}
 use Rattle.ma_lines.specs.Sections.{Section}
+use Rattle.cell_grid.specs.Region.{Region}
+use Rattle.model_tree.specs.declared.group.PortRule.{PortRule}
 use Rattle.model_tree.specs.Sound.{is_near_offset, offsets_differ}
 use Rattle.model_text.specs.Keyed.{value_of}
 use Rattle.model_text.specs.Walk.{groups}
 use Rattle.model_text.specs.Keys.{keys_refused}
-use Rattle.model_text.specs.Spaces.{space_of, offsets_of, spaces_refused}
-use Rattle.model_text.specs.Trees.{default_delay_of, initial_of, values_of, variables_of, ports_of}
+use Rattle.model_text.specs.Spaces.{space_of, offsets_of, zones_of, port_places, spaces_refused}
+use Rattle.model_text.specs.Rules.{rule_set_number, rule_sets_of, rules_refused}
+use Rattle.model_text.specs.Trees.{default_delay_of, initial_of, values_of, variables_of, ports_of, port_rule_of}
 
 -- at most 128 offsets, near and different
 pub record RightOffsets (s : Section) : Type 0 where
@@ -45,3 +48,12 @@ pub record RightNames (s : Section) : Type 0 where
 
 abbrev pub NamesAreRight : Type 0
 NamesAreRight = (ss : List Section) → keys_refused ss ≡ None → AllByRecursion RightNames (groups ss)
+
+-- a rule set at least, a number of one for each zone, and numbers of sets and cells in range
+pub record RightNumbers (ss : List Section) (s : Section) : Type 0 where
+  pub sets : 1 ≤ length (rule_sets_of ss s)
+  pub zones : list_all (λ k. nat_lt k (length (rule_sets_of ss s))) (map (λ (z : Region). rule_set_number s z.name) (zones_of s)) ≡ true
+  pub ports : list_all (λ (p : PortRule). nat_lt p.rules (length (rule_sets_of ss s)) && nat_lt p.cell (cell_count (space_of s))) (filter_map (port_rule_of s) (port_places s)) ≡ true
+
+abbrev pub NumbersAreRight : Type 0
+NumbersAreRight = (ss : List Section) → keys_refused ss ≡ None → rules_refused ss ≡ None → AllByRecursion (RightNumbers ss) (groups ss)

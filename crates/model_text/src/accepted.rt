@@ -1,6 +1,6 @@
 // Laws of the models that are accepted.
 ghost use Rattle.model_text.specs.Accepted.{FirstPhaseDecides, PassesEachPhase, ComponentsDiffer, AtomicsFit, LinksAreAccepted};
-ghost use Rattle.model_text.specs.GroupLaws.{OffsetsAreRight, ValuesFit, SizesAreRight, NamesAreRight};
+ghost use Rattle.model_text.specs.GroupLaws.{OffsetsAreRight, ValuesFit, SizesAreRight, NamesAreRight, NumbersAreRight};
 
 /// The first phase that refuses decides, in the order of the phases.
 pub fn first_phase_decides()
@@ -45,4 +45,9 @@ pub fn accepted_groups_have_right_sizes()
 /// The groups of an accepted model have at most 8 variables and 3 further ports, with different names and a value for each.
 pub fn accepted_groups_have_right_names()
     ensures { NamesAreRight }
+{}
+
+/// The groups of an accepted model have a rule set, and each number of a rule set or cell is in range.
+pub fn accepted_groups_have_right_numbers()
+    ensures { NumbersAreRight }
 {}
