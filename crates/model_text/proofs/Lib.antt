@@ -11,3 +11,4 @@ mod Sizes
 mod GroupNames
 mod GroupRules
 mod Numbers
+mod SoundRules
