@@ -39,7 +39,7 @@ space_parts s h =
 few : (n : ℕ) → nat_lt 128 n ≡ false → n ≤ 128
 few n e = search (rules, nat_tests)
 
-right_offsets : (s : Section) → of_space s ≡ [] → RightOffsets s
+pub right_offsets : (s : Section) → of_space s ≡ [] → RightOffsets s
 right_offsets s h =
     record {
       fit = few (length (offsets_of s)) (if_empty (nat_lt 128 (length (offsets_of s))) (refusal s.line TooLarge) [] (space_parts s h).fit);

@@ -12,3 +12,4 @@ mod GroupNames
 mod GroupRules
 mod Numbers
 mod SoundRules
+mod GroupSound

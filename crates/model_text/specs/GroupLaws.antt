@@ -12,13 +12,13 @@ use Rattle.source_text.specs.Lines.{Files}
 use Rattle.ma_lines.specs.Sections.{Section}
 use Rattle.cell_grid.specs.Region.{Region}
 use Rattle.model_tree.specs.declared.group.PortRule.{PortRule}
-use Rattle.model_tree.specs.Sound.{is_near_offset, offsets_differ}
+use Rattle.model_tree.specs.Sound.{is_near_offset, offsets_differ, is_sound_group}
 use Rattle.model_text.specs.Keyed.{value_of}
 use Rattle.model_text.specs.Walk.{groups}
 use Rattle.model_text.specs.Keys.{keys_refused}
 use Rattle.model_text.specs.Spaces.{space_of, offsets_of, zones_of, port_places, spaces_refused}
 use Rattle.model_text.specs.Rules.{rule_set_number, rule_sets_of, rules_refused}
-use Rattle.model_text.specs.Trees.{default_delay_of, initial_of, values_of, variables_of, ports_of, port_rule_of}
+use Rattle.model_text.specs.Trees.{default_delay_of, initial_of, values_of, variables_of, ports_of, port_rule_of, group_of}
 
 -- at most 128 offsets, near and different
 pub record RightOffsets (s : Section) : Type 0 where
@@ -65,3 +65,9 @@ NumbersAreRight = (ss : List Section) → keys_refused ss ≡ None → rules_ref
 -- a text that is a rule of a group is a sound one
 abbrev pub RulesAreSound : Type 0
 RulesAreSound = (names : Names) (text : Bytes) (r : Rule) → rule_of names text ≡ Ok r → is_sound (extent_of names) r ≡ true
+
+-- the groups of an accepted model are sound
+abbrev pub GroupsAreSound : Type 0
+GroupsAreSound =
+    (files : Files) (ss : List Section) → keys_refused ss ≡ None → spaces_refused ss ≡ None → rules_refused ss ≡ None →
+    AllByRecursion (λ s. is_sound_group (group_of files ss s) ≡ true) (groups ss)

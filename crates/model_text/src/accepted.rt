@@ -1,6 +1,6 @@
 // Laws of the models that are accepted.
 ghost use Rattle.model_text.specs.Accepted.{FirstPhaseDecides, PassesEachPhase, ComponentsDiffer, AtomicsFit, LinksAreAccepted};
-ghost use Rattle.model_text.specs.GroupLaws.{OffsetsAreRight, ValuesFit, SizesAreRight, NamesAreRight, NumbersAreRight, RulesAreSound};
+ghost use Rattle.model_text.specs.GroupLaws.{OffsetsAreRight, ValuesFit, SizesAreRight, NamesAreRight, NumbersAreRight, RulesAreSound, GroupsAreSound};
 
 /// The first phase that refuses decides, in the order of the phases.
 pub fn first_phase_decides()
@@ -55,4 +55,9 @@ pub fn accepted_groups_have_right_numbers()
 /// A text that is a rule of a group is a sound rule.
 pub fn accepted_rules_are_sound()
     ensures { RulesAreSound }
+{}
+
+/// The groups of an accepted model are sound.
+pub fn accepted_groups_are_sound()
+    ensures { GroupsAreSound }
 {}
