@@ -13,3 +13,6 @@ mod GroupRules
 mod Numbers
 mod SoundRules
 mod GroupSound
+mod Steps
+mod Parts
+mod Top

@@ -39,7 +39,7 @@ item_is_right ss before around i e =
     let parts = both_false (bytes_eq (name_of i) top) (is_among around (name_of i)) cycle.0 in
     record { form = form.0; not_top = parts.0; not_around = parts.1; new = new.0; fits = fits.0; found = found.0 }
 
-mapped_none : (line : ℕ) (o : Option Kind) → option_map (refusal line) o ≡ None → o ≡ None
+pub mapped_none : (line : ℕ) (o : Option Kind) → option_map (refusal line) o ≡ None → o ≡ None
 mapped_none line None e = refl
 mapped_none line (Some k) e = absurd (some_none e)
 

@@ -1,5 +1,5 @@
 // Laws of the models that are accepted.
-ghost use Rattle.model_text.specs.Accepted.{FirstPhaseDecides, PassesEachPhase, ComponentsDiffer, AtomicsFit, LinksAreAccepted};
+ghost use Rattle.model_text.specs.Accepted.{FirstPhaseDecides, PassesEachPhase, ComponentsDiffer, AtomicsFit, LinksAreAccepted, PartsAreSound};
 ghost use Rattle.model_text.specs.GroupLaws.{OffsetsAreRight, ValuesFit, SizesAreRight, NamesAreRight, NumbersAreRight, RulesAreSound, GroupsAreSound};
 
 /// The first phase that refuses decides, in the order of the phases.
@@ -60,4 +60,9 @@ pub fn accepted_rules_are_sound()
 /// The groups of an accepted model are sound.
 pub fn accepted_groups_are_sound()
     ensures { GroupsAreSound }
+{}
+
+/// The components of an accepted model are sound.
+pub fn accepted_components_are_sound()
+    ensures { PartsAreSound }
 {}
