@@ -120,7 +120,7 @@ ports_differ s before (e ∷ es) h d =
 
 -- ---- rule sets
 
-shorter : {X Y : Type 0} (f : X → Option Y) (xs : List X) → length (filter_map f xs) ≤ length xs
+pub shorter : {X Y : Type 0} (f : X → Option Y) (xs : List X) → length (filter_map f xs) ≤ length xs
 shorter f [] = omega arith
 shorter {X} {Y} f (x ∷ xs) = go (f x) (shorter f xs)
   where

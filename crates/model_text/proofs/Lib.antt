@@ -16,3 +16,6 @@ mod GroupSound
 mod Steps
 mod Parts
 mod Top
+mod Totals
+mod Bare
+mod Whole

@@ -54,7 +54,7 @@ pub record ItemTree (n : ℕ) (files : Files) (ss : List Section) (i : Item) : T
   pub outs : F.outputs_of (Some (tree_at_item n files ss i)) ≡ L.outputs_of ss (Some i)
   pub sound : is_sound_part (tree_at_item n files ss i) ≡ true
 
-find_is : (name : Bytes) (ss : List Section) (t : Section) → section_named ss name ≡ Some t → t.name ≡ name
+pub find_is : (name : Bytes) (ss : List Section) (t : Section) → section_named ss name ≡ Some t → t.name ≡ name
 find_is name [] t e = absurd (none_some e)
 find_is name (s ∷ ss) t e = go (λ f. find_is name ss t f) (bytes_eq s.name name) refl e
   where
@@ -177,7 +177,7 @@ coupled_sound n files ss line s e r g h =
     (subst (λ is. has_child (trees (map (tree_at_item n files ss) is)) ≡ true) (sym filled.2) refl) (ap not r.ins) (ap not r.outs)
     (subst (λ f. are_accepted f [] (links_of s) ≡ true) (same_face n files ss s g h) r.links) (children_sound n files ss (children_of s) h)
 
-no_children : (s : Section) → is_group s ≡ true → children_of s ≡ []
+pub no_children : (s : Section) → is_group s ≡ true → children_of s ≡ []
 no_children s g = ap (λ b. cond b [] (items_of (codes "components") s)) g
 
 group_face : (files : Files) (ss : List Section) (s : Section) → is_group s ≡ true → face_of ss s ≡ face_of_group (group_of files ss s)
@@ -195,7 +195,7 @@ group_sound files ss s r g =
 
 -- ---- the walk, section by section
 
-abbrev AllMet : Files → List Section → List Step → Type 0
+abbrev pub AllMet : Files → List Section → List Step → Type 0
 AllMet files ss steps = AllByRecursion (Met files ss) steps
 
 pub split_all : {X : Type 0} (P : X → Type 0) (xs ys : List X) → AllByRecursion P (xs ++ ys) → AllByRecursion P xs × AllByRecursion P ys
@@ -209,8 +209,22 @@ item_steps n ss around i =
 pub is_below : (ss : List Section) (around : List Bytes) (i : Item) → is_among around (name_of i) ≡ false → below ss around i ≡ section_of ss i
 is_below ss around i e = ap (λ b. cond b None (section_of ss i)) e
 
-abbrev Walks : ℕ → Files → List Section → Type 0
+abbrev pub Walks : ℕ → Files → List Section → Type 0
 Walks n files ss = (around : List Bytes) (line : ℕ) (s : Section) → AllMet files ss (walk_from n ss around line s) → Component n files ss s
+
+-- an item that no section stands behind has a class
+pub class_there : (ss : List Section) (around : List Bytes) (i : Item) → RightItem ss around i × (is_atomic i ≡ true → is_some (class_of_item i) ≡ true) → section_of ss i ≡ None → (is_atomic i ≡ true) × (c : Class) × (class_of_item i ≡ Some c)
+class_there ss around i h e =
+    let a = is_atomic_item (is_atomic i) (subst (λ o. (not (is_atomic i) && not (is_some o)) ≡ false) e h.0.1.found) in
+    let c = found (class_of_item i) (h.1 a) in
+    (a, c.0, c.1)
+  where
+    is_atomic_item : (b : Bool) → (not b && true) ≡ false → b ≡ true
+    is_atomic_item true f = refl
+    is_atomic_item false f = absurd (true_false f)
+    found : (o : Option Class) → is_some o ≡ true → (c : Class) × (o ≡ Some c)
+    found None f = absurd (true_false (sym f))
+    found (Some c) f = (c, refl)
 
 item_tree : (n : ℕ) (files : Files) (ss : List Section) → Walks n files ss → (around : List Bytes) (i : Item) → AllMet files ss (item_steps n ss around i) → ItemTree n files ss i
 item_tree n files ss walks around i h = go (section_of ss i) refl
@@ -227,11 +241,21 @@ item_tree n files ss walks around i h = go (section_of ss i) refl
         let steps : AllMet files ss (walk_from n ss around i.line t) = subst (λ (o : Option Section). AllMet files ss (let x : List Step = elim o [ None ↦ [] | Some u ↦ walk_from n ss around i.line u ] in x)) (is_below ss around i h.0.0.1.not_around ∙ e) h.1 in
         item_of_section n files ss i t e (walks around i.line t steps)
 
-item_trees : (n : ℕ) (files : Files) (ss : List Section) → Walks n files ss → (around : List Bytes) (is : List Item) → AllMet files ss (flat_map (item_steps n ss around) is) → ItemTrees n files ss is
+pub item_trees : (n : ℕ) (files : Files) (ss : List Section) → Walks n files ss → (around : List Bytes) (is : List Item) → AllMet files ss (flat_map (item_steps n ss around) is) → ItemTrees n files ss is
 item_trees n files ss walks around [] h = tt
 item_trees n files ss walks around (i ∷ is) h =
     let p = split_all (Met files ss) (item_steps n ss around i) (flat_map (item_steps n ss around) is) h in
     (item_tree n files ss walks around i p.0, item_trees n files ss walks around is p.1)
+
+pub made_group : (n : ℕ) (files : Files) (ss : List Section) (s : Section) → is_group s ≡ true → component_of (suc n) files ss s ≡ cells (group_of files ss s) ∷ []
+made_group n files ss s g =
+    ap (λ b. let x : List Tree = cond b (cells (group_of files ss s)) (coupled s.name (texts_of (codes "in") s) (texts_of (codes "out") s) (trees (flat_map (child n files ss) (children_of s))) (links_of s)) ∷ [] in x) g
+
+pub made_coupled : (n : ℕ) (files : Files) (ss : List Section) (s : Section) → is_group s ≡ false → ItemTrees n files ss (children_of s)
+    → component_of (suc n) files ss s ≡ coupled s.name (texts_of (codes "in") s) (texts_of (codes "out") s) (trees (map (tree_at_item n files ss) (children_of s))) (links_of s) ∷ []
+made_coupled n files ss s g kids =
+    ap (λ b. let x : List Tree = cond b (cells (group_of files ss s)) (coupled s.name (texts_of (codes "in") s) (texts_of (codes "out") s) (trees (flat_map (child n files ss) (children_of s))) (links_of s)) ∷ [] in x) g
+    ∙ ap (λ ts. let x : List Tree = coupled s.name (texts_of (codes "in") s) (texts_of (codes "out") s) (trees ts) (links_of s) ∷ [] in x) (alone n files ss (children_of s) kids)
 
 pub components_are_sound : (n : ℕ) (files : Files) (ss : List Section) → Walks n files ss
 components_are_sound zero files ss around line s h = absurd (some_none h.0.0)
@@ -241,7 +265,7 @@ components_are_sound (suc n) files ss around line s h =
   where
     go : (b : Bool) → is_group s ≡ b → ItemTrees n files ss (children_of s) → Component (suc n) files ss s
     go true g kids =
-        let made : component_of (suc n) files ss s ≡ cells (group_of files ss s) ∷ [] = ap (λ b. let x : List Tree = cond b (cells (group_of files ss s)) (coupled s.name (texts_of (codes "in") s) (texts_of (codes "out") s) (trees (flat_map (child n files ss) (children_of s))) (links_of s)) ∷ [] in x) g in
+        let made = made_group n files ss s g in
         record {
           one = subst (λ ts. ts ≡ first_tree ts ∷ []) (sym made) refl;
           name = subst (λ ts. T.name_of (first_tree ts) ≡ s.name) (sym made) refl;
@@ -250,9 +274,7 @@ components_are_sound (suc n) files ss around line s h =
           sound = subst (λ ts. is_sound_part (first_tree ts) ≡ true) (sym made) (group_sound files ss s h.0.1 g);
         }
     go false g kids =
-        let made : component_of (suc n) files ss s ≡ coupled s.name (texts_of (codes "in") s) (texts_of (codes "out") s) (trees (map (tree_at_item n files ss) (children_of s))) (links_of s) ∷ [] =
-            ap (λ b. let x : List Tree = cond b (cells (group_of files ss s)) (coupled s.name (texts_of (codes "in") s) (texts_of (codes "out") s) (trees (flat_map (child n files ss) (children_of s))) (links_of s)) ∷ [] in x) g
-            ∙ ap (λ ts. let x : List Tree = coupled s.name (texts_of (codes "in") s) (texts_of (codes "out") s) (trees ts) (links_of s) ∷ [] in x) (alone n files ss (children_of s) kids) in
+        let made = made_coupled n files ss s g kids in
         record {
           one = subst (λ ts. ts ≡ first_tree ts ∷ []) (sym made) refl;
           name = subst (λ ts. T.name_of (first_tree ts) ≡ s.name) (sym made) refl;

@@ -16,7 +16,7 @@ use Rattle.model_text.proofs.Basics.{some_none, true_false}
 use Rattle.model_text.proofs.Steps.{Met, walk_is_met}
 use Rattle.model_text.proofs.Parts.{Component, components_are_sound}
 
-no_top_refused : (o : Option Section) → cond (is_some o) None (Some (refusal 0 NoTop)) ≡ None → is_some o ≡ true
+pub no_top_refused : (o : Option Section) → cond (is_some o) None (Some (refusal 0 NoTop)) ≡ None → is_some o ≡ true
 no_top_refused None e = absurd (some_none e)
 no_top_refused (Some s) e = refl
 

@@ -8,7 +8,7 @@ use Rattle.source_text.specs.Lines.{Files}
 use Rattle.ma_lines.specs.Sections.{Section, sections_of}
 use Rattle.atomic_face.specs.declared.class.Class.{Class}
 use Rattle.model_tree.specs.Tree.{Tree}
-use Rattle.model_tree.specs.Sound.{are_accepted, is_sound_part}
+use Rattle.model_tree.specs.Sound.{are_accepted, is_sound_part, is_sound_model}
 use Rattle.model_text.specs.Refusals.{Refusal}
 use Rattle.model_text.specs.Walk.{top, name_of, items_in, walk, reached, atomics, top_refused, tree_refused}
 use Rattle.model_text.specs.Keys.{keys_refused}
@@ -88,3 +88,10 @@ LinksAreAccepted =
 -- each component is sound: its ports differ, its links are accepted in order, its groups are sound, and it has a child
 abbrev pub PartsAreSound : Type 0
 PartsAreSound = (files : Files) (classes : List Class) (ss : List Section) → Passed classes ss → is_sound_part (tree_of files ss) ≡ true
+
+-- ---- accepted models are sound
+
+abbrev pub ReadsSoundModels : Type 0
+ReadsSoundModels =
+    (bytes : Bytes) (files : Files) (classes : List Class) (drawing : Option Drawing) (t : Tree) →
+    (model_of bytes files classes drawing).found ≡ model t → is_sound_model t ≡ true

@@ -1,5 +1,5 @@
 // Laws of the models that are accepted.
-ghost use Rattle.model_text.specs.Accepted.{FirstPhaseDecides, PassesEachPhase, ComponentsDiffer, AtomicsFit, LinksAreAccepted, PartsAreSound};
+ghost use Rattle.model_text.specs.Accepted.{FirstPhaseDecides, PassesEachPhase, ComponentsDiffer, AtomicsFit, LinksAreAccepted, PartsAreSound, ReadsSoundModels};
 ghost use Rattle.model_text.specs.GroupLaws.{OffsetsAreRight, ValuesFit, SizesAreRight, NamesAreRight, NumbersAreRight, RulesAreSound, GroupsAreSound};
 
 /// The first phase that refuses decides, in the order of the phases.
@@ -65,4 +65,9 @@ pub fn accepted_groups_are_sound()
 /// The components of an accepted model are sound.
 pub fn accepted_components_are_sound()
     ensures { PartsAreSound }
+{}
+
+/// Every model that is accepted is sound.
+pub fn accepted_models_are_sound()
+    ensures { ReadsSoundModels }
 {}
