@@ -120,6 +120,7 @@ same_bare (suc n) files ss s = go (is_group s) (same_child (same_bare n files ss
         by_section : (o : Option Section) → map bare (elim o [ None ↦ atomic_of ss i (class_of_item i) | Some u ↦ component_of n files ss u ]) ≡ map bare (elim o [ None ↦ atomic_of ss i (class_of_item i) | Some u ↦ component_of n no_files ss u ])
         by_section None = refl
         by_section (Some t) = later t
+
     go : (b : Bool) → ((i : Item) → map bare (child n files ss i) ≡ map bare (child n no_files ss i))
         → map bare (cond b (cells (group_of files ss s)) (coupled s.name (texts_of (codes "in") s) (texts_of (codes "out") s) (trees (flat_map (child n files ss) (children_of s))) (links_of s)) ∷ [])
         ≡ map bare (cond b (cells (group_of no_files ss s)) (coupled s.name (texts_of (codes "in") s) (texts_of (codes "out") s) (trees (flat_map (child n no_files ss) (children_of s))) (links_of s)) ∷ [])

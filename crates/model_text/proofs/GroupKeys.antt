@@ -1,5 +1,5 @@
 -- What the phase of keys says of each section and group of an accepted model.
-use Rattle.std.proofs.Common.{◌≡◌, Bool, true, false, cond, None, List, [], ◌∷◌, ◌++◌, refl, sym, ap, ◌∙◌, subst}
+use Rattle.std.proofs.Common.{◌≡◌, Bool, true, false, cond, None, List, [], ◌∷◌, ◌++◌, refl, subst}
 use Rattle.std.specs.Prelude.{codes}
 use Rattle.std.specs.List.{filter, flat_map, AllByRecursion}
 use Rattle.ma_lines.specs.Sections.{Section}

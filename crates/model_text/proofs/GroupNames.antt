@@ -1,10 +1,10 @@
 -- The variables and further ports of a group have different names, and a value for each.
-use Rattle.std.proofs.Common.{◌≡◌, ℕ, suc, ◌≤◌, Bool, true, false, cond, Option, Some, None, List, [], ◌∷◌, map, length, refl, sym, ap, ◌∙◌, subst, arith, rules}
-use Rattle.std.specs.Prelude.{◌&&◌, ◌||◌, ◌==◌, not, replicate, codes}
+use Rattle.std.proofs.Common.{◌≡◌, ℕ, suc, ◌≤◌, Bool, true, false, Option, Some, None, List, [], ◌∷◌, length, refl, sym, ap, ◌∙◌, subst, arith, rules}
+use Rattle.std.specs.Prelude.{◌&&◌, ◌||◌, ◌==◌, not, codes}
 use Rattle.std.proofs.lemmas.List.{length-replicate}
 use Rattle.std.proofs.lemmas.Bool.{and_parts}
 use Rattle.std.proofs.lemmas.Bool.Decides.{nat_tests}
-use Rattle.std.specs.List.{filter_map, cons_option, list_all, AllByRecursion}
+use Rattle.std.specs.List.{filter_map, cons_option, list_all}
 use Rattle.std.specs.Option.{is_some}
 use Rattle.quantity.specs.declared.value.Value.{Value}
 use Rattle.quantity.specs.declared.value.Value.TheVariants.{Undefined}
@@ -13,7 +13,7 @@ use Rattle.quantity.specs.Digits.{has_length, is_between}
 use Rattle.quantity.specs.Literals.{value_in}
 use Rattle.rule_syntax.specs.Phrases.{out}
 use Rattle.ma_lines.specs.Sections.{Section}
-use Rattle.model_text.specs.Keyed.{value_of, texts_of}
+use Rattle.model_text.specs.Keyed.{value_of}
 use Rattle.model_text.specs.Walk.{groups}
 use Rattle.model_text.specs.Forms.{is_value_text, is_word, are_words, are_ports}
 use Rattle.model_text.specs.Keys.{group_keys, values_fit, group_forms}

@@ -1,35 +1,31 @@
 -- The rule sets of a group: there is one, each number of one is in range, and each has at most 1024 rules.
-use Rattle.std.proofs.Common.{◌≡◌, ℕ, zero, suc, ◌+◌, ◌-◌, ◌*◌, ◌≤◌, ◌<◌, Bool, true, false, cond, Option, Some, None, List, [], ◌∷◌, ◌++◌, map, length, take, drop, refl, sym, ap, ◌∙◌, subst, arith, rules}
-use Rattle.std.specs.Prelude.{◌&&◌, ◌||◌, ◌==◌, not, nat_le, nat_lt, min, codes}
+use Rattle.std.proofs.Common.{◌≡◌, ℕ, suc, ◌+◌, ◌*◌, ◌≤◌, ◌<◌, Bool, true, false, cond, Option, Some, None, List, [], ◌∷◌, ◌++◌, map, length, refl, sym, ap, ◌∙◌, subst, arith, rules}
+use Rattle.std.specs.Prelude.{◌&&◌, not, nat_lt, codes}
 use Rattle.std.proofs.Math.Nat.{mul_comm}
 use Rattle.std.proofs.lemmas.Nat.{mul-add-lt}
-use Rattle.std.proofs.lemmas.List.{length-map, length-take, length-drop}
+use Rattle.std.proofs.lemmas.List.{length-map}
 use Rattle.std.proofs.lemmas.Bool.{and_parts}
 use Rattle.std.proofs.lemmas.Bool.Decides.{nat_tests}
-use Rattle.std.specs.List.{find, filter, filter_map, cons_option, list_all, list_any, position, position_or_len, flat_map, AllByRecursion}
-use Rattle.std.specs.Option.{option_map, option_and_then, is_some, unwrap_or}
+use Rattle.std.specs.List.{find, filter, filter_map, cons_option, list_all, position, position_or_len, flat_map, AllByRecursion}
+use Rattle.std.specs.Option.{option_map, is_some, unwrap_or}
 use Rattle.std.specs.Str.{bytes_eq}
 use Rattle.quantity.specs.declared.place.Place.{Place}
-use Rattle.quantity.specs.Bytes.{Bytes, is_empty}
-use Rattle.rule_syntax.specs.Expression.{Rule}
-use Rattle.rule_syntax.specs.Scope.{Names}
+use Rattle.quantity.specs.Bytes.{Bytes}
 use Rattle.cell_grid.specs.Space.{Space, cell_count, plane_count, cell_at, number_of}
 use Rattle.cell_grid.specs.Places.{place_in, cell_in}
-use Rattle.cell_grid.specs.Region.{Region}
-use Rattle.cell_grid.specs.ZoneTexts.{zone_in}
 use Rattle.model_tree.specs.Pull.{distinct}
 use Rattle.ma_lines.specs.declared.section.Entry.{Entry}
 use Rattle.ma_lines.specs.Sections.{Section}
-use Rattle.model_text.specs.declared.kind.Kind.TheVariants.{NoSection, TooLarge}
+use Rattle.model_text.specs.declared.kind.Kind.TheVariants.{NoSection}
 use Rattle.model_text.specs.Refusals.{refusal}
-use Rattle.model_text.specs.Keyed.{section_named, entries_of, first_entry, Item}
+use Rattle.model_text.specs.Keyed.{section_named, entries_of, Item}
 use Rattle.model_text.specs.Keys.{has_key}
 use Rattle.model_text.specs.Forms.{PortRuleText, port_rule_text}
-use Rattle.model_text.specs.Spaces.{space_of, zones_of, PortPlace, port_place, port_places}
-use Rattle.model_text.specs.Rules.{names_of, name_at, zone_item, port_item, rules_named, rule_sets_named, rule_set_number, absent, too_many, rule_refused, of_rules, sections_named, of_group_rules, rules_in, rule_sets_of}
+use Rattle.model_text.specs.Spaces.{space_of, PortPlace, port_place, port_places}
+use Rattle.model_text.specs.Rules.{names_of, name_at, zone_item, port_item, rules_named, rule_sets_named, rule_set_number, absent, sections_named, rules_in, rule_sets_of}
 use Rattle.model_text.specs.Trees.{port_rule_of}
 use Rattle.model_tree.specs.declared.group.PortRule.{PortRule}
-use Rattle.model_text.proofs.Basics.{none_some, cons_nil, true_false, both_empty, each_empty, unless_empty, both_true, all_imply}
+use Rattle.model_text.proofs.Basics.{none_some, true_false, each_empty, unless_empty, both_true}
 use Rattle.model_text.proofs.Keys.{some_same}
 use Rattle.model_text.proofs.Offsets.{all_kept}
 use Rattle.model_text.proofs.Values.{on_there, all_found}
@@ -118,6 +114,7 @@ cell_at_below s p c e = go (nat_lt p.row s.rows && nat_lt p.column s.columns && 
     placed row column plane rows columns planes h1 h2 h3 =
         let inner : row * columns + column < rows * columns = subst (λ n. row * columns + column < n) (mul_comm columns rows) (mul-add-lt row columns column rows h1 h2) in
         subst (λ n. (row * columns + column) * planes + plane < n) (mul_comm planes (rows * columns)) (mul-add-lt (row * columns + column) planes plane (rows * columns) inner h3)
+
     go : (b : Bool) → (nat_lt p.row s.rows && nat_lt p.column s.columns && nat_lt p.plane (plane_count s)) ≡ b → cond b (Some (number_of s p.row p.column p.plane)) None ≡ Some c → c < cell_count s
     go true h e =
         let a = and_parts (nat_lt p.row s.rows && nat_lt p.column s.columns) (nat_lt p.plane (plane_count s)) h in

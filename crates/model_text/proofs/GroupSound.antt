@@ -1,6 +1,6 @@
 -- The groups of an accepted model are sound.
-use Rattle.std.proofs.Common.{◌≡◌, ℕ, zero, suc, ◌+◌, ◌-◌, ◌≤◌, ◌<◌, Bool, true, false, cond, Option, Some, None, List, [], ◌∷◌, ◌++◌, map, length, take, drop, refl, sym, ap, ◌∙◌, subst, arith, rules}
-use Rattle.std.specs.Prelude.{◌&&◌, ◌||◌, ◌==◌, not, nat_le, nat_lt, min, codes}
+use Rattle.std.proofs.Common.{◌≡◌, ℕ, ◌-◌, ◌≤◌, ◌<◌, Bool, true, false, Option, Some, None, List, [], ◌∷◌, ◌++◌, map, length, take, drop, refl, sym, ap, ◌∙◌, subst, arith, rules}
+use Rattle.std.specs.Prelude.{◌&&◌, ◌==◌, not, nat_le, nat_lt, min, codes}
 use Rattle.std.specs.declared.result.Result.{Result}
 use Rattle.std.specs.declared.result.Result.TheVariants.{Ok, Err}
 use Rattle.std.proofs.lemmas.List.{length-map, length-take, length-drop, append-nil}
@@ -11,7 +11,7 @@ use Rattle.std.specs.List.{filter_map, cons_option, list_all, list_any, flat_map
 use Rattle.std.specs.Option.{option_map, is_some}
 use Rattle.std.specs.Result.{result_ok}
 use Rattle.std.specs.Str.{bytes_eq}
-use Rattle.quantity.specs.Bytes.{Bytes, is_empty, has_repeat}
+use Rattle.quantity.specs.Bytes.{is_empty, has_repeat}
 use Rattle.rule_syntax.specs.declared.refusal.RuleRefusal.{RuleRefusal}
 use Rattle.rule_syntax.specs.Phrases.{out}
 use Rattle.rule_syntax.specs.Expression.{Rule}
@@ -22,7 +22,6 @@ use Rattle.source_text.specs.Lines.{Files}
 use Rattle.ma_lines.specs.declared.section.Entry.{Entry}
 use Rattle.ma_lines.specs.Sections.{Section}
 use Rattle.model_tree.specs.declared.group.PortRule.{PortRule}
-use Rattle.model_tree.specs.Tree.{Group}
 use Rattle.model_tree.specs.Sound.{extent, is_near_offset, offsets_differ, same_place, places_differ, has_right_names, has_right_rules, is_sound_group}
 use Rattle.model_text.specs.declared.kind.Kind.TheVariants.{BadValue, TooLarge}
 use Rattle.model_text.specs.Refusals.{refusal}
@@ -30,10 +29,10 @@ use Rattle.model_text.specs.Keyed.{entries_of, at_entry}
 use Rattle.model_text.specs.Walk.{groups}
 use Rattle.model_text.specs.Spaces as S
 use Rattle.model_text.specs.Spaces.{space_of, offsets_of, zones_of, PortPlace, port_place, port_places, same_cell, is_new_place, ports_refused, of_space}
-use Rattle.model_text.specs.Rules.{names_of, rules_named, rule_sets_named, rule_set_number, absent, too_many, rule_refused, of_rules, sections_named, of_group_rules, rules_in, rule_sets_of}
-use Rattle.model_text.specs.Trees.{port_rule_of, group_of, initial_of, default_delay_of}
-use Rattle.model_text.specs.GroupLaws.{RightOffsets, RightSizes, RightNames, RightNumbers, GroupsAreSound}
-use Rattle.model_text.proofs.Basics.{none_some, cons_nil, true_false, both_false, neither, both_empty, each_empty, each_of_phase, both_true, not_true, all_imply, entry_is_right, differs_back}
+use Rattle.model_text.specs.Rules.{names_of, rules_named, rule_sets_named, rule_set_number, absent, too_many, rule_refused, of_rules, sections_named, of_group_rules, rules_in}
+use Rattle.model_text.specs.Trees.{port_rule_of, group_of}
+use Rattle.model_text.specs.GroupLaws.{RightNames, RightNumbers, GroupsAreSound}
+use Rattle.model_text.proofs.Basics.{none_some, true_false, both_false, neither, both_empty, each_empty, each_of_phase, both_true, not_true, all_imply, entry_is_right, differs_back}
 use Rattle.model_text.proofs.Keys.{some_same}
 use Rattle.model_text.proofs.Values.{all_found, values_fit}
 use Rattle.model_text.proofs.GroupKeys.{KeyedGroup, groups_keyed}
@@ -188,7 +187,7 @@ group_is_sound files ss s k space rules' =
     let sizes = right_sizes s k in
     let offsets = right_offsets s space in
     let first = six (nat_lt 0 (cell_count g.space)) (length g.initial == cell_count g.space) (nat_le g.default_delay 359999999) (nat_le (length g.offsets) 128) (list_all is_near_offset g.offsets) (offsets_differ g.offsets)
-        (is_lower 0 (cell_count g.space) (above (cell_count g.space) sizes.cells)) (as_many (length g.initial) (cell_count g.space) (values_fit files s)) (at_most g.default_delay 359999999 sizes.delay) (at_most (length g.offsets) 128 offsets.fit) offsets.near offsets.differ in
+    (is_lower 0 (cell_count g.space) (above (cell_count g.space) sizes.cells)) (as_many (length g.initial) (cell_count g.space) (values_fit files s)) (at_most g.default_delay 359999999 sizes.delay) (at_most (length g.offsets) 128 offsets.fit) offsets.near offsets.differ in
     both_true (nat_lt 0 (cell_count g.space) && (length g.initial == cell_count g.space) && nat_le g.default_delay 359999999 && nat_le (length g.offsets) 128 && list_all is_near_offset g.offsets && offsets_differ g.offsets && has_right_names g) (has_right_rules g)
     (both_true (nat_lt 0 (cell_count g.space) && (length g.initial == cell_count g.space) && nat_le g.default_delay 359999999 && nat_le (length g.offsets) 128 && list_all is_near_offset g.offsets && offsets_differ g.offsets) (has_right_names g) first (right_names_of_group files ss s (right_names s k)))
     (right_rules_of_group files ss s (right_numbers ss s k rules') space rules')

@@ -1,14 +1,13 @@
 -- The components of an accepted model are sound.
 use Rattle.std.proofs.Common.{◌≡◌, ℕ, zero, suc, Bool, true, false, cond, Option, Some, None, List, [], ◌∷◌, ◌++◌, map, refl, sym, ap, ◌∙◌, subst}
-use Rattle.std.specs.Prelude.{◌&&◌, ◌||◌, ◌==◌, not, codes}
+use Rattle.std.specs.Prelude.{◌&&◌, not, codes}
 use Rattle.std.specs.List.{find, flat_map, AllByRecursion}
-use Rattle.std.specs.Option.{option_or, is_some}
+use Rattle.std.specs.Option.{is_some}
 use Rattle.std.specs.Str.{bytes_eq}
 use Rattle.quantity.specs.Bytes.{Bytes, is_among, has_repeat, is_empty}
 use Rattle.rule_syntax.specs.Phrases.{out}
 use Rattle.cell_grid.specs.Space.{cell_count}
 use Rattle.atomic_face.specs.declared.class.Class.{Class}
-use Rattle.atomic_face.specs.ClassNames.{class_ports}
 use Rattle.atomic_face.specs.Settings.{settings_of}
 use Rattle.source_text.specs.Lines.{Files}
 use Rattle.ma_lines.specs.Sections.{Section}
@@ -17,18 +16,17 @@ use Rattle.model_tree.specs.Tree.{Tree, Trees, coupled, cells, atomic, nil, cons
 use Rattle.model_tree.specs.Faces as F
 use Rattle.model_tree.specs.Faces.{Face, child_of, face_of_coupled, face_of_group}
 use Rattle.model_tree.specs.Sound.{are_accepted, has_child, is_sound_part, are_sound_parts, is_sound_group}
-use Rattle.model_text.specs.declared.kind.Kind.TheVariants.{TooLarge, MissingKey}
-use Rattle.model_text.specs.Refusals.{Refusal, refusal}
+use Rattle.model_text.specs.declared.kind.Kind.TheVariants.{MissingKey}
+use Rattle.model_text.specs.Refusals.{refusal}
 use Rattle.model_text.specs.Keyed.{section_named, first_entry, Item, items_of, texts_of}
-use Rattle.model_text.specs.Walk.{top, is_group, children_of, name_of, is_atomic, section_of, Step, at_section, at_item, below, walk_from, walk, type_refused, section_refused}
+use Rattle.model_text.specs.Walk.{is_group, children_of, name_of, is_atomic, section_of, Step, at_item, below, walk_from, type_refused, section_refused}
 use Rattle.model_text.specs.Spaces.{space_of}
 use Rattle.model_text.specs.Stock.{class_of_item, params_of}
 use Rattle.model_text.specs.Links as L
 use Rattle.model_text.specs.Links.{links_of, child_named, ports_in, inputs_of_class, face_of}
-use Rattle.model_text.specs.Trees.{group_of, atomic_of, trees, component_of, no_tree, first_tree, tree_at, tree_of}
-use Rattle.model_text.proofs.Basics.{some_none, none_some, true_false, both_none, both_false, both_true, if_none}
+use Rattle.model_text.specs.Trees.{group_of, atomic_of, trees, component_of, first_tree}
+use Rattle.model_text.proofs.Basics.{some_none, none_some, true_false, both_none, both_true, if_none}
 use Rattle.model_text.proofs.Keys.{some_same, same_bytes}
-use Rattle.model_text.proofs.Walked.{Right}
 use Rattle.model_text.proofs.Steps.{RightSection, RightItem, Met}
 
 -- ---- the tree of an item
@@ -146,9 +144,9 @@ face_cells s = cond (is_group s) (group_cells s) 0
 same_face : (n : ℕ) (files : Files) (ss : List Section) (s : Section) → is_group s ≡ false → ItemTrees n files ss (children_of s) → face_of ss s ≡ face_of_coupled (texts_of (codes "in") s) (texts_of (codes "out") s) (trees (map (tree_at_item n files ss) (children_of s)))
 same_face n files ss s g h =
     let ins : (c : Bytes) → L.inputs_of ss (child_named s c) ≡ F.inputs_of (child_of (trees (map (tree_at_item n files ss) (children_of s))) c) =
-        λ c. sym (ports_of_child n files ss F.inputs_of (L.inputs_of ss) refl (children_of s) h (each_ins n files ss (children_of s) h) c) in
+    λ c. sym (ports_of_child n files ss F.inputs_of (L.inputs_of ss) refl (children_of s) h (each_ins n files ss (children_of s) h) c) in
     let outs : (c : Bytes) → L.outputs_of ss (child_named s c) ≡ F.outputs_of (child_of (trees (map (tree_at_item n files ss) (children_of s))) c) =
-        λ c. sym (ports_of_child n files ss F.outputs_of (L.outputs_of ss) refl (children_of s) h (each_outs n files ss (children_of s) h) c) in
+    λ c. sym (ports_of_child n files ss F.outputs_of (L.outputs_of ss) refl (children_of s) h (each_outs n files ss (children_of s) h) c) in
     let none : face_cells s ≡ 0 = ap (λ b. cond b (group_cells s) 0) g in
     λ k. record { ins = texts_of (codes "in") s; outs = texts_of (codes "out") s; inputs_of = λ c. ins c k; outputs_of = λ c. outs c k; cells = none k }
 
@@ -222,6 +220,7 @@ class_there ss around i h e =
     is_atomic_item : (b : Bool) → (not b && true) ≡ false → b ≡ true
     is_atomic_item true f = refl
     is_atomic_item false f = absurd (true_false f)
+
     found : (o : Option Class) → is_some o ≡ true → (c : Class) × (o ≡ Some c)
     found None f = absurd (true_false (sym f))
     found (Some c) f = (c, refl)

@@ -1,17 +1,17 @@
 -- The space of a group has a cell, and its default delay is at most 99:59:59:999.
-use Rattle.std.proofs.Common.{◌≡◌, ℕ, zero, suc, ◌+◌, ◌*◌, ◌≤◌, ◌<◌, Bool, true, false, cond, Option, Some, None, List, [], ◌∷◌, ◌++◌, map, length, refl, sym, ap, ◌∙◌, subst, arith, rules}
-use Rattle.std.specs.Prelude.{◌&&◌, ◌||◌, ◌==◌, not, nat_le, nat_lt, ℤ, pos, negsuc, unsigned_abs, int_le, codes}
+use Rattle.std.proofs.Common.{◌≡◌, ℕ, ◌≤◌, Bool, true, false, Option, Some, None, List, [], ◌∷◌, map, refl, sym, ap, ◌∙◌, subst, arith, rules}
+use Rattle.std.specs.Prelude.{◌&&◌, ◌||◌, ℤ, pos, negsuc, unsigned_abs, int_le, codes}
 use Rattle.std.proofs.Math.Nat.{one-le-mul}
 use Rattle.std.proofs.lemmas.Bool.{and_parts}
 use Rattle.std.proofs.lemmas.Bool.Decides.{nat_tests}
-use Rattle.std.specs.List.{find, list_all, slice_split, AllByRecursion}
+use Rattle.std.specs.List.{list_all, slice_split}
 use Rattle.std.specs.Option.{option_map, option_and_then, unwrap_or, is_some}
 use Rattle.std.specs.Bool.{then_some}
 use Rattle.quantity.specs.Bytes.{Bytes, is_byte, trimmed, inside, all_there}
 use Rattle.quantity.specs.Digits.{has_length, whole_number, signed_number}
 use Rattle.source_text.specs.Tuples.{tuple}
 use Rattle.cell_grid.specs.declared.grid.Border.{Border}
-use Rattle.cell_grid.specs.Space.{Space, cell_count}
+use Rattle.cell_grid.specs.Space.{cell_count}
 use Rattle.ma_lines.specs.declared.section.Entry.{Entry}
 use Rattle.ma_lines.specs.Sections.{Section}
 use Rattle.model_text.specs.declared.kind.Kind.TheVariants.{MissingKey}
@@ -20,10 +20,10 @@ use Rattle.model_text.specs.Keyed.{first_entry, value_of}
 use Rattle.model_text.specs.Walk.{groups}
 use Rattle.model_text.specs.Forms.{is_positive, is_size, are_sizes, is_dim, is_at_most, is_delay_time}
 use Rattle.model_text.specs.Keys.{has_key, has_space, group_forms, missing}
-use Rattle.model_text.specs.Spaces.{border_of, space_of_sizes, size_of, sizes_of, space_of}
+use Rattle.model_text.specs.Spaces.{border_of, space_of_sizes, size_of, sizes_of}
 use Rattle.model_text.specs.Trees.{default_delay_of}
 use Rattle.model_text.specs.GroupLaws.{RightSizes, SizesAreRight}
-use Rattle.model_text.proofs.Basics.{none_some, true_false, unless_empty, all_imply}
+use Rattle.model_text.proofs.Basics.{true_false, unless_empty, all_imply}
 use Rattle.model_text.proofs.Keys.{has_form}
 use Rattle.model_text.proofs.Values.{then_there, on_there}
 use Rattle.model_text.proofs.GroupKeys.{KeyedGroup, groups_keyed}
@@ -36,6 +36,7 @@ delay_fits s k = go (value_of (codes "defaultdelaytime") s) (has_form (group_for
     at_most : (o : Option ℕ) → is_at_most 359999999 o ≡ true → unwrap_or o 100 ≤ 359999999
     at_most None e = absurd (true_false (sym e))
     at_most (Some n) e = search (rules, nat_tests)
+
     go : (o : Option Bytes) → ((v : Bytes) → o ≡ Some v → is_delay_time v ≡ true) → unwrap_or (option_and_then (whole_number 9) o) 100 ≤ 359999999
     go None h = omega arith
     go (Some v) h = at_most (whole_number 9 v) (h v refl)
@@ -114,6 +115,7 @@ are_right s k = go (value_of (codes "dim") s) refl (has_form (group_forms s) (co
         let a = a_size (value_of (codes "height") s) (value_there (codes "height") s h) (has_form (group_forms s) (codes "height") is_size refl s.entries k.forms) in
         let b = a_size (value_of (codes "width") s) (value_there (codes "width") s w) (has_form (group_forms s) (codes "width") is_size refl s.entries k.forms) in
         (refl, ap (λ c. c && (int_le (pos 1) (size_of (codes "width") s) && true)) a ∙ ap (λ c. c && true) b)
+
     go : (o : Option Bytes) → value_of (codes "dim") s ≡ o → ((v : Bytes) → o ≡ Some v → is_dim v ≡ true) → AreSizes (unwrap_or (option_and_then tuple o) (size_of (codes "height") s ∷ size_of (codes "width") s ∷ []))
     go None e h =
         let there = (is_there s k.missing).0 in

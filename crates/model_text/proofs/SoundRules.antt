@@ -1,12 +1,12 @@
 -- A text that is a rule of a group is a sound rule.
-use Rattle.std.proofs.Common.{◌≡◌, ℕ, zero, suc, ◌+◌, ◌≤◌, ◌<◌, Bool, true, false, cond, Option, Some, None, List, [], ◌∷◌, ◌++◌, map, length, refl, sym, ap, ◌∙◌, subst, arith, rules}
-use Rattle.std.specs.Prelude.{◌&&◌, ◌||◌, ◌==◌, not, nat_le, nat_lt, codes}
+use Rattle.std.proofs.Common.{◌≡◌, ℕ, suc, ◌+◌, ◌<◌, Bool, true, false, cond, Option, Some, None, List, [], ◌∷◌, ◌++◌, map, length, refl, sym, ap, ◌∙◌, subst, arith, rules}
+use Rattle.std.specs.Prelude.{◌&&◌, ◌==◌, not, nat_le, nat_lt, codes}
 use Rattle.std.specs.declared.result.Result.{Result}
 use Rattle.std.specs.declared.result.Result.TheVariants.{Ok, Err}
 use Rattle.std.proofs.lemmas.Bool.{and_parts}
 use Rattle.std.proofs.lemmas.Bool.Decides.{nat_tests}
 use Rattle.std.proofs.lemmas.Slice.Eq.{bytes_eq-Decides}
-use Rattle.std.specs.List.{flat_map, list_any, list_all, position, position_or_len, prefix_len, slice_split, AllByRecursion}
+use Rattle.std.specs.List.{flat_map, list_any, list_all, position, position_or_len, slice_split, AllByRecursion}
 use Rattle.std.specs.Option.{option_map, option_or, ok_or, is_some, unwrap_or}
 use Rattle.std.specs.Bool.{then_some}
 use Rattle.std.specs.Str.{bytes_eq}
@@ -20,14 +20,12 @@ use Rattle.rule_syntax.specs.Phrases.{Phrase, Phrases, Cell, Assigned, Written, 
 use Rattle.rule_syntax.specs.Grammar.{at_out}
 use Rattle.rule_syntax.specs.Reading as R
 use Rattle.rule_syntax.specs.Reading.{block, given_in, all_assigned, ended_parts, assigned, block_begins, number_before, question_before, cell_phrase_before, value_before, sets_before, delay_before, last_block, phrase_of, written_rule}
-use Rattle.rule_syntax.specs.Scope.{Names, Named, a_cell, a_variable, a_port, offset_of, same_offset, offset_number, variable_number, port_number, named_in, all_named_in, named_by, is_no_neighbour, is_no_variable, is_no_port, numbered, all_numbered, rule_in, has_right_sorts, Extent, extent_of, is_within, are_within, differ, is_sound}
+use Rattle.rule_syntax.specs.Scope.{Names, Named, a_cell, a_variable, a_port, offset_of, same_offset, offset_number, variable_number, port_number, named_in, all_named_in, named_by, is_no_neighbour, is_no_variable, is_no_port, numbered, all_numbered, rule_in, has_right_sorts, extent_of, is_within, are_within, differ, is_sound}
 use Rattle.rule_syntax.specs.RuleOf as Q
 use Rattle.rule_syntax.specs.RuleOf.{has_port_twice, given_ports, unless, where_true, judged, rule_of, words_refused}
 use Rattle.model_text.specs.GroupLaws.{RulesAreSound}
-use Rattle.model_text.proofs.Basics.{none_some, some_none, cons_nil, true_false, both_false, neither, both_true, not_true, is_true, differs_back}
+use Rattle.model_text.proofs.Basics.{none_some, true_false, both_false, neither, both_true, is_true}
 use Rattle.model_text.proofs.Keys.{some_same, same_bytes}
-use Rattle.model_text.proofs.Values.{then_there, on_there}
-use Rattle.model_text.proofs.GroupRules.{all_pass}
 
 lower : (n m : ℕ) → nat_lt n m ≡ true → n < m
 lower n m e = search (rules, nat_tests)
@@ -69,6 +67,7 @@ port_within names w h = go (bytes_eq w out) (is_true (is_some (port_number names
     next : (o : Option ℕ) → (is_some o ≡ true → nat_lt (unwrap_or o 0) (length names.ports) ≡ true) → is_some (option_map (λ k. k + 1) o) ≡ true → nat_le (unwrap_or (option_map (λ k. k + 1) o) 0) (length names.ports) ≡ true
     next None f e = absurd (true_false (sym e))
     next (Some k) f e = let below : k < length names.ports = lower k (length names.ports) (f refl) in search (rules, nat_tests)
+
     go : (b : Bool) → is_some (cond b (Some 0) (option_map (λ k. k + 1) (position (bytes_eq w) names.ports))) ≡ true → nat_le (unwrap_or (cond b (Some 0) (option_map (λ k. k + 1) (position (bytes_eq w) names.ports))) 0) (length names.ports) ≡ true
     go true e = search (rules, nat_tests)
     go false e = next (position (bytes_eq w) names.ports) (place_below (bytes_eq w) names.ports) e
@@ -164,6 +163,7 @@ same_port names a b ha hb e =
     both None p s t ea eb e = absurd (true_false (sym ea))
     both (Some j) None s t ea eb e = absurd (true_false (sym eb))
     both (Some j) (Some k) s t ea eb e = same_position a b names.ports j s (t ∙ ap Some (let same : k ≡ j = omega arith in same))
+
     go : (p : Bool) → bytes_eq a out ≡ p → (q : Bool) → bytes_eq b out ≡ q → is_some (cond p (Some 0) (option_map (λ k. k + 1) (position (bytes_eq a) names.ports))) ≡ true → is_some (cond q (Some 0) (option_map (λ k. k + 1) (position (bytes_eq b) names.ports))) ≡ true
         → unwrap_or (cond q (Some 0) (option_map (λ k. k + 1) (position (bytes_eq b) names.ports))) 0 ≡ unwrap_or (cond p (Some 0) (option_map (λ k. k + 1) (position (bytes_eq a) names.ports))) 0 → a ≡ b
     go true s true t ea eb e = same_bytes a out s ∙ sym (same_bytes b out t)
@@ -222,6 +222,7 @@ assigned_filled kind ts xs e = go (ended_parts (slice_split (is_mark (codes ";")
     then_all : (ps : List (List Token)) → R.and_on (then_some (not (is_empty ps)) ps) (λ qs. all_there (map (assigned kind) qs)) ≡ Some xs → is_empty xs ≡ false
     then_all [] e = absurd (none_some e)
     then_all (p ∷ ps) e = all_there_filled (assigned kind p) (map (assigned kind) ps) xs e
+
     go : (o : Option (List (List Token))) → R.and_on o (λ parts. R.and_on (then_some (not (is_empty parts)) parts) (λ ps. all_there (map (assigned kind) ps))) ≡ Some xs → is_empty xs ≡ false
     go None e = absurd (none_some e)
     go (Some ps) e = then_all ps e
@@ -232,6 +233,7 @@ given_filled ts xs e = go (block_begins (codes "~") ts) e
     one : (o : Option Phrase) → option_map at_out o ≡ Some xs → is_empty xs ≡ false
     one None e = absurd (none_some e)
     one (Some x) e = ap is_empty (sym (some_same (at_out x) xs e))
+
     go : (b : Bool) → cond b (all_assigned (codes "~") ts) (option_map at_out (phrase_of ts)) ≡ Some xs → is_empty xs ≡ false
     go true e = assigned_filled (codes "~") ts xs e
     go false e = one (phrase_of ts) e
@@ -243,13 +245,16 @@ value_filled ts v e =
     at_one : (o : Option (Phrase × List Token)) → option_map (λ x. (at_out x.0, x.1)) o ≡ Some v → is_empty v.0 ≡ false
     at_one None f = absurd (none_some f)
     at_one (Some x) f = ap (λ (w : List Assigned × List Token). is_empty w.0) (sym (some_same (at_out x.0, x.1) v f))
+
     in_block : (o : Option (List Assigned)) (inner rest : List Token) → given_in inner ≡ o → option_map (λ xs. (xs, rest)) o ≡ Some v → is_empty v.0 ≡ false
     in_block None inner rest s f = absurd (none_some f)
     in_block (Some xs) inner rest s f =
         ap (λ (w : List Assigned × List Token). is_empty w.0) (sym (some_same (xs, rest) v f)) ∙ given_filled inner xs s
+
     by_block : (o : Option (List Token × List Token)) → R.and_on o (λ b. option_map (λ xs. (xs, b.1)) (given_in b.0)) ≡ Some v → is_empty v.0 ≡ false
     by_block None f = absurd (none_some f)
     by_block (Some b) f = in_block (given_in b.0) b.0 b.1 refl f
+
     go : (o : Option (List Assigned × List Token)) → R.and_on (block (codes "{") (codes "}") ts) (λ b. option_map (λ xs. (xs, b.1)) (given_in b.0)) ≡ o → option_or o (option_map (λ x. (at_out x.0, x.1)) (option_or (number_before ts) (option_or (question_before ts) (cell_phrase_before ts)))) ≡ Some v → is_empty v.0 ≡ false
     go None s f = at_one (option_or (number_before ts) (option_or (question_before ts) (cell_phrase_before ts))) f
     go (Some w) s f = by_block (block (codes "{") (codes "}") ts) (s ∙ f)
@@ -261,12 +266,15 @@ rule_gives ts r e = at_value (value_before ts) refl e
     at_last : (g : List Assigned) (d : Phrase) (s : List Assigned) (o : Option Phrase) → is_empty g ≡ false → option_map (λ c. let x : Written = record { gives = g; delay = d; condition = c; sets = s } in x) o ≡ Some r → is_empty r.gives ≡ false
     at_last g d s None h f = absurd (none_some f)
     at_last g d s (Some c) h f = ap (λ (w : Written). is_empty w.gives) (sym (some_same (let x : Written = record { gives = g; delay = d; condition = c; sets = s } in x) r f)) ∙ h
+
     at_delay : (g s : List Assigned) (o : Option (Phrase × List Token)) → is_empty g ≡ false → R.and_on o (λ d. option_map (λ c. let x : Written = record { gives = g; delay = d.0; condition = c; sets = s } in x) (last_block d.1)) ≡ Some r → is_empty r.gives ≡ false
     at_delay g s None h f = absurd (none_some f)
     at_delay g s (Some d) h f = at_last g d.0 s (last_block d.1) h f
+
     at_sets : (g : List Assigned) (o : Option (List Assigned × List Token)) → is_empty g ≡ false → R.and_on o (λ s. R.and_on (delay_before s.1) (λ d. option_map (λ c. let x : Written = record { gives = g; delay = d.0; condition = c; sets = s.0 } in x) (last_block d.1))) ≡ Some r → is_empty r.gives ≡ false
     at_sets g None h f = absurd (none_some f)
     at_sets g (Some s) h f = at_delay g s.0 (delay_before s.1) h f
+
     at_value : (o : Option (List Assigned × List Token)) → value_before ts ≡ o → R.and_on o (λ v. R.and_on (sets_before v.1) (λ s. R.and_on (delay_before s.1) (λ d. option_map (λ c. let x : Written = record { gives = v.0; delay = d.0; condition = c; sets = s.0 } in x) (last_block d.1)))) ≡ Some r → is_empty r.gives ≡ false
     at_value None s f = absurd (none_some f)
     at_value (Some v) s f = at_sets v.0 (sets_before v.1) (value_filled ts v s) f
@@ -304,6 +312,7 @@ sound_written names w r filled e =
     seven : (a b c d e f g : Bool) → a ≡ true → b ≡ true → c ≡ true → d ≡ true → e ≡ true → f ≡ true → g ≡ true → (a && b && c && d && e && f && g) ≡ true
     seven a b c d e f g ha hb hc hd he hf hg =
         both_true (a && b && c && d && e && f) g (both_true (a && b && c && d && e) f (both_true (a && b && c && d) e (both_true (a && b && c) d (both_true (a && b) c (both_true a b ha hb) hc) hd) he) hf) hg
+
     mapped_filled : (gs : List Assigned) → is_empty gs ≡ false → not (is_empty (map (give names) gs)) ≡ true
     mapped_filled [] h = absurd (true_false h)
     mapped_filled (g ∷ gs) h = refl
@@ -315,10 +324,12 @@ rules_are_sound names text r e = at_tokens (tokens text) e
     at_rule : (ts : List Token) (o : Option Written) → written_rule ts ≡ o → Q.and_on (ok_or o BadRule) (judged names) ≡ Ok r → is_sound (extent_of names) r ≡ true
     at_rule ts None s f = absurd (err_ok f)
     at_rule ts (Some w) s f = sound_written names w r (rule_gives ts w s) f
+
     at_words : (ts : List Token) (o : Option RuleRefusal) → unless o (unless (where_true (is_large ts) TooLarge) (Q.and_on (ok_or (written_rule ts) BadRule) (judged names))) ≡ Ok r → is_sound (extent_of names) r ≡ true
     at_words ts (Some why) f = absurd (err_ok f)
     at_words ts None f =
         at_rule ts (written_rule ts) refl (passes (is_large ts) TooLarge (Q.and_on (ok_or (written_rule ts) BadRule) (judged names)) r f).1
+
     at_tokens : (o : Option (List Token)) → Q.and_on (ok_or o BadRule) (λ ts. unless (words_refused (words_in ts)) (unless (where_true (is_large ts) TooLarge) (Q.and_on (ok_or (written_rule ts) BadRule) (judged names)))) ≡ Ok r → is_sound (extent_of names) r ≡ true
     at_tokens None f = absurd (err_ok f)
     at_tokens (Some ts) f = at_words ts (words_refused (words_in ts)) f

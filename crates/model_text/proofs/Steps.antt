@@ -1,21 +1,21 @@
 -- What is known of each step of the walk of an accepted model.
-use Rattle.std.proofs.Common.{◌≡◌, ℕ, Bool, true, false, cond, Option, Some, None, List, [], ◌∷◌, ◌++◌, map, refl, sym, ap, ◌∙◌, subst, append-nil}
+use Rattle.std.proofs.Common.{◌≡◌, ℕ, Bool, true, false, cond, Option, Some, None, List, [], ◌∷◌, ◌++◌, map, refl, sym, ap, ◌∙◌, subst}
 use Rattle.std.proofs.Common.{rules}
-use Rattle.std.specs.Prelude.{◌&&◌, ◌||◌, not, codes}
+use Rattle.std.specs.Prelude.{◌||◌, codes}
 use Rattle.std.proofs.lemmas.Slice.Eq.{bytes_eq-Decides}
-use Rattle.std.specs.List.{filter, filter_map, cons_option, flat_map, AllByRecursion}
-use Rattle.std.specs.Option.{option_map, option_or, is_some}
+use Rattle.std.specs.List.{filter, filter_map, AllByRecursion}
+use Rattle.std.specs.Option.{option_map, is_some}
 use Rattle.std.specs.Str.{bytes_eq}
 use Rattle.quantity.specs.Bytes.{Bytes, is_among, has_repeat}
 use Rattle.source_text.specs.Lines.{Files}
 use Rattle.ma_lines.specs.Sections.{Section}
 use Rattle.atomic_face.specs.declared.class.Class.{Class}
 use Rattle.model_tree.specs.Sound.{are_accepted, is_sound_group}
-use Rattle.model_text.specs.declared.kind.Kind.TheVariants.{BadValue, UnknownClass}
+use Rattle.model_text.specs.declared.kind.Kind.TheVariants.{BadValue}
 use Rattle.model_text.specs.declared.kind.Kind.{Kind}
-use Rattle.model_text.specs.Refusals.{Refusal, refusal}
+use Rattle.model_text.specs.Refusals.{refusal}
 use Rattle.model_text.specs.Keyed.{Item, items_of, texts_of}
-use Rattle.model_text.specs.Walk.{is_group, is_atomic, Step, at_section, at_item, item_in, section_in, items_in, walk, reached, groups, atomics, item_refused, section_refused, step_refused, first_step_refused}
+use Rattle.model_text.specs.Walk.{is_group, is_atomic, Step, at_section, at_item, section_in, items_in, walk, reached, groups, atomics, item_refused, section_refused, first_step_refused}
 use Rattle.model_text.specs.Keys.{repeated}
 use Rattle.model_text.specs.Spaces.{of_space}
 use Rattle.model_text.specs.Stock.{class_of_item, box_refused, params_refused, component_refused, first_component_refused}
@@ -23,7 +23,7 @@ use Rattle.model_text.specs.Rules.{of_group_rules}
 use Rattle.model_text.specs.Links.{links_of, face_of}
 use Rattle.model_text.specs.Trees.{group_of}
 use Rattle.model_text.specs.Accepted.{Passed}
-use Rattle.model_text.proofs.Basics.{some_none, cons_nil, true_false, both_none, both_false, neither, both_empty, each_of_phase, all_imply}
+use Rattle.model_text.proofs.Basics.{some_none, cons_nil, true_false, both_none, neither, both_empty, each_of_phase, all_imply}
 use Rattle.model_text.proofs.Keys.{same_bytes}
 use Rattle.model_text.proofs.Walked.{Right, item_is_right, mapped_none}
 use Rattle.model_text.proofs.Linked.{links_are_accepted}

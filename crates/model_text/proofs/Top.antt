@@ -1,20 +1,18 @@
 -- The whole tree of an accepted model.
-use Rattle.std.proofs.Common.{◌≡◌, ℕ, Bool, true, false, cond, Option, Some, None, List, [], ◌∷◌, sym, refl, ap, ◌∙◌, subst}
+use Rattle.std.proofs.Common.{◌≡◌, true, cond, Option, Some, None, [], sym, refl}
 use Rattle.std.specs.List.{AllByRecursion}
 use Rattle.std.specs.Option.{is_some}
-use Rattle.source_text.specs.Lines.{Files}
 use Rattle.ma_lines.specs.Sections.{Section}
-use Rattle.atomic_face.specs.declared.class.Class.{Class}
 use Rattle.model_tree.specs.Sound.{is_sound_part}
 use Rattle.model_text.specs.declared.kind.Kind.TheVariants.{NoTop}
 use Rattle.model_text.specs.Refusals.{refusal}
 use Rattle.model_text.specs.Keyed.{section_named}
-use Rattle.model_text.specs.Walk.{top, walk_at, walk, top_refused}
-use Rattle.model_text.specs.Trees.{first_tree, component_of, tree_at, tree_of}
-use Rattle.model_text.specs.Accepted.{Passed, PartsAreSound}
+use Rattle.model_text.specs.Walk.{top, walk_at}
+use Rattle.model_text.specs.Trees.{tree_at}
+use Rattle.model_text.specs.Accepted.{PartsAreSound}
 use Rattle.model_text.proofs.Basics.{some_none, true_false}
 use Rattle.model_text.proofs.Steps.{Met, walk_is_met}
-use Rattle.model_text.proofs.Parts.{Component, components_are_sound}
+use Rattle.model_text.proofs.Parts.{components_are_sound}
 
 pub no_top_refused : (o : Option Section) → cond (is_some o) None (Some (refusal 0 NoTop)) ≡ None → is_some o ≡ true
 no_top_refused None e = absurd (some_none e)

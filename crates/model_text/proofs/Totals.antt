@@ -1,22 +1,21 @@
 -- What is counted over the tree of an accepted model is what is counted over the walk.
 use Rattle.std.proofs.Common.{◌≡◌, ℕ, zero, suc, ◌+◌, ◌≤◌, Bool, true, false, cond, Option, Some, None, List, [], ◌∷◌, ◌++◌, map, length, refl, sym, ap, ◌∙◌, subst, arith, rules}
-use Rattle.std.specs.Prelude.{max, codes}
-use Rattle.std.specs.List.{flat_map, filter, filter_map, AllByRecursion}
+use Rattle.std.specs.Prelude.{max}
+use Rattle.std.specs.List.{flat_map}
 use Rattle.quantity.specs.Bytes.{Bytes}
 use Rattle.cell_grid.specs.Space.{cell_count}
-use Rattle.atomic_face.specs.declared.class.Class.{Class}
 use Rattle.atomic_face.specs.Settings.{settings_of}
 use Rattle.source_text.specs.Lines.{Files}
 use Rattle.ma_lines.specs.Sections.{Section}
-use Rattle.model_tree.specs.Tree.{Tree, coupled, cells, atomic}
+use Rattle.model_tree.specs.Tree.{Tree, atomic}
 use Rattle.model_tree.specs.Sound.{Totals, totals, all_totals}
-use Rattle.model_text.specs.Keyed.{Item, texts_of}
-use Rattle.model_text.specs.Walk.{is_group, children_of, name_of, is_atomic, section_of, Step, at_section, at_item, item_in, section_in, items_in, below, walk_from}
+use Rattle.model_text.specs.Keyed.{Item}
+use Rattle.model_text.specs.Walk.{is_group, children_of, name_of, is_atomic, section_of, Step, at_section, at_item, walk_from}
 use Rattle.model_text.specs.Spaces.{space_of}
 use Rattle.model_text.specs.Stock.{class_of_item, params_of}
 use Rattle.model_text.specs.Links.{link_of, link_entries, links_of}
-use Rattle.model_text.specs.Trees.{group_of, atomic_of, trees, component_of, first_tree}
-use Rattle.model_text.proofs.Basics.{some_none, true_false}
+use Rattle.model_text.specs.Trees.{atomic_of, trees, component_of, first_tree}
+use Rattle.model_text.proofs.Basics.{some_none}
 use Rattle.model_text.proofs.GroupSound.{shorter}
 use Rattle.model_text.proofs.Steps.{Met}
 use Rattle.model_text.proofs.Parts.{child, tree_at_item, ItemTrees, AllMet, item_steps, is_below, behind, split_all, item_trees, no_children, made_group, made_coupled, class_there, components_are_sound}
@@ -129,8 +128,10 @@ both_counts n ms ns xs ys a b p q c e1 e2 e3 e4 e5 =
   where
     added : (a b k l : ℕ) → a ≡ k → b ≡ l → a + b ≡ k + l
     added a b k l e f = omega arith
+
     less : (c a b k l m : ℕ) → c ≡ a + b → a ≤ k → b ≤ l → m ≡ k + l → c ≤ m
     less c a b k l m e f g h = omega arith
+
     deep : (c a b : ℕ) → c ≡ max a b → a ≤ n → b ≤ n → c ≤ n
     deep c a b e f g = omega arith
 
@@ -173,6 +174,7 @@ count_components (suc n) files ss around line s h =
       where
         plus_none : (a b : ℕ) → b ≡ a → a ≡ b + 0
         plus_none a b e = omega arith
+
         fewer : (a b : ℕ) → a ≤ b → a ≤ b + 0
         fewer a b e = omega arith
     go false g kids c =
@@ -191,7 +193,9 @@ count_components (suc n) files ss around line s h =
       where
         none_plus : (a b : ℕ) → b ≡ 0 → a ≡ b + a
         none_plus a b e = omega arith
+
         added : (a b k l : ℕ) → a ≤ b → k ≤ l → a + k ≤ b + l
         added a b k l e f = omega arith
+
         deeper : (d : ℕ) → d ≤ n → d + 1 ≤ suc n
         deeper d e = search (rules)

@@ -1,9 +1,9 @@
 -- Accepted models are sound.
-use Rattle.std.proofs.Common.{◌≡◌, ℕ, ◌+◌, ◌≤◌, Bool, true, false, cond, Option, Some, None, List, [], ◌∷◌, ◌++◌, map, length, refl, sym, ap, ◌∙◌, subst, arith, rules}
+use Rattle.std.proofs.Common.{◌≡◌, ℕ, ◌+◌, ◌≤◌, Bool, true, false, cond, Option, Some, None, List, [], ◌∷◌, map, length, refl, sym, ap, ◌∙◌, subst, arith, rules}
 use Rattle.std.specs.Prelude.{◌&&◌, ◌||◌, not, nat_le, nat_lt}
 use Rattle.std.proofs.lemmas.Bool.Decides.{nat_tests}
-use Rattle.std.specs.List.{filter, filter_map, fold, sum, AllByRecursion}
-use Rattle.std.specs.Option.{option_or, is_some}
+use Rattle.std.specs.List.{filter, filter_map, fold, AllByRecursion}
+use Rattle.std.specs.Option.{is_some}
 use Rattle.quantity.specs.Bytes.{has_repeat}
 use Rattle.cell_grid.specs.Space.{cell_count}
 use Rattle.source_text.specs.Lines.{Files}
@@ -11,23 +11,23 @@ use Rattle.ma_lines.specs.Sections.{Section}
 use Rattle.atomic_face.specs.declared.class.Class.{Class}
 use Rattle.model_tree.specs.Tree.{Tree, ins_of, outs_of}
 use Rattle.model_tree.specs.Sound.{path_count, totals, is_sound_part, is_within_limits, is_sound_model}
-use Rattle.model_text.specs.declared.kind.Kind.TheVariants.{NoTop, TooLarge, TooManyRoutes}
-use Rattle.model_text.specs.Refusals.{Refusal, refusal}
+use Rattle.model_text.specs.declared.kind.Kind.TheVariants.{TooLarge, TooManyRoutes}
+use Rattle.model_text.specs.Refusals.{refusal}
 use Rattle.model_text.specs.Keyed.{section_named}
-use Rattle.model_text.specs.Walk.{top, name_of, is_group, is_atomic, Step, at_section, at_item, section_in, items_in, walk_at, walk, reached, groups, atomics, tree_refused}
-use Rattle.model_text.specs.Spaces.{space_of, first_large, cells_refused}
+use Rattle.model_text.specs.Walk.{top, name_of, is_group, is_atomic, Step, at_section, at_item, section_in, items_in, walk_at, walk, reached, groups, atomics}
+use Rattle.model_text.specs.Spaces.{space_of, first_large}
 use Rattle.model_text.specs.Links.{link_entries, link_count}
-use Rattle.model_text.specs.Trees.{first_tree, component_of, tree_at, tree_of, no_files}
+use Rattle.model_text.specs.Trees.{tree_at, tree_of, no_files}
 use Rattle.model_text.specs.ModelOf.{has_too_many_links, link_limit_refused, routes_refused}
-use Rattle.model_text.specs.Accepted.{Passed, Accepted, ReadsSoundModels}
-use Rattle.model_text.proofs.Basics.{some_none, none_some, true_false, both_none, both_false, both_true, if_none}
+use Rattle.model_text.specs.Accepted.{Passed, ReadsSoundModels}
+use Rattle.model_text.proofs.Basics.{true_false, both_none, both_false, both_true, if_none}
 use Rattle.model_text.proofs.Phases.{passes_each_phase}
 use Rattle.model_text.proofs.Walked.{components_differ, atomics_fit}
 use Rattle.model_text.proofs.Steps.{Met, walk_is_met}
 use Rattle.model_text.proofs.Parts.{find_is}
 use Rattle.model_text.proofs.Top.{no_top_refused, parts_are_sound}
-use Rattle.model_text.proofs.Totals.{names_in, measure, cells_at, atomics_at, links_at, Counts, count_components}
-use Rattle.model_text.proofs.Bare.{bare, same_ins, same_outs, same_paths, same_tree}
+use Rattle.model_text.proofs.Totals.{names_in, measure, cells_at, atomics_at, links_at, count_components}
+use Rattle.model_text.proofs.Bare.{same_ins, same_outs, same_paths, same_tree}
 
 at_most : (n m : ℕ) → n ≤ m → nat_le n m ≡ true
 at_most n m h = search (rules, nat_tests)
@@ -153,8 +153,10 @@ within_limits files classes ss p =
   where
     less : (n : ℕ) → 0 + n ≤ 1048576 → n ≤ 1048576
     less n h = omega arith
+
     links_counted_walk : measure links_at (walk ss) ≡ link_count ss
     links_counted_walk = links_are (walk ss) ∙ sym (links_counted ss)
+
     go : (o : Option Section) → is_some o ≡ true → ((s : Section) → o ≡ Some s → s.name ≡ top) → AllByRecursion (Met files ss) (walk_at ss o) → has_repeat (top ∷ map name_of (items_in (walk_at ss o))) ≡ false
         → measure atomics_at (walk_at ss o) ≤ 4096 → measure cells_at (walk_at ss o) ≤ 1048576 → measure links_at (walk_at ss o) ≤ 16384 → is_within_limits (totals (tree_at files ss o)) ≡ true
     go None e named h differ atomics cells links = absurd (true_false (sym e))
@@ -168,6 +170,7 @@ within_limits files classes ss p =
       where
         along : (a b m : ℕ) → a ≡ b → b ≤ m → a ≤ m
         along a b m e h = omega arith
+
         less_than : (a b m : ℕ) → a ≤ b → b ≤ m → a ≤ m
         less_than a b m e h = omega arith
 

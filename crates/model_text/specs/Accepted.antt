@@ -19,7 +19,7 @@ use Rattle.model_text.specs.Links.{links_refused, links_of, face_of}
 use Rattle.model_text.specs.InitialFiles.{initial_files, first_file_stop}
 use Rattle.model_text.specs.Drawings.{Drawing, drawing_refused}
 use Rattle.model_text.specs.Trees.{tree_of}
-use Rattle.model_text.specs.ModelOf.{model, ModelRead, unless, link_limit_refused, routes_refused, with_files, model_in, model_of}
+use Rattle.model_text.specs.ModelOf.{model, unless, link_limit_refused, routes_refused, with_files, model_in, model_of}
 
 -- ---- the order of phases
 

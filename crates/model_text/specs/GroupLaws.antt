@@ -1,5 +1,5 @@
 -- What the phases say of the groups of an accepted model.
-use Rattle.std.specs.Prelude.{◌≡◌, ◌≤◌, ◌&&◌, nat_lt, true, false, None, List, [], ◌∷◌, map, length, codes}
+use Rattle.std.specs.Prelude.{◌≡◌, ◌≤◌, ◌&&◌, nat_lt, true, false, None, List, ◌∷◌, map, length, codes}
 use Rattle.std.specs.List.{list_all, filter_map, AllByRecursion}
 use Rattle.std.specs.declared.result.Result.TheVariants.{Ok}
 use Rattle.quantity.specs.Bytes.{Bytes, has_repeat}
