@@ -1,8 +1,8 @@
 -- Sections stand on the texts of lines alone, and comments, carriage returns and outer blanks are no part of these.
-use Rattle.std.specs.Prelude.{◌≡◌, ℕ, ◌==◌, Bool, false, not, List, [], ◌∷◌, ◌++◌}
-use Rattle.std.specs.List.{list_all, list_any}
-use Rattle.quantity.specs.Bytes.{Bytes, is_blank, is_byte}
-use Rattle.source_text.specs.Lines.{lines_of, text_of_line, without_return, without_comment}
+use Rattle.std.specs.Prelude.{◌≡◌, false, [], ◌∷◌, ◌++◌}
+use Rattle.std.specs.List.{list_any}
+use Rattle.quantity.specs.Bytes.{Bytes, is_byte}
+use Rattle.source_text.specs.Lines.{lines_of, without_return, without_comment}
 use Rattle.ma_lines.specs.Sections.{sections_of}
 
 -- files with the same lines have the same sections
