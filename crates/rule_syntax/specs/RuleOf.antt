@@ -1,5 +1,5 @@
 -- The rule that a text is in a group, or its refusal: the first that applies.
-use Rattle.std.specs.Prelude.{◌≡◌, ℕ, Bool, true, false, not, Option, Some, None, List, [], ◌∷◌, ◌++◌, map, length, if◌then◌else◌, codes, ◌↔◌}
+use Rattle.std.specs.Prelude.{◌≡◌, Bool, true, false, not, Option, Some, None, List, [], ◌∷◌, ◌++◌, map, length, if◌then◌else◌, codes, ◌↔◌}
 use Rattle.std.specs.declared.result.Result.{Result}
 use Rattle.std.specs.declared.result.Result.TheVariants.{Ok, Err}
 use Rattle.std.specs.List.{list_any, find}
@@ -13,7 +13,7 @@ use Rattle.rule_syntax.specs.Tokens.{Token, tokens, words_in, is_large}
 use Rattle.rule_syntax.specs.Phrases.{Phrase, expr, Assigned, Written, counts, functions, first_texts}
 use Rattle.rule_syntax.specs.Grammar.{IsPhrase, IsRule}
 use Rattle.rule_syntax.specs.Reading.{phrase_of, written_rule}
-use Rattle.rule_syntax.specs.Scope.{Names, named_by, is_no_neighbour, is_no_variable, is_no_port, rule_in, has_right_sorts}
+use Rattle.rule_syntax.specs.Scope.{Names, named_by, is_no_neighbour, is_no_variable, is_no_port, rule_in, has_right_sorts, extent_of, is_sound}
 
 abbrev pub random_names : List Bytes
 random_names =
@@ -83,19 +83,20 @@ pub data RuleIs (names : Names) (text : Bytes) : Result Rule RuleRefusal → Typ
   no_rule : (ts : List Token) → Readable text ts → ((r : Written) → IsRule ts r → ⊥) → RuleIs names text (Err BadRule)
   a_rule : (ts : List Token) (r : Written) → Readable text ts → IsRule ts r → RuleIs names text (judged names r)
 
--- the rule that is found is the one of the grammar, and where none is found there is none
-abbrev pub IsTheGrammar : Type 0
-IsTheGrammar = (ts : List Token) (r : Written) → (written_rule ts ≡ Some r) ↔ IsRule ts r
+-- what is found is what the grammar says, and all of it
+pub record FindsTheGrammar : Type 0 where
+  pub phrase : (ts : List Token) (x : Phrase) → (phrase_of ts ≡ Some x) ↔ IsPhrase expr ts x
+  pub rule : (ts : List Token) (r : Written) → (written_rule ts ≡ Some r) ↔ IsRule ts r
 
--- a phrase that is found is one of the grammar
-abbrev pub FindsPhrases : Type 0
-FindsPhrases = (ts : List Token) (x : Phrase) → phrase_of ts ≡ Some x → IsPhrase expr ts x
+-- tokens are one phrase at most, and one rule at most
+pub record ReadsOneWay : Type 0 where
+  pub phrase : (ts : List Token) (x y : Phrase) → IsPhrase expr ts x → IsPhrase expr ts y → x ≡ y
+  pub rule : (ts : List Token) (r s : Written) → IsRule ts r → IsRule ts s → r ≡ s
 
--- a rule that is found is one of the grammar
-abbrev pub FindsRules : Type 0
-FindsRules = (ts : List Token) (r : Written) → written_rule ts ≡ Some r → IsRule ts r
-
--- then a text has one outcome, and it is the one that is found
+-- a text has one outcome, and it is the one that is found
 abbrev pub HasOneOutcome : Type 0
-HasOneOutcome =
-    IsTheGrammar → (names : Names) (text : Bytes) (a : Result Rule RuleRefusal) → (rule_of names text ≡ a) ↔ RuleIs names text a
+HasOneOutcome = (names : Names) (text : Bytes) (a : Result Rule RuleRefusal) → (rule_of names text ≡ a) ↔ RuleIs names text a
+
+-- what a text is read to is sound for the group whose names it was read with
+abbrev pub ReadsSoundRules : Type 0
+ReadsSoundRules = (names : Names) (text : Bytes) (r : Rule) → rule_of names text ≡ Ok r → is_sound (extent_of names) r ≡ true
