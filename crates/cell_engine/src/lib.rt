@@ -7,6 +7,9 @@ mod port;
 mod steps;
 pub mod store;
 
+#[cfg(test)]
+mod tests;
+
 pub use plain::{PlainGroup, PlainRule};
 pub use steps::Steps;
 pub use store::{Cell, CellStore};

@@ -1,0 +1,3 @@
+pub mod RingCycle
+pub mod Standing
+pub mod Steps

@@ -1,0 +1,7 @@
+//! The run of a ring of cells, where all cells are asked in each cycle.
+#![tactic(auto)]
+
+mod lines;
+pub mod run;
+
+pub use run::{Progress, RingRun, Stop};
