@@ -1,3 +1,4 @@
+pub mod Holds
 pub mod RingCycle
 pub mod Standing
 pub mod Steps

@@ -1,5 +1,5 @@
 -- A cycle of a ring in shorter words.
-use Rattle.std.specs.Prelude.{◌≡◌, ℕ, zero, suc, ◌+◌, ◌&&◌, ◌||◌, nat_lt, nat_le, Bool, true, false, Option, Some, None, List, [], ◌∷◌, ◌++◌, length, map, slice_index_or, Result, Ok, Err, if◌then◌else◌, codes}
+use Rattle.std.specs.Prelude.{◌≡◌, ℕ, ◌+◌, ◌||◌, nat_lt, Bool, true, false, Option, Some, None, List, [], ◌∷◌, ◌++◌, length, map, slice_index_or, if◌then◌else◌, codes}
 use Rattle.std.specs.List.{flat_map, range_with_len}
 use Rattle.quantity.specs.declared.value.Value.{Value}
 use Rattle.atomic_face.specs.Classes.{is_at}
@@ -9,8 +9,6 @@ use Rattle.text_forms.specs.Lines.{given, line_text, ended}
 use Rattle.cell_engine.specs.declared.plain.PlainRule.{PlainRule}
 use Rattle.cell_engine.specs.Beside.{left, right, computed_cell}
 use Rattle.cell_engine.specs.Store.{Store, cell_of}
-use Rattle.ring_run.specs.declared.run.Ending.{Ending}
-use Rattle.ring_run.specs.declared.run.Ending.TheVariants.{Done, TooManyCycles}
 
 abbrev pub is_due : ℕ → CellState → Bool
 is_due t c = is_at t (cell_next c)
@@ -44,11 +42,10 @@ cells_after rules t cells =
 abbrev pub count_at : Option ℕ → ℕ → ℕ → ℕ
 count_at last count t = if is_at t last then count else 0
 
--- the instant of the next cycle, or how the run ends
-abbrev pub judged : ℕ → ℕ → Option ℕ → ℕ → Option ℕ → Result ℕ Ending
-judged end limit last count None = Err Done
-judged end limit last count (Some t) =
-    if nat_lt end t then Err Done else if nat_le limit (count_at last count t) then Err (TooManyCycles t) else Ok t
+-- the instant of the next cycle, if it isn't after the end
+abbrev pub within : ℕ → Option ℕ → Option ℕ
+within end None = None
+within end (Some t) = if nat_lt end t then None else Some t
 
 -- the ring stays
 pub record KeepsRing (old new : Store) : Type 0 where

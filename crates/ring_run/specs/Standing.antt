@@ -1,5 +1,5 @@
 -- Where the run of a ring stands.
-use Rattle.std.specs.Prelude.{◌≡◌, ℕ, Option, List, []}
+use Rattle.std.specs.Prelude.{ℕ, Option, List, []}
 use Rattle.run_model.specs.CellStep.{CellState}
 use Rattle.run_model.specs.Run.{RunState, Next, next_cycle}
 use Rattle.cell_engine.specs.Ring.{Ring, ring_tree}
@@ -20,9 +20,3 @@ state_of s = record { leaf_states = leaf_states s.cells; events = []; last = s.l
 -- the next cycle of the reference run, or its verdict
 abbrev pub next_of : Standing → Next
 next_of s = next_cycle (ring_tree s.ring) s.end s.limit (state_of s)
-
--- what a run is of
-pub record SameSetting (old new : Standing) : Type 0 where
-  pub ring : new.ring ≡ old.ring
-  pub end : new.end ≡ old.end
-  pub limit : new.limit ≡ old.limit

@@ -4,4 +4,5 @@
 mod lines;
 pub mod run;
 
+pub use cell_engine::Steps;
 pub use run::{Progress, RingRun, Stop};

@@ -15,6 +15,6 @@ pub fn push_line(
 ) -> Result<(), OutOfMemory>
     ensures { OnOk result (text.new.items ≡ text.old.items ++ given_line name.now t i value) }
 {
-    let _ = (alloc, text, name, t, i, value);
+    let _ = (alloc, text.len(), name.as_bytes().len(), t, i, value);
     Err(OutOfMemory)
 }

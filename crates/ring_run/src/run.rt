@@ -1,5 +1,5 @@
 // A run of a ring, cycle by cycle: all cells are asked for their output, and then to move.
-ghost use Rattle.std.specs.Prelude.{◌≡◌, ℕ, ◌<◌, ◌≤◌, List, [], ◌++◌, length, map, OnOk, OnErr, IfOk, IsTrue};
+ghost use Rattle.std.specs.Prelude.{◌≡◌, ℕ, ◌<◌, ◌≤◌, List, [], ◌∷◌, ◌++◌, length, map, OnOk, OnErr, IfOk, IfSome, IsTrue};
 ghost use Rattle.std.specs.List.{range_with_len};
 ghost use Rattle.atomic_face.specs.Classes.{is_at};
 ghost use Rattle.run_model.specs.CellStep.{cell_emitted};
@@ -7,7 +7,7 @@ ghost use Rattle.run_model.specs.Run.{start};
 ghost use Rattle.cell_engine.specs.Ring.{ring_tree};
 ghost use Rattle.cell_engine.specs.Beside as beside;
 ghost use Rattle.cell_engine.specs.Store.{cell_of, cell_at, with_cell, leaf_states, IsRingStore, Store};
-ghost use Rattle.ring_run.specs.RingCycle.{is_due, cell_lines, first_lines, moved_cell, cells_after, judged, KeepsRing};
+ghost use Rattle.ring_run.specs.RingCycle.{is_due, cell_lines, first_lines, moved_cell, cells_after, KeepsRing};
 ghost use Rattle.ring_run.specs.RingCycle as ring;
 
 use crate::lines::push_line;
@@ -31,13 +31,6 @@ pub enum Stop {
     Memory,
 }
 
-// How a run ends.
-#[derive(Clone, Copy, Debug)]
-pub enum Ending {
-    Done,
-    TooManyCycles(Time),
-}
-
 // One cycle.
 fn run_cycle<L: Ledger>(
     alloc: Global,
@@ -53,9 +46,8 @@ fn run_cycle<L: Ledger>(
     ensures ring { IsRingStore store.old }
     ensures log { OnOk result (text.new.items ≡ text.old.items ++ first_lines name.now t store.old.cells (length store.old.cells)) }
 {
-    let count = store.cells();
-    let due = collect(alloc, name, store, count, t, text, steps)?;
-    move_all(store, count, t, &due, steps)
+    let due = collect(alloc, name, store, t, text, steps)?;
+    move_all(store, t, &due, steps)
 }
 
 // Each cell that is due gives its output.
@@ -63,23 +55,29 @@ fn collect<L: Ledger>(
     alloc: Global,
     name: &Name,
     store: &mut CellStore,
-    count: u32,
     t: Time,
     text: &mut Vec<u8>,
     steps: &mut Visits<L>,
 ) -> Result<Vec<bool>, OutOfMemory>
-    requires { count ≡ length store.old.cells }
     ensures cells { OnOk result (store.new.cells ≡ map (cell_emitted t) store.old.cells) }
     ensures due { IfOk result (λ due. due.items ≡ map (is_due t) store.old.cells) }
     ensures kept { KeepsRing store.old store.new }
-    ensures log { OnOk result (text.new.items ≡ text.old.items ++ first_lines name.now t store.old.cells count) }
+    ensures ring { IsRingStore store.old }
+    ensures log { OnOk result (text.new.items ≡ text.old.items ++ first_lines name.now t store.old.cells (length store.old.cells)) }
 {
     let mut due = Vec::new(alloc);
-    for i in 0..count {
+    for i in 0..store.cells() {
         let gave = give(alloc, name, store, i, t, text, steps)?;
-        due.push(gave).map_err(AllocError::from)?;
+        note(&mut due, gave)?;
     }
     Ok(due)
+}
+
+fn note(due: &mut Vec<bool>, gave: bool) -> Result<(), OutOfMemory>
+    ensures { OnOk result (due.new.items ≡ due.old.items ++ gave ∷ []) }
+{
+    due.push(gave).map_err(AllocError::from)?;
+    Ok(())
 }
 
 // A cell that is due gives its output, and the others stay as they are.
@@ -108,20 +106,17 @@ fn give<L: Ledger>(
 // Each woken cell takes the result of its rules.
 fn move_all<L: Ledger>(
     store: &mut CellStore,
-    count: u32,
     t: Time,
     due: &[bool],
     steps: &mut Visits<L>,
 ) -> Result<(), OutOfMemory>
     requires time { t ≤ 359999999 }
-    requires count { count ≡ length store.old.cells }
-    requires length { length due.now ≡ count }
-    requires ring { IsRingStore store.old }
-    ensures cells { OnOk result (store.new.cells ≡ map (moved_cell store.old.rules t due.now store.old.cells) (range_with_len 0 count)) }
+    requires length { length due.now ≡ length store.old.cells }
+    ensures cells { OnOk result (store.new.cells ≡ map (moved_cell store.old.rules t due.now store.old.cells) (range_with_len 0 (length store.old.cells))) }
     ensures kept { KeepsRing store.old store.new }
 {
-    for i in 0..count {
-        move_one(store, count, t, due, i, steps)?;
+    for i in 0..store.cells() {
+        move_one(store, t, due, i, steps)?;
     }
     Ok(())
 }
@@ -129,21 +124,18 @@ fn move_all<L: Ledger>(
 // A woken cell takes the result of its rules, and the others stay as they are.
 fn move_one<L: Ledger>(
     store: &mut CellStore,
-    count: u32,
     t: Time,
     due: &[bool],
     i: u32,
     steps: &mut Visits<L>,
 ) -> Result<(), OutOfMemory>
     requires time { t ≤ 359999999 }
-    requires count { count ≡ length store.old.cells }
-    requires within { i < count }
-    requires length { length due.now ≡ count }
-    requires ring { IsRingStore store.old }
+    requires within { i < length store.old.cells }
+    requires length { length due.now ≡ length store.old.cells }
     ensures ok { OnOk result (store.new ≡ with_cell store.old i (moved_cell store.old.rules t due.now store.old.cells i)) }
     ensures err { OnErr result (store.new ≡ store.old) }
 {
-    if is_woken(due, count as usize, i as usize) {
+    if is_woken(due, store.cells() as usize, i as usize) {
         return store.compute(i, t, steps);
     }
     Ok(())
@@ -190,26 +182,16 @@ fn count_at(last: Option<Time>, count: u32, t: Time) -> u32
     if is_instant(last, t) { count } else { 0 }
 }
 
-// The instant of the next cycle, or how the run ends.
-fn judge(
-    next: Option<Time>,
-    end: Time,
-    limit: u32,
-    last: Option<Time>,
-    count: u32,
-) -> Result<Time, Ending>
-    ensures { result ≡ judged end limit last count next }
+// The instant of the next cycle, if it isn't after the end.
+fn within(next: Option<Time>, end: Time) -> Option<Time>
+    ensures value { result ≡ ring.within end next }
+    ensures bound { IfSome result (λ t. t ≤ end) }
 {
-    let Some(t) = next else {
-        return Err(Ending::Done);
-    };
+    let t = next?;
     if end.ms() < t.ms() {
-        return Err(Ending::Done);
+        return None;
     }
-    if limit <= count_at(last, count, t) {
-        return Err(Ending::TooManyCycles(t));
-    }
-    Ok(t)
+    Some(t)
 }
 
 /// A run of a ring. It is seen as the ring, its cells, the end, the limit, the last instant and the number of its cycles.
@@ -240,27 +222,28 @@ impl RingRun {
     ghost use Rattle.cell_engine.specs.Store.{are_short, ends_always};
     ghost use Rattle.ring_run.specs.Standing.{Standing, state_of};
     ghost use Rattle.ring_run.specs.Steps.{Steps};
+    ghost use Rattle.ring_run.specs.Holds.{ring_from};
 
     /// A run of a ring before its first cycle, up to `end` and with at most `limit` cycles at one instant.
     pub fn new(
         alloc: Global,
         name: Name,
-        group: &PlainGroup,
+        group: PlainGroup,
         end: Time,
         limit: u32,
     ) -> Result<RingRun, OutOfMemory>
-        requires some { 1 ≤ length group.now.values.items }
-        requires most { length group.now.values.items ≤ 1024 }
-        requires short { IsTrue (are_short group.now.rules.items) }
-        requires last { IsTrue (ends_always group.now.rules.items) }
+        requires some { 1 ≤ length group.values.items }
+        requires most { length group.values.items ≤ 1024 }
+        requires short { IsTrue (are_short group.rules.items) }
+        requires last { IsTrue (ends_always group.rules.items) }
         requires end { end ≤ 359999999 }
         requires limit { 1 ≤ limit }
         ensures state { IfOk result (λ r. state_of r ≡ start (ring_tree r.ring) []) }
-        ensures ring { IfOk result (λ r. r.ring ≡ record { name = name; values = group.now.values.items; rules = group.now.rules.items }) }
+        ensures ring { IfOk result (λ r. r.ring ≡ ring_from name group) }
         ensures end { IfOk result (λ r. r.end ≡ end) }
         ensures limit { IfOk result (λ r. r.limit ≡ limit) }
     {
-        let store = CellStore::new(alloc, group)?;
+        let store = CellStore::new(alloc, &group)?;
         Ok(RingRun {
             alloc,
             name,
@@ -281,16 +264,17 @@ impl RingRun {
     ) -> Result<Progress, Stop>
         ensures { Steps self.old text.old.items result self.new text.new.items }
     {
-        let next = self.store.next_time();
-        let t = match judge(next, self.end, self.limit, self.last, self.count) {
-            Ok(t) => t,
-            Err(Ending::Done) => return Ok(Progress::Done),
-            Err(Ending::TooManyCycles(t)) => return Err(Stop::TooManyCycles(t)),
+        let Some(t) = within(self.store.next_time(), self.end) else {
+            return Ok(Progress::Done);
         };
+        let ran = count_at(self.last, self.count, t);
+        if self.limit <= ran {
+            return Err(Stop::TooManyCycles(t));
+        }
         let Ok(()) = run_cycle(self.alloc, &self.name, &mut self.store, t, text, steps) else {
             return Err(Stop::Memory);
         };
-        self.count = count_at(self.last, self.count, t) + 1;
+        self.count = ran + 1;
         self.last = Some(t);
         Ok(Progress::Cycled(t))
     }
