@@ -1,3 +1,5 @@
+pub mod Asked
 pub mod Idle
 pub mod Looped
 pub mod Moves
+pub mod Reference
