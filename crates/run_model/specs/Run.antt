@@ -1,7 +1,7 @@
 -- A run: cycle after cycle, until a verdict.
-use Rattle.std.specs.Prelude.{ℕ, zero, suc, ◌+◌, ◌*◌, Bool, true, false, not, ◌&&◌, ◌==◌, nat_lt, nat_le, Option, Some, None, List, [], ◌∷◌, ◌++◌, map, slice_get, if◌then◌else◌}
+use Rattle.std.specs.Prelude.{ℕ, zero, suc, ◌+◌, ◌*◌, Bool, not, ◌&&◌, ◌==◌, nat_lt, nat_le, Option, Some, None, List, [], ◌∷◌, map, slice_get, if◌then◌else◌}
 use Rattle.std.specs.List.{filter, flat_map, filter_map, enumerate_from, position}
-use Rattle.std.specs.Option.{option_map, unwrap_or}
+use Rattle.std.specs.Option.{option_map}
 use Rattle.std.specs.Str.{bytes_eq}
 use Rattle.quantity.specs.declared.value.Value.{Value}
 use Rattle.rule_syntax.specs.declared.outcome.RuleStop.{RuleStop}
@@ -10,7 +10,7 @@ pub use Rattle.event_list.specs.Events.{Event}
 use Rattle.atomic_face.specs.Classes.{Bag, is_at}
 use Rattle.model_tree.specs.Tree.{Word, Tree, leaves, ins_of}
 use Rattle.model_tree.specs.Pull.{top_pulled}
-use Rattle.run_model.specs.CellStep.{PortState, CellState, least}
+use Rattle.run_model.specs.CellStep.{PortState, least}
 use Rattle.run_model.specs.Cycle.{LeafState, box_state, cell_state, initial_leaf, leaf_next, collected, given_by_leaf, bags, Moved, stayed, moved, stopped, moves, first_stop, all_after, next_of_all}
 
 -- ---- records of a cycle
@@ -52,13 +52,13 @@ abbrev pub computed_of : LeafState → Option Value
 computed_of (box_state b) = None
 computed_of (cell_state c) = option_map (λ (p : PortState). p.computed) (slice_get c.ports 0)
 
+abbrev pub record_of_move : ℕ → Moved → Option StateRecord
+record_of_move leaf stayed = None
+record_of_move leaf (moved s) = Some (record { leaf = leaf; value = computed_of s; next = leaf_next s })
+record_of_move leaf (stopped stop) = None
+
 abbrev pub state_record : ℕ × Moved → Option StateRecord
-state_record m = at m.1
-  where
-    at : Moved → Option StateRecord
-    at stayed = None
-    at (moved s) = Some (record { leaf = m.0; value = computed_of s; next = leaf_next s })
-    at (stopped stop) = None
+state_record m = record_of_move m.0 m.1
 
 abbrev pub out_records : ℕ × List Value → List OutRecord
 out_records p = map (λ v. record { port = p.0; value = v }) p.1
@@ -75,6 +75,11 @@ pub record RunState : Type 0 where
 abbrev pub start : Tree → List Event → RunState
 start tree events = record { leaf_states = map initial_leaf (leaves tree); events = events; last = None; count = 0 }
 
+-- a saved state of this time, with the events after it
+abbrev pub resumed : ℕ → List LeafState → List Event → RunState
+resumed time states events =
+    record { leaf_states = states; events = filter (λ (e : Event). nat_lt time e.time) events; last = None; count = 0 }
+
 abbrev pub first_event : List Event → Option ℕ
 first_event [] = None
 first_event (e ∷ es) = least (Some e.time) (first_event es)
@@ -85,13 +90,13 @@ next_instant s = least (next_of_all s.leaf_states) (first_event s.events)
 abbrev pub event_at : ℕ → ℕ → Event → Option Value
 event_at t port e = if (e.time == t) && (e.port == port) then Some e.value else None
 
+abbrev pub events_at : ℕ → List Event → Option ℕ → List Value
+events_at t events None = []
+events_at t events (Some port) = filter_map (event_at t port) events
+
 -- what stands at an input of top in a cycle: its events of that time, in file order
 abbrev pub at_top : Tree → ℕ → List Event → Word → List Value
-at_top tree t events name = from (position (λ p. bytes_eq p name) (ins_of tree))
-  where
-    from : Option ℕ → List Value
-    from None = []
-    from (Some port) = filter_map (event_at t port) events
+at_top tree t events name = events_at t events (position (λ p. bytes_eq p name) (ins_of tree))
 
 abbrev pub cycle_of : Tree → ℕ → List Bag → (Word → List Value) → List Moved → Cycle
 cycle_of tree t gave top ms =
@@ -120,7 +125,6 @@ pub data Verdict : Type 0 where
   done : Verdict
   too_many : (time : ℕ) → Verdict
   stop : (leaf time : ℕ) → RuleStop → Verdict
-  unfinished : Verdict
 
 pub data Next : Type 0 where
   ended : Verdict → Next
@@ -162,11 +166,23 @@ abbrev pub and_on : RunState → Next → (RunState → Run) → Run
 and_on s (ended v) go = record { cycles = []; verdict = v; left = s }
 and_on s (cycled c n) go = in_front c (go n)
 
--- at most n cycles
+-- no cycle more: a run in which one were due has too many
+abbrev pub at_last : RunState → Next → Run
+at_last s (ended v) = record { cycles = []; verdict = v; left = s }
+at_last s (cycled c n) = record { cycles = []; verdict = too_many c.time; left = s }
+
+-- at most n cycles, and then a verdict
 unfoldable pub run_from : ℕ → Tree → ℕ → ℕ → RunState → Run
-run_from zero tree end limit s = record { cycles = []; verdict = unfinished; left = s }
+run_from zero tree end limit s = at_last s (next_cycle tree end limit s)
 run_from (suc n) tree end limit s = and_on s (next_cycle tree end limit s) (run_from n tree end limit)
 
--- a run has at most (end + 1) * limit cycles, so this one is never unfinished
+-- at each instant up to the end there are at most `limit` cycles
+abbrev pub most_cycles : ℕ → ℕ → ℕ
+most_cycles end limit = (end + 1) * limit
+
+-- from a state to the verdict
+abbrev pub run_to : Tree → ℕ → ℕ → RunState → Run
+run_to tree end limit s = run_from (most_cycles end limit) tree end limit s
+
 unfoldable pub run : Tree → List Event → ℕ → ℕ → Run
-run tree events end limit = run_from (suc ((end + 1) * limit)) tree end limit (start tree events)
+run tree events end limit = run_to tree end limit (start tree events)
