@@ -6,7 +6,6 @@ pub mod plain;
 mod port;
 mod steps;
 pub mod store;
-
 #[cfg(test)]
 mod tests;
 

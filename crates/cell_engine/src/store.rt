@@ -191,12 +191,7 @@ fn emit_at(cells: &mut [Port], i: usize, t: Time) -> Value
     cells[i].emit(t)
 }
 
-fn compute_at(
-    cells: &mut [Port],
-    rules: &[PlainRule],
-    i: usize,
-    t: Time,
-) -> Result<(), OutOfMemory>
+fn compute_at(cells: &mut [Port], rules: &[PlainRule], i: usize, t: Time) -> Result<(), OutOfMemory>
     requires within { i < length cells.old }
     requires time { t ≤ 359999999 }
     requires short { IsTrue (are_short rules.now) }

@@ -3,6 +3,8 @@
 
 mod lines;
 pub mod run;
+#[cfg(test)]
+mod tests;
 
 pub use cell_engine::Steps;
 pub use run::{Progress, RingRun, Stop};

@@ -15,6 +15,15 @@ pub fn push_line(
 ) -> Result<(), OutOfMemory>
     ensures { OnOk result (text.new.items ≡ text.old.items ++ given_line name.now t i value) }
 {
-    let _ = (alloc, text.len(), name.as_bytes().len(), t, i, value);
-    Err(OutOfMemory)
+    let column = format!(in alloc; "{i}")?;
+    text.extend_from_slice(b"Y / ")?;
+    t.text(text)?;
+    text.extend_from_slice(b" / ")?;
+    text.extend_from_slice(name.as_bytes())?;
+    text.extend_from_slice(b"(0,")?;
+    text.extend_from_slice(column.as_bytes())?;
+    text.extend_from_slice(b") / out / ")?;
+    value.text5(text)?;
+    text.extend_from_slice(b"\n")?;
+    Ok(())
 }
