@@ -1,5 +1,6 @@
 pub mod Asked
 pub mod Idle
+pub mod LineTexts
 pub mod Logs
 pub mod Looped
 pub mod Moves

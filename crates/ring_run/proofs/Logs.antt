@@ -15,7 +15,9 @@ use Rattle.model_tree.specs.Tree.{Word, Leaf, cell_leaf, leaves}
 use Rattle.run_model.specs.CellStep.{PortState, CellState, first_time, port_emitted, cell_output}
 use Rattle.run_model.specs.Cycle.{cell_state, collected}
 use Rattle.run_model.specs.Run.{Cycle, PortRecord, StateRecord, port_records, is_of_out}
-use Rattle.text_forms.specs.Lines.{LogLine, LeafName, given, line_text, ended, leaf_name, out_port_name, in_port_name, moved_line, cycle_lines, letter_of}
+use Rattle.text_forms.specs.LogLine as log_line
+use Rattle.text_forms.specs.LogLine.{LogLine, given, line_text}
+use Rattle.text_forms.specs.Lines.{ended, leaf_name, out_port_name, in_port_name, moved_line, cycle_lines, letter_of}
 use Rattle.text_forms.specs.Lines as lines
 use Rattle.cell_engine.specs.Ring.{Ring, ring_group, ring_tree}
 use Rattle.cell_engine.specs.Store.{one_port, cell_of, leaf_states}
@@ -49,7 +51,7 @@ no_moves : (ls : List Leaf) (t : ℕ) (rs : List StateRecord) → filter is_y (f
 no_moves ls t [] = refl
 no_moves ls t (r ∷ rs) = at (slice_get ls r.leaf) (no_moves ls t rs)
   where
-    at : (o : Option Leaf) → filter is_y (filter_map (moved_line ls t) rs) ≡ [] → filter is_y (cons_option (option_map (λ l. lines.moved t (leaf_name l) r.value r.next) o) (filter_map (moved_line ls t) rs)) ≡ []
+    at : (o : Option Leaf) → filter is_y (filter_map (moved_line ls t) rs) ≡ [] → filter is_y (cons_option (option_map (λ l. log_line.moved t (leaf_name l) r.value r.next) o) (filter_map (moved_line ls t) rs)) ≡ []
     at None e = e
     at (Some l) e = e
 

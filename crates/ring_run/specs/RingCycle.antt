@@ -5,7 +5,8 @@ use Rattle.quantity.specs.declared.value.Value.{Value}
 use Rattle.atomic_face.specs.Classes.{is_at}
 use Rattle.atomic_face.specs.declared.class.PortNo.{PortNo}
 use Rattle.run_model.specs.CellStep.{CellState, cell_next, cell_emitted, cell_output}
-use Rattle.text_forms.specs.Lines.{given, line_text, ended}
+use Rattle.text_forms.specs.LogLine.{given, line_text}
+use Rattle.text_forms.specs.Lines.{ended}
 use Rattle.cell_engine.specs.declared.plain.PlainRule.{PlainRule}
 use Rattle.cell_engine.specs.Beside.{left, right, computed_cell}
 use Rattle.cell_engine.specs.Store.{Store, cell_of}

@@ -5,6 +5,7 @@ ghost use Rattle.ring_run.specs.RingCycle.{given_line};
 use quantity::{Name, OutOfMemory, Time, Value};
 use std::alloc::Global;
 
+#[tactic(auto, using(crate::proofs::LineTexts::line_is))]
 pub fn push_line(
     alloc: Global,
     text: &mut Vec<u8>,
