@@ -1,0 +1,5 @@
+pub mod Parts
+pub mod Text
+pub mod Reading
+pub mod Laws
+pub mod Examples

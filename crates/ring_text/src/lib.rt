@@ -1,0 +1,4 @@
+//! The text of a ring of cells: a model file of one form, read in just that form.
+#![tactic(auto)]
+
+pub mod laws;
