@@ -15,7 +15,7 @@ use Rattle.model_tree.specs.Tree.{Word}
 use Rattle.cell_engine.specs.Ring.{Ring}
 use Rattle.ring_text.specs.Parts.{RuleParts, RingParts, is_bit, is_count, is_delay, is_rule, is_free_name, are_cells, are_rules, ends_always, is_ring, ring_of_parts}
 use Rattle.ring_text.specs.Text.{condition, section, neighbors, rule_line, ring_lines, ring_text}
-use Rattle.ring_text.specs.Reading.{is_line_feed, is_space, ones_in, rule_in, parts_in, if_ring, guessed, ring_in}
+use Rattle.ring_text.specs.Reading.{is_line_feed, is_space, is_filled, ones_in, rule_in, parts_in, if_ring, guessed, ring_in}
 use Rattle.ring_text.specs.Laws.{ReadsEachRing, ReadsOnlyRings}
 use Rattle.ring_text.proofs.Lines.{has_no, both, and_true, none_in_both, lines_of-ended, before_space, after_space, none_in_digits, none_in_decimal, none_in_all, name_ends_not}
 
@@ -124,11 +124,11 @@ rule_again r f =
     no : has_no 32 r.delay ≡ true
     no = none_in_digits 32 refl r.delay f.digits
 
-rules_again : (rs : List RuleParts) → list_all is_rule rs ≡ true → map rule_in (filter (λ line. not (is_empty line)) (map rule_line rs ++ [] ∷ [])) ≡ rs
+rules_again : (rs : List RuleParts) → list_all is_rule rs ≡ true → map rule_in (filter is_filled (map rule_line rs ++ [] ∷ [])) ≡ rs
 rules_again [] h = refl
 rules_again (r ∷ rs) h =
     let k = both (is_rule r) (list_all is_rule rs) h in
-    ap (λ x. x ∷ map rule_in (filter (λ line. not (is_empty line)) (map rule_line rs ++ [] ∷ []))) (rule_again r (rule_facts r k.0)) ∙ ap (λ xs. r ∷ xs) (rules_again rs k.1)
+    ap (λ x. x ∷ map rule_in (filter is_filled (map rule_line rs ++ [] ∷ []))) (rule_again r (rule_facts r k.0)) ∙ ap (λ xs. r ∷ xs) (rules_again rs k.1)
 
 parts_again : (p : RingParts) → RingFacts p → parts_in (ring_lines p ++ [] ∷ []) ≡ p
 parts_again p f = ap (λ (rs : List RuleParts). record { group = p.group; rules_name = p.rules_name; cells = p.cells; rules = rs }) (rules_again p.rules f.rules)

@@ -27,6 +27,9 @@ rule_in line =
       ones = ones_in (after_first is_space (drop 9 line));
     }
 
+abbrev pub is_filled : Bytes → Bool
+is_filled line = not (is_empty line)
+
 abbrev pub line_at : List Bytes → ℕ → Bytes
 line_at lines k = slice_index_or lines k []
 
@@ -36,7 +39,7 @@ parts_in lines =
       group = drop 13 (line_at lines 1);
       rules_name = drop 18 (line_at lines 11);
       cells = drop 20 (line_at lines 10);
-      rules = map rule_in (filter (λ line. not (is_empty line)) (drop 13 lines));
+      rules = map rule_in (filter is_filled (drop 13 lines));
     }
 
 abbrev pub if_ring : RingParts → Option RingParts
