@@ -1,5 +1,5 @@
 -- The free parts of a ring's text, and the ring that they stand for.
-use Rattle.std.specs.Prelude.{ℕ, ◌-◌, Bool, true, false, not, ◌&&◌, Option, List, [], ◌∷◌, map, codes}
+use Rattle.std.specs.Prelude.{ℕ, ◌-◌, Bool, true, false, not, ◌&&◌, Option, List, [], ◌∷◌, is_none, map, codes}
 use Rattle.std.specs.List.{list_all}
 use Rattle.std.specs.Option.{option_map, option_map_or}
 use Rattle.std.specs.Str.{bytes_eq}
@@ -42,7 +42,7 @@ abbrev pub is_rule : RuleParts → Bool
 is_rule r = is_bit r.value && is_delay r.delay && option_map_or is_count r.ones true
 
 abbrev pub is_always : RuleParts → Bool
-is_always r = option_map_or (λ c. false) r.ones true
+is_always r = is_none r.ones
 
 -- the last rule is always true, and no other is
 abbrev pub ends_always : List RuleParts → Bool
