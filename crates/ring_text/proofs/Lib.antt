@@ -3,3 +3,4 @@ pub mod Rings
 pub mod Places
 pub mod Numbers
 pub mod Ends
+pub mod Written

@@ -4,3 +4,4 @@
 mod check;
 pub mod laws;
 mod parts;
+mod text;
