@@ -1,0 +1,4 @@
+pub mod Roots
+pub mod DigitLemmas
+pub mod TimeLemmas
+pub mod Lengths
