@@ -10,9 +10,8 @@ ghost use Rattle.quantity.specs.Written.{number_at_most};
 ghost use Rattle.ring_text.specs.Parts as spec;
 ghost use Rattle.ring_text.specs.Shown.{ring_shown, rule_shown};
 
-use quantity::digits::whole_number;
-
 use crate::parts::{RingParts, RuleParts};
+use quantity::digits::whole_number;
 
 /// The most cells of a ring, and the most rules.
 const MOST: usize = 1024;

@@ -5,12 +5,11 @@ ghost use Rattle.ring_text.specs.Model.{ring_of};
 ghost use Rattle.ring_text.specs.Parts.{bit_value, is_ring, is_rule, ring_of_parts, rule_of_parts};
 ghost use Rattle.ring_text.specs.Shown.{ring_shown, rule_shown};
 
+use crate::check::delay_of;
+use crate::parts::{RingParts, RuleParts};
 use cell_engine::{PlainGroup, PlainRule};
 use quantity::{Name, NameRefusal, OutOfMemory, Raw, Time, Value};
 use std::alloc::{AllocError, Global};
-
-use crate::check::delay_of;
-use crate::parts::{RingParts, RuleParts};
 
 /// A ring that was read: its group's name, the value of each cell at the start, and its rules.
 #[derive(Drop)]

@@ -4,9 +4,8 @@ ghost use Rattle.std.specs.List.{concat, flat_map};
 ghost use Rattle.ring_text.specs.Text.{ended, head, ring_text, rule_line};
 ghost use Rattle.ring_text.specs.Shown.{ring_shown, rule_shown, texts};
 
-use std::alloc::{AllocError, Global};
-
 use crate::parts::{RingParts, RuleParts};
+use std::alloc::{AllocError, Global};
 
 /// Writes a line of these pieces.
 fn push_line(text: &mut Vec<u8>, pieces: &[&[u8]]) -> Result<(), AllocError>
@@ -32,7 +31,18 @@ fn push_head(alloc: Global, text: &mut Vec<u8>, parts: &RingParts) -> Result<(),
     push_line(text, &[b"delay : transport"])?;
     push_line(text, &[b"defaultDelayTime : 100"])?;
     push_line(text, &[b"border : wrapped"])?;
-    push_line(text, &[b"neighbors : ", group, b"(0,-1) ", group, b"(0,0) ", group, b"(0,1)"])?;
+    push_line(
+        text,
+        &[
+            b"neighbors : ",
+            group,
+            b"(0,-1) ",
+            group,
+            b"(0,0) ",
+            group,
+            b"(0,1)",
+        ],
+    )?;
     push_line(text, &[b"initialvalue : 0"])?;
     push_line(text, &[b"initialrowvalue : 0 ", parts.cells])?;
     push_line(text, &[b"localtransition : ", parts.rules_name])?;
@@ -50,7 +60,15 @@ fn push_rule(text: &mut Vec<u8>, rule: &RuleParts) -> Result<(), AllocError>
             let count = [n];
             push_line(
                 text,
-                &[b"rule : ", &value, b" ", rule.delay, b" { truecount = ", &count, b" }"],
+                &[
+                    b"rule : ",
+                    &value,
+                    b" ",
+                    rule.delay,
+                    b" { truecount = ",
+                    &count,
+                    b" }",
+                ],
             )
         }
     }
