@@ -8,7 +8,6 @@ use Rattle.std.specs.Str.{bytes_eq}
 use Rattle.model_tree.specs.Tree.{Tree, Leaf, leaves}
 use Rattle.run_model.specs.Cycle.{LeafState}
 use Rattle.quantity.specs.Bytes.{Bytes}
-<<<<<<< HEAD
 use Rattle.quantity.specs.ValueTexts.{text5, guessed_value}
 use Rattle.quantity.specs.Times.{time_text, read_time, time_of}
 use Rattle.quantity.specs.Written.{if_written, for_some}
@@ -18,13 +17,6 @@ use Rattle.text_forms.specs.declared.refusal.StateRefusal.{StateRefusal}
 use Rattle.text_forms.specs.declared.refusal.StateRefusal.TheVariants.{BadStateLine, EndBefore, TooLarge}
 use Rattle.text_forms.specs.StateText.{text_of_state, state_lines, leaf_line, leaf_lines, at_line}
 use Rattle.text_forms.specs.StateOf.{Saved, next_line, just, nothing_more, leaves_in, read_at, state_at, read_leaf, leaf_state_in, if_leaf_state, words_in}
-=======
-use Rattle.quantity.specs.Times.{read_time}
-use Rattle.quantity.specs.Written.{for_some}
-use Rattle.quantity.proofs.NothingElse.{kept}
-use Rattle.text_forms.specs.Lines.{LogLine, parts_in, is_line, line_in, if_line, line_text, ended}
-use Rattle.text_forms.specs.State.{Refusal, Saved, StateRead, next_line, just, nothing_more, leaves_in, read_at, state_at, text_of_state, state_lines, leaf_line, read_leaf, leaf_in, if_leaf_state, words_in, at_line, bad}
->>>>>>> ea11bef65c4e5df1d76509490d64f6dd3cf5b34a
 use Rattle.text_forms.specs.ReadBack.{ReadsNothingElse}
 
 abbrev value_or : {A : Type 0} → Option A → A → A
@@ -36,6 +28,16 @@ same_some x y e = ap (λ o. value_or o x) e
 
 eq_true : (xs ys : Bytes) → bytes_eq xs ys ≡ true → xs ≡ ys
 eq_true xs ys e = (bytes_eq-Decides xs ys).0 e
+
+-- a guess that was kept is written so
+module _ {A : Type 0} (write : A → Bytes) (text : Bytes) (x : A) where
+  kept_by : (y : A) (b : Bool) → bytes_eq (write y) text ≡ b → cond b (Some y) None ≡ Some x → (y ≡ x) × (write y ≡ text)
+  kept_by y true e h = (same_some y x h, eq_true (write y) text e)
+  kept_by y false e h = absurd cc
+
+  kept : (o : Option A) → if_written write text o ≡ Some x → (o ≡ Some x) × (text ≡ write x)
+  kept None h = absurd cc
+  kept (Some y) h = let k = kept_by y (bytes_eq (write y) text) refl h in (ap Some k.0, sym k.1 ∙ ap write k.0)
 
 line_kept : (o : Option LogLine) (l : LogLine) → if_line o ≡ Some l → IsTrue (is_line l)
 line_kept None l h = absurd cc

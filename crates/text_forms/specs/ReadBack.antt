@@ -1,4 +1,3 @@
-<<<<<<< HEAD
 -- What is written is read back, and nothing else is read.
 use Rattle.std.specs.Prelude.{◌≡◌, ℕ, ◌≤◌, IsTrue, Some, List, length, Ok}
 use Rattle.std.specs.List.{AllZip}
@@ -9,14 +8,6 @@ use Rattle.text_forms.specs.LogLine.{LogLine, is_line, line_text, read_line}
 use Rattle.text_forms.specs.LeafStates.{IsStateOf, has_names}
 use Rattle.text_forms.specs.StateText.{text_of_state}
 use Rattle.text_forms.specs.StateOf.{Saved, state_of}
-=======
--- What is written of log lines and states is read back, and nothing else is read.
-use Rattle.std.specs.Prelude.{◌≡◌, ℕ, IsTrue, Some, Ok}
-use Rattle.model_tree.specs.Tree.{Tree}
-use Rattle.quantity.specs.Bytes.{Bytes}
-use Rattle.text_forms.specs.Lines.{LogLine, is_line, line_text, read_line}
-use Rattle.text_forms.specs.State.{Saved, text_of_state, state_of}
->>>>>>> ea11bef65c4e5df1d76509490d64f6dd3cf5b34a
 
 pub record ReadsWhatIsWritten : Type 0 where
   pub line : (l : LogLine) → IsTrue (is_line l) → read_line (line_text l) ≡ Some l
