@@ -1,7 +1,7 @@
 -- Queues, cpus and counters keep their words a state of their class.
-use Rattle.std.proofs.Common.{◌≡◌, ◌≢◌, ℕ, zero, suc, ◌+◌, ◌<◌, ◌≤◌, Bool, true, false, true≢false, cond, Option, Some, None, List, [], ◌∷◌, ◌++◌, length, refl, sym, ◌∙◌, ap, subst, arith, length-append}
-use Rattle.std.specs.Prelude.{IfSome, ⊤, if◌then◌else◌, nat_le, nat_lt, ◌==◌, ◌&&◌, ◌||◌, ◌^◌, ℤ, pos, negsuc, unsigned_abs, int_le}
-use Rattle.std.specs.List.{All, list_all, filter}
+use Rattle.std.proofs.Common.{◌≡◌, ◌≢◌, ℕ, zero, suc, ◌+◌, ◌<◌, ◌≤◌, Bool, true, false, true≢false, Option, Some, None, List, [], ◌∷◌, ◌++◌, length, refl, sym, ap, subst, arith, length-append}
+use Rattle.std.specs.Prelude.{IfSome, if◌then◌else◌, nat_le, ◌==◌, ◌&&◌, ◌||◌, ◌^◌, ℤ, pos, negsuc, unsigned_abs, int_le}
+use Rattle.std.specs.List.{All}
 use Rattle.std.specs.Bool.{beq}
 use Rattle.std.specs.Option.{option_map}
 use Rattle.std.proofs.lemmas.List.Elements.{All-nil, All-cons, All-head, All-tail, All-filter}
@@ -12,13 +12,13 @@ use Rattle.quantity.specs.Arithmetic.{IsBounded, sum_of}
 use Rattle.atomic_face.specs.declared.class.Class.TheVariants.{Queue, Cpu, Counter}
 use Rattle.atomic_face.specs.declared.class.PortNo.{PortNo}
 use Rattle.atomic_face.specs.Words.{no_time, time_in, word_of, value_in, milliseconds}
-use Rattle.atomic_face.specs.Classes.{Bag, is_at, QueueState, queue_state, queue_words, without_first, queue_internal, queue_input, queue_inputs, queue_closing, queue_next, queue_moved, is_empty, first_time, CounterState, counter_state, counter_words, counter_input, counter_inputs, counter_closing, counter_internal, or_none, setting, cpu_pairs, cpu_words, cpu_next, cpu_put, cpu_inputs, cpu_moved, pairs_at, same_time}
-use Rattle.atomic_face.specs.BoxStates.{is_number, is_time_word, is_none_word, is_due, is_value_word, are_values, is_waiting, is_one, is_queue, is_counter, are_pairs}
-use Rattle.run_model.specs.Bounds.{IsDelay, AreBoundedSettings}
+use Rattle.atomic_face.specs.Classes.{Bag, is_at, QueueState, queue_state, queue_words, without_first, queue_internal, queue_input, queue_inputs, queue_closing, queue_next, is_empty, first_time, CounterState, counter_state, counter_words, counter_input, counter_inputs, counter_closing, counter_internal, or_none, setting, cpu_pairs, cpu_words, cpu_next, cpu_put, cpu_inputs, cpu_moved, pairs_at, same_time}
+use Rattle.atomic_face.specs.BoxStates.{is_time_word, is_none_word, is_due, is_value_word, are_values, is_waiting, is_one, is_queue, is_counter, are_pairs}
+use Rattle.run_model.specs.Bounds.{IsDelay}
 use Rattle.run_model.specs.Waiting.{IsTimeFrom, NeverFalls}
 use Rattle.run_model.specs.BoxesStay.{StaysAState}
 use Rattle.run_model.proofs.BoundedValues.{sum-is}
-use Rattle.run_model.proofs.WaitingBoxes.{cpu_pairs-cpu_words, filter-waits, inputs-wait}
+use Rattle.run_model.proofs.WaitingBoxes.{filter-waits, inputs-wait}
 
 and-both : (a b : Bool) → (a && b) ≡ true → (a ≡ true) × (b ≡ true)
 and-both true b e = (refl, e)

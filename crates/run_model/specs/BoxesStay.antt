@@ -4,7 +4,6 @@ use Rattle.std.specs.List.{All}
 use Rattle.quantity.specs.declared.value.Value.{Value}
 use Rattle.quantity.specs.Arithmetic.{IsBounded}
 use Rattle.atomic_face.specs.declared.class.Class.{Class}
-use Rattle.atomic_face.specs.declared.class.Class.TheVariants.{Queue, Cpu, Counter}
 use Rattle.atomic_face.specs.declared.class.PortNo.{PortNo}
 use Rattle.atomic_face.specs.Classes.{Bag, moved_state}
 use Rattle.atomic_face.specs.BoxStates.{is_box_state}
