@@ -103,9 +103,9 @@ lines_refused ls = option_or (first_refused [] (braced 0 ls)) (option_map (λ li
 
 -- ---- the whole file
 
+abbrev pub unless_refused : Option LineRefusal → List Line → Result (List Section) LineRefusal
+unless_refused None ls = Ok (sections_in (pieces (braced 0 ls)))
+unless_refused (Some r) ls = Err r
+
 unfoldable pub sections_of : Bytes → Result (List Section) LineRefusal
-sections_of bytes = given (lines_refused (lines_of bytes))
-  where
-    given : Option LineRefusal → Result (List Section) LineRefusal
-    given None = Ok (sections_in (pieces (braced 0 (lines_of bytes))))
-    given (Some r) = Err r
+sections_of bytes = unless_refused (lines_refused (lines_of bytes)) (lines_of bytes)

@@ -1,4 +1,5 @@
 // Calls that name the definitions.
+ghost use Rattle.ma_lines.specs.Laws.{StandsOnLines, DropsReturns, DropsComments};
 ghost use Rattle.ma_lines.specs.Examples.{SectionsAreRead, LinesAreRefused};
 
 /// Sections and entries are read as these examples say.
@@ -9,4 +10,19 @@ pub fn sections_are_read()
 /// The first line that is refused counts.
 pub fn lines_are_refused()
     ensures { LinesAreRefused }
+{}
+
+/// Files with the same lines have the same sections.
+pub fn sections_stand_on_lines()
+    ensures { StandsOnLines }
+{}
+
+/// A carriage return at the end of a line is dropped.
+pub fn returns_are_dropped()
+    ensures { DropsReturns }
+{}
+
+/// What stands behind the first `%` of a line is dropped.
+pub fn comments_are_dropped()
+    ensures { DropsComments }
 {}

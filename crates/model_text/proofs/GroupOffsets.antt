@@ -1,13 +1,13 @@
 -- The offsets of the groups of an accepted model.
-use Rattle.std.proofs.Common.{◌≡◌, ℕ, ◌≤◌, Bool, true, false, cond, None, List, [], ◌∷◌, ◌++◌, refl, length, rules}
+use Rattle.std.proofs.Common.{◌≡◌, ℕ, ◌≤◌, false, [], ◌++◌, length, rules}
 use Rattle.std.specs.Prelude.{nat_lt, codes, is_some}
 use Rattle.std.proofs.lemmas.Bool.Decides.{nat_tests}
-use Rattle.std.specs.List.{AllByRecursion, list_all}
+use Rattle.std.specs.List.{list_all}
 use Rattle.ma_lines.specs.Sections.{Section}
 use Rattle.cell_grid.specs.Places.{is_offset}
 use Rattle.cell_grid.specs.ZoneTexts.{zone_in}
 use Rattle.model_text.specs.declared.kind.Kind.TheVariants.{BadValue, BadZone, BadInitial, TooLarge}
-use Rattle.model_text.specs.Refusals.{Refusal, refusal}
+use Rattle.model_text.specs.Refusals.{refusal}
 use Rattle.model_text.specs.Keyed.{entries_of, each_entry, at_entry}
 use Rattle.model_text.specs.Walk.{groups}
 use Rattle.model_text.specs.Spaces.{space_of, places_of, offsets_of, ports_refused, row_in, too_many_offsets, of_space}
@@ -39,7 +39,7 @@ space_parts s h =
 few : (n : ℕ) → nat_lt 128 n ≡ false → n ≤ 128
 few n e = search (rules, nat_tests)
 
-right_offsets : (s : Section) → of_space s ≡ [] → RightOffsets s
+pub right_offsets : (s : Section) → of_space s ≡ [] → RightOffsets s
 right_offsets s h =
     record {
       fit = few (length (offsets_of s)) (if_empty (nat_lt 128 (length (offsets_of s))) (refusal s.line TooLarge) [] (space_parts s h).fit);

@@ -1,7 +1,7 @@
 -- What keys that aren't refused are: of their form, and once where they may stand once.
-use Rattle.std.proofs.Common.{◌≡◌, Bool, true, false, cond, Option, Some, None, List, [], ◌∷◌, ◌++◌, map, refl, sym, ap, ◌∙◌, subst, append-nil}
+use Rattle.std.proofs.Common.{◌≡◌, Bool, true, false, cond, Option, Some, None, List, [], ◌∷◌, map, refl, sym, ap, ◌∙◌, subst, append-nil}
 use Rattle.std.proofs.Common.{rules}
-use Rattle.std.specs.Prelude.{not, ◌&&◌, ◌||◌}
+use Rattle.std.specs.Prelude.{◌&&◌, ◌||◌}
 use Rattle.std.specs.List.{find, filter, flat_map}
 use Rattle.std.specs.Option.{option_map, option_to_list}
 use Rattle.std.specs.Str.{bytes_eq}
@@ -11,10 +11,10 @@ use Rattle.ma_lines.specs.declared.section.Entry.{Entry}
 use Rattle.ma_lines.specs.Sections.{Section}
 use Rattle.rule_syntax.specs.Phrases.{looked_up}
 use Rattle.model_text.specs.declared.kind.Kind.TheVariants.{BadValue, DuplicateKey}
-use Rattle.model_text.specs.Refusals.{Refusal, refusal}
-use Rattle.model_text.specs.Keyed.{entries_of, first_entry, value_of, Item, items_of, texts_of}
+use Rattle.model_text.specs.Refusals.{refusal}
+use Rattle.model_text.specs.Keyed.{first_entry, value_of, Item, texts_of}
 use Rattle.model_text.specs.Keys.{again, is_off, off_form}
-use Rattle.model_text.proofs.Basics.{some_none, none_some, cons_nil, true_false, both_empty, is_true}
+use Rattle.model_text.proofs.Basics.{none_some, cons_nil, true_false, both_empty, is_true}
 
 pub same_bytes : (a b : Bytes) → bytes_eq a b ≡ true → a ≡ b
 same_bytes a b e = search (rules, bytes_eq-Decides)
@@ -46,6 +46,7 @@ has_form table key p known (x ∷ es) h v e =
   where
     parts : (is_off (looked_up table x.key) x.value ≡ false) × (off_form table es ≡ [])
     parts = first_off table x es h
+
     go : (off_form table es ≡ [] → (v : Bytes) → option_map (λ (e : Entry). e.value) (find (has_key key) es) ≡ Some v → p v ≡ true) → (b : Bool) → bytes_eq x.key key ≡ b → option_map (λ (e : Entry). e.value) (cond b (Some x) (find (has_key key) es)) ≡ Some v → p v ≡ true
     go later true same f =
         let off : is_off (looked_up table key) x.value ≡ false = subst (λ k. is_off (looked_up table k) x.value ≡ false) (same_bytes x.key key same) parts.0 in
@@ -81,6 +82,7 @@ none_more once key o before b (e ∷ es) h = go (none_more once key o (e.key ∷
   where
     parts : (is_among once e.key && is_among before e.key ≡ false) × (again once (e.key ∷ before) es ≡ [])
     parts = not_again once before e es h
+
     go : (again once (e.key ∷ before) es ≡ [] → filter (has_key key) es ≡ []) → (c : Bool) → bytes_eq e.key key ≡ c → cond c (e ∷ filter (has_key key) es) (filter (has_key key) es) ≡ []
     go later true same = absurd (both_stand once before e.key key (same_bytes e.key key same) o b parts.0)
     go later false same = later parts.1
@@ -92,6 +94,7 @@ stands_once once key o before (e ∷ es) h = go (stands_once once key o (e.key �
   where
     parts : (is_among once e.key && is_among before e.key ≡ false) × (again once (e.key ∷ before) es ≡ [])
     parts = not_again once before e es h
+
     go : (again once (e.key ∷ before) es ≡ [] → filter (has_key key) es ≡ option_to_list (find (has_key key) es)) → (c : Bool) → bytes_eq e.key key ≡ c → cond c (e ∷ filter (has_key key) es) (filter (has_key key) es) ≡ option_to_list (cond c (Some e) (find (has_key key) es))
     go later true same =
         ap (λ xs. e ∷ xs) (none_more once key o (e.key ∷ before) (or_left (bytes_eq key e.key) (is_among before key) (equals_back e.key key same)) es parts.1)

@@ -6,3 +6,16 @@ mod Keys
 mod Offsets
 mod GroupOffsets
 mod Values
+mod GroupKeys
+mod Sizes
+mod GroupNames
+mod GroupRules
+mod Numbers
+mod SoundRules
+mod GroupSound
+mod Steps
+mod Parts
+mod Top
+mod Totals
+mod Bare
+mod Whole

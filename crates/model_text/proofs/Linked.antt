@@ -1,7 +1,7 @@
 -- Links that are not refused are accepted, each after those before it.
-use Rattle.std.proofs.Common.{◌≡◌, Option, Some, None, List, [], ◌∷◌, ◌++◌, refl, sym, ap, ◌∙◌}
+use Rattle.std.proofs.Common.{◌≡◌, Option, Some, None, List, [], ◌∷◌, ◌++◌, refl, ap}
 use Rattle.std.specs.Prelude.{true}
-use Rattle.std.specs.List.{filter_map, cons_option, AllByRecursion}
+use Rattle.std.specs.List.{filter_map, cons_option}
 use Rattle.std.specs.Option.{option_map, is_none}
 use Rattle.ma_lines.specs.declared.section.Entry.{Entry}
 use Rattle.ma_lines.specs.Sections.{Section}
@@ -11,7 +11,7 @@ use Rattle.model_tree.specs.Faces.{Face, link_refused}
 use Rattle.model_tree.specs.Sound.{are_accepted}
 use Rattle.model_text.specs.Refusals.{kind_of_link}
 use Rattle.model_text.specs.Walk.{reached}
-use Rattle.model_text.specs.Links.{link_of, link_entries, links_of, face_of, entry_refused, at_line, links_refused_after, of_links}
+use Rattle.model_text.specs.Links.{link_of, link_entries, face_of, entry_refused, at_line, links_refused_after, of_links}
 use Rattle.model_text.specs.Accepted.{LinksAreAccepted}
 use Rattle.model_text.proofs.Basics.{cons_nil, both_empty, both_true, each_of_phase, all_imply}
 

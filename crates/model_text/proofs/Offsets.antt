@@ -1,6 +1,6 @@
 -- The offsets of a group are near and differ.
-use Rattle.std.proofs.Common.{◌≡◌, Bool, true, false, cond, List, [], ◌∷◌, map, refl, sym, ap, ◌∙◌}
-use Rattle.std.specs.Prelude.{not, ◌&&◌, ◌||◌, ◌==◌, length, ℤ, pos}
+use Rattle.std.proofs.Common.{◌≡◌, Bool, true, false, cond, List, [], ◌∷◌, map, refl, ap}
+use Rattle.std.specs.Prelude.{not, ◌&&◌, ◌==◌, length, ℤ}
 use Rattle.std.specs.List.{filter, list_all, list_any, flat_map}
 use Rattle.std.proofs.lemmas.Bool.{and_parts}
 use Rattle.quantity.specs.declared.place.Offset.{Offset}

@@ -1,6 +1,5 @@
 -- The phases stand in their order, and an accepted model has passed each.
-use Rattle.std.proofs.Common.{◌≡◌, Option, Some, None, List, [], ◌∷◌, refl, sym, ap, ◌∙◌, subst}
-use Rattle.std.specs.Prelude.{Bool, true, false}
+use Rattle.std.proofs.Common.{◌≡◌, Option, Some, None, List, [], ◌∷◌, refl, sym, ap, subst}
 use Rattle.std.specs.declared.result.Result.{Result}
 use Rattle.std.specs.declared.result.Result.TheVariants.{Ok, Err}
 use Rattle.std.specs.List.{AllByRecursion}
@@ -11,16 +10,10 @@ use Rattle.ma_lines.specs.Sections.{Section, sections_of}
 use Rattle.atomic_face.specs.declared.class.Class.{Class}
 use Rattle.model_tree.specs.Tree.{Tree}
 use Rattle.model_text.specs.Refusals.{Refusal, refusal_of_line}
-use Rattle.model_text.specs.Walk.{top_refused, tree_refused}
-use Rattle.model_text.specs.Keys.{keys_refused}
-use Rattle.model_text.specs.Spaces.{cells_refused, spaces_refused}
-use Rattle.model_text.specs.Stock.{stock_refused}
-use Rattle.model_text.specs.Rules.{rules_refused}
-use Rattle.model_text.specs.Links.{links_refused}
 use Rattle.model_text.specs.InitialFiles.{initial_files, first_file_stop, FileStop, absent, off}
 use Rattle.model_text.specs.Drawings.{Drawing, drawing_refused}
 use Rattle.model_text.specs.Trees.{tree_of}
-use Rattle.model_text.specs.ModelOf.{ModelOf, model, missing, refused, ModelRead, unless, link_limit_refused, routes_refused, with_files, model_in, length_refused, after_lines, after_files, model_unless, model_of}
+use Rattle.model_text.specs.ModelOf.{ModelOf, model, missing, refused, ModelRead, unless, with_files, length_refused, after_lines, after_files, model_unless, model_of}
 use Rattle.model_text.specs.Accepted.{phases, first_of, FirstPhaseDecides, Passed, Accepted, PassesEachPhase}
 
 -- ---- the order

@@ -1,8 +1,7 @@
 -- A group has as many initial values as cells.
-use Rattle.std.proofs.Common.{◌≡◌, ℕ, zero, suc, ◌+◌, ◌-◌, ◌*◌, ◌≤◌, ◌<◌, Bool, true, false, cond, Option, Some, None, List, [], ◌∷◌, ◌++◌, map, length, take, drop, refl, sym, ap, ◌∙◌, subst, arith, rules}
-use Rattle.std.specs.Prelude.{◌&&◌, ◌==◌, nat_lt, replicate, min, set, codes}
-use Rattle.std.proofs.lemmas.Nat.{mul-add-lt}
-use Rattle.std.proofs.Math.Nat.{mul_comm, mul-le-mul_right, mul-one}
+use Rattle.std.proofs.Common.{◌≡◌, ℕ, ◌+◌, ◌-◌, ◌*◌, ◌≤◌, ◌<◌, Bool, true, false, cond, Option, Some, None, List, [], ◌∷◌, ◌++◌, map, length, take, drop, refl, sym, ap, ◌∙◌, subst, arith, rules}
+use Rattle.std.specs.Prelude.{◌&&◌, ◌==◌, nat_lt, min, codes}
+use Rattle.std.proofs.Math.Nat.{mul-le-mul_right, mul-one}
 use Rattle.std.proofs.lemmas.List.{length-set, length-take, length-drop, length-append, length-replicate}
 use Rattle.std.proofs.lemmas.Bool.{and_parts}
 use Rattle.std.proofs.lemmas.Bool.Decides.{nat_tests}
@@ -16,12 +15,11 @@ use Rattle.quantity.specs.Digits.{whole_number}
 use Rattle.quantity.specs.Literals.{value_in}
 use Rattle.cell_grid.specs.Space.{Space, cell_count, dims_of, plane_count}
 use Rattle.cell_grid.specs.Initial.{Row, is_row, row_of, digit_value, digits_row, values_row, row_digits, row_values, map_file, filled, with_row, with_cell, with_rows, with_map, with_cells}
-use Rattle.source_text.specs.Lines.{Files}
 use Rattle.ma_lines.specs.declared.section.Entry.{Entry}
 use Rattle.ma_lines.specs.Sections.{Section}
 use Rattle.model_text.specs.Keyed.{value_of}
 use Rattle.model_text.specs.Spaces.{space_of, row_in, rows_of}
-use Rattle.model_text.specs.Trees.{initial_value_of, map_of, cells_of, initial_of}
+use Rattle.model_text.specs.Trees.{initial_value_of, map_of, cells_of}
 use Rattle.model_text.specs.GroupLaws.{ValuesFit}
 use Rattle.model_text.proofs.Basics.{none_some, true_false}
 use Rattle.model_text.proofs.Keys.{some_same}
@@ -107,8 +105,10 @@ row_keeps s vs r right fits =
   where
     lower : (n m : ℕ) → nat_lt n m ≡ true → n < m
     lower n m e = search (rules, nat_tests)
+
     as_many : (n m : ℕ) → (n == m) ≡ true → n ≡ m
     as_many n m e = search (rules, nat_tests)
+
     joined : (at width all most a b c total count : ℕ) → at + width ≤ most → all ≡ most → b ≡ width → a ≡ min at all → c ≡ all - (at + width) → total ≡ a + b + c → count ≡ most → total ≡ count
     joined at width all most a b c total count h1 h2 h3 h4 h5 h6 h7 = omega arith
 

@@ -1,22 +1,22 @@
 -- What the walk says of the sections and items that it meets.
-use Rattle.std.proofs.Common.{◌≡◌, ℕ, zero, suc, ◌+◌, ◌≤◌, Bool, true, false, cond, Option, Some, None, List, [], ◌∷◌, ◌++◌, map, length, refl, sym, ap, ◌∙◌, subst, arith}
+use Rattle.std.proofs.Common.{◌≡◌, ℕ, ◌+◌, ◌≤◌, Bool, true, false, cond, Option, Some, None, List, [], ◌∷◌, ◌++◌, map, length, refl, sym, ap, ◌∙◌, subst, arith}
 use Rattle.std.proofs.Common.{rules}
 use Rattle.std.specs.Prelude.{not, ◌&&◌, ◌||◌, nat_le}
 use Rattle.std.proofs.lemmas.List.{append-nil, append_assoc, map-append, length-append}
 use Rattle.std.proofs.lemmas.List.Elements.{filter-append}
 use Rattle.std.proofs.lemmas.Bool.Decides.{nat_tests}
-use Rattle.std.specs.List.{filter, AllByRecursion}
-use Rattle.std.specs.Option.{option_map, option_or, is_some}
+use Rattle.std.specs.List.{filter}
+use Rattle.std.specs.Option.{option_map, is_some}
 use Rattle.std.specs.Str.{bytes_eq}
-use Rattle.quantity.specs.Bytes.{Bytes, is_among, has_repeat, is_empty}
+use Rattle.quantity.specs.Bytes.{Bytes, is_among, has_repeat}
 use Rattle.ma_lines.specs.Sections.{Section}
 use Rattle.model_text.specs.declared.kind.Kind.{Kind}
 use Rattle.model_text.specs.declared.kind.Kind.TheVariants.{BadValue, ComponentCycle, DuplicateComponent, TooLarge, UnknownComponent}
-use Rattle.model_text.specs.Refusals.{Refusal, refusal}
+use Rattle.model_text.specs.Refusals.{refusal}
 use Rattle.model_text.specs.Keyed.{Item}
-use Rattle.model_text.specs.Walk.{top, is_item, is_atomic, name_of, section_of, Step, at_section, at_item, items_in, walk, atomics, item_refused, section_refused, step_refused, first_step_refused, tree_refused}
+use Rattle.model_text.specs.Walk.{top, is_item, is_atomic, name_of, section_of, Step, at_section, at_item, items_in, walk, item_refused, section_refused, first_step_refused}
 use Rattle.model_text.specs.Accepted.{ComponentsDiffer, AtomicsFit}
-use Rattle.model_text.proofs.Basics.{some_none, both_none, both_false, neither, if_none, repeat_last, differs_back}
+use Rattle.model_text.proofs.Basics.{some_none, both_none, both_false, neither, if_none, repeat_last}
 
 -- ---- items
 
@@ -39,7 +39,7 @@ item_is_right ss before around i e =
     let parts = both_false (bytes_eq (name_of i) top) (is_among around (name_of i)) cycle.0 in
     record { form = form.0; not_top = parts.0; not_around = parts.1; new = new.0; fits = fits.0; found = found.0 }
 
-mapped_none : (line : ℕ) (o : Option Kind) → option_map (refusal line) o ≡ None → o ≡ None
+pub mapped_none : (line : ℕ) (o : Option Kind) → option_map (refusal line) o ≡ None → o ≡ None
 mapped_none line None e = refl
 mapped_none line (Some k) e = absurd (some_none e)
 

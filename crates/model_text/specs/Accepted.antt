@@ -8,7 +8,7 @@ use Rattle.source_text.specs.Lines.{Files}
 use Rattle.ma_lines.specs.Sections.{Section, sections_of}
 use Rattle.atomic_face.specs.declared.class.Class.{Class}
 use Rattle.model_tree.specs.Tree.{Tree}
-use Rattle.model_tree.specs.Sound.{are_accepted}
+use Rattle.model_tree.specs.Sound.{are_accepted, is_sound_part, is_sound_model}
 use Rattle.model_text.specs.Refusals.{Refusal}
 use Rattle.model_text.specs.Walk.{top, name_of, items_in, walk, reached, atomics, top_refused, tree_refused}
 use Rattle.model_text.specs.Keys.{keys_refused}
@@ -19,7 +19,7 @@ use Rattle.model_text.specs.Links.{links_refused, links_of, face_of}
 use Rattle.model_text.specs.InitialFiles.{initial_files, first_file_stop}
 use Rattle.model_text.specs.Drawings.{Drawing, drawing_refused}
 use Rattle.model_text.specs.Trees.{tree_of}
-use Rattle.model_text.specs.ModelOf.{model, ModelRead, unless, link_limit_refused, routes_refused, with_files, model_in, model_of}
+use Rattle.model_text.specs.ModelOf.{model, unless, link_limit_refused, routes_refused, with_files, model_in, model_of}
 
 -- ---- the order of phases
 
@@ -82,3 +82,16 @@ AtomicsFit = (ss : List Section) → tree_refused ss ≡ None → length (atomic
 abbrev pub LinksAreAccepted : Type 0
 LinksAreAccepted =
     (ss : List Section) → links_refused ss ≡ None → AllByRecursion (λ s. are_accepted (face_of ss s) [] (links_of s) ≡ true) (reached ss)
+
+-- ---- what all phases say of the components
+
+-- each component is sound: its ports differ, its links are accepted in order, its groups are sound, and it has a child
+abbrev pub PartsAreSound : Type 0
+PartsAreSound = (files : Files) (classes : List Class) (ss : List Section) → Passed classes ss → is_sound_part (tree_of files ss) ≡ true
+
+-- ---- accepted models are sound
+
+abbrev pub ReadsSoundModels : Type 0
+ReadsSoundModels =
+    (bytes : Bytes) (files : Files) (classes : List Class) (drawing : Option Drawing) (t : Tree) →
+    (model_of bytes files classes drawing).found ≡ model t → is_sound_model t ≡ true

@@ -1,13 +1,24 @@
 -- What the phases say of the groups of an accepted model.
-use Rattle.std.specs.Prelude.{◌≡◌, ◌≤◌, true, None, List, [], length}
-use Rattle.std.specs.List.{list_all, AllByRecursion}
+use Rattle.std.specs.Prelude.{◌≡◌, ◌≤◌, ◌&&◌, nat_lt, true, false, None, List, ◌∷◌, map, length, codes}
+use Rattle.std.specs.List.{list_all, filter_map, AllByRecursion}
+use Rattle.std.specs.declared.result.Result.TheVariants.{Ok}
+use Rattle.quantity.specs.Bytes.{Bytes, has_repeat}
+use Rattle.rule_syntax.specs.Expression.{Rule}
+use Rattle.rule_syntax.specs.Scope.{Names, extent_of, is_sound}
+use Rattle.rule_syntax.specs.RuleOf.{rule_of}
+use Rattle.rule_syntax.specs.Phrases.{out}
 use Rattle.cell_grid.specs.Space.{cell_count}
 use Rattle.source_text.specs.Lines.{Files}
 use Rattle.ma_lines.specs.Sections.{Section}
-use Rattle.model_tree.specs.Sound.{is_near_offset, offsets_differ}
+use Rattle.cell_grid.specs.Region.{Region}
+use Rattle.model_tree.specs.declared.group.PortRule.{PortRule}
+use Rattle.model_tree.specs.Sound.{is_near_offset, offsets_differ, is_sound_group}
+use Rattle.model_text.specs.Keyed.{value_of}
 use Rattle.model_text.specs.Walk.{groups}
-use Rattle.model_text.specs.Spaces.{space_of, offsets_of, spaces_refused}
-use Rattle.model_text.specs.Trees.{initial_of}
+use Rattle.model_text.specs.Keys.{keys_refused}
+use Rattle.model_text.specs.Spaces.{space_of, offsets_of, zones_of, port_places, spaces_refused}
+use Rattle.model_text.specs.Rules.{rule_set_number, rule_sets_of, rules_refused}
+use Rattle.model_text.specs.Trees.{default_delay_of, initial_of, values_of, variables_of, ports_of, port_rule_of, group_of}
 
 -- at most 128 offsets, near and different
 pub record RightOffsets (s : Section) : Type 0 where
@@ -21,3 +32,42 @@ OffsetsAreRight = (ss : List Section) → spaces_refused ss ≡ None → AllByRe
 -- as many initial values as cells
 abbrev pub ValuesFit : Type 0
 ValuesFit = (files : Files) (s : Section) → length (initial_of files s) ≡ cell_count (space_of s)
+
+-- at least one cell, and a default delay of at most 99:59:59:999
+pub record RightSizes (s : Section) : Type 0 where
+  pub cells : 1 ≤ cell_count (space_of s)
+  pub delay : default_delay_of s ≤ 359999999
+
+abbrev pub SizesAreRight : Type 0
+SizesAreRight = (ss : List Section) → keys_refused ss ≡ None → AllByRecursion RightSizes (groups ss)
+
+-- at most 8 variables and 3 further ports of different names, none of them out, with a value for each
+pub record RightNames (s : Section) : Type 0 where
+  pub variables : length (variables_of s) ≤ 8
+  pub variable_values : length (values_of (value_of (codes "statevalues") s) (variables_of s)) ≡ length (variables_of s)
+  pub variables_differ : has_repeat (variables_of s) ≡ false
+  pub ports : length (ports_of s) ≤ 3
+  pub port_values : length (values_of (value_of (codes "portvalues") s) (ports_of s)) ≡ length (ports_of s)
+  pub ports_differ : has_repeat (out ∷ ports_of s) ≡ false
+
+abbrev pub NamesAreRight : Type 0
+NamesAreRight = (ss : List Section) → keys_refused ss ≡ None → AllByRecursion RightNames (groups ss)
+
+-- a rule set at least, a number of one for each zone, and numbers of sets and cells in range
+pub record RightNumbers (ss : List Section) (s : Section) : Type 0 where
+  pub sets : 1 ≤ length (rule_sets_of ss s)
+  pub zones : list_all (λ k. nat_lt k (length (rule_sets_of ss s))) (map (λ (z : Region). rule_set_number s z.name) (zones_of s)) ≡ true
+  pub ports : list_all (λ (p : PortRule). nat_lt p.rules (length (rule_sets_of ss s)) && nat_lt p.cell (cell_count (space_of s))) (filter_map (port_rule_of s) (port_places s)) ≡ true
+
+abbrev pub NumbersAreRight : Type 0
+NumbersAreRight = (ss : List Section) → keys_refused ss ≡ None → rules_refused ss ≡ None → AllByRecursion (RightNumbers ss) (groups ss)
+
+-- a text that is a rule of a group is a sound one
+abbrev pub RulesAreSound : Type 0
+RulesAreSound = (names : Names) (text : Bytes) (r : Rule) → rule_of names text ≡ Ok r → is_sound (extent_of names) r ≡ true
+
+-- the groups of an accepted model are sound
+abbrev pub GroupsAreSound : Type 0
+GroupsAreSound =
+    (files : Files) (ss : List Section) → keys_refused ss ≡ None → spaces_refused ss ≡ None → rules_refused ss ≡ None →
+    AllByRecursion (λ s. is_sound_group (group_of files ss s) ≡ true) (groups ss)

@@ -1,13 +1,15 @@
 -- Models that are refused: each kind, and the order of phases.
-use Rattle.std.specs.Prelude.{◌≡◌, ℕ, ◌+◌, ◌-◌, Bool, true, false, List, [], ◌∷◌, ◌++◌, decimal, codes}
-use Rattle.std.specs.List.{range_with_len}
+use Rattle.std.specs.Prelude.{◌≡◌, ℕ, ◌+◌, ◌-◌, Bool, true, false, List, [], ◌∷◌, ◌++◌, decimal, codes, ◌/◌, ◌%◌, take, replicate, None}
+use Rattle.std.specs.List.{flat_map, range_with_len}
 use Rattle.quantity.specs.Bytes.{Bytes}
+use Rattle.source_text.specs.Examples.{file}
 use Rattle.model_text.specs.declared.kind.Kind.{Kind}
 use Rattle.model_text.specs.declared.kind.Kind.TheVariants.{BadLine, DuplicateSection, NoTop, DuplicateKey, MissingKey, BadValue, UnknownComponent, DuplicateComponent, ComponentCycle, UnknownClass, OutOfStock, BadParameter, UnknownPort, SelfLink, PassThrough, DuplicateLink, BadRule, BadSort, RandomRefused, UnknownFunction, NotANeighbour, BadZone, BadInitial, TooLarge, NoSection, UnknownVariable, UnknownNeighbourPort}
 use Rattle.model_text.specs.Refusals.{refusal, kind_text}
-use Rattle.model_text.specs.ModelOf.{ModelOf, model, missing, refused}
+use Rattle.model_text.specs.Trees.{no_files}
+use Rattle.model_text.specs.ModelOf.{ModelOf, model, missing, refused, model_of}
 use Rattle.model_text.specs.Models.{line_model, port_model, cell_model, with_line, without_line}
-use Rattle.model_text.specs.Examples.{read, light_model, zoned}
+use Rattle.model_text.specs.Examples.{boxes, read, light_model, zoned}
 
 abbrev pub refuses : List Bytes → ℕ → Kind → Type 0
 refuses ls line kind = read ls ≡ refused (refusal line kind)
@@ -101,6 +103,44 @@ pub record TablesAreRefused : Type 0 where
   pub no_state : refuses (light_model (codes "hold : blue 00:00:00:030 1 red")) 9 BadParameter
   pub state_again : refuses (light_model (codes "hold : green 00:00:00:030 1 red")) 10 BadParameter
   pub bad_states : refuses (with_line 8 (codes "states : red red") (light_model (codes "hold : blue 00:00:00:030 1 red"))) 8 BadParameter
+
+pub record SectionsAreRefused : Type 0 where
+  pub parameter_again : refuses (codes "[top]" ∷ codes "components : q@queue" ∷ codes "[q]" ∷ codes "preparation : x" ∷ codes "preparation : 0:0:0:1" ∷ []) 5 DuplicateKey
+  pub other_key_again : is_model (read (codes "[top]" ∷ codes "components : q@queue" ∷ codes "[q]" ∷ codes "delay : x" ∷ codes "delay : y" ∷ [])) ≡ true
+  pub port_again : refuses (codes "[top]" ∷ codes "components : q@queue" ∷ codes "in : a b" ∷ codes "in : a" ∷ []) 4 BadValue
+  pub type_again : refuses (codes "[top]" ∷ codes "components : q@queue" ∷ codes "type : coupled" ∷ codes "type : coupled" ∷ []) 4 DuplicateKey
+  pub no_type : refuses (codes "[top]" ∷ codes "components : q@queue" ∷ codes "type : cells" ∷ []) 3 BadValue
+  pub unreached : is_model (read (codes "[top]" ∷ codes "components : q@queue" ∷ codes "[r]" ∷ codes "type : cells" ∷ [])) ≡ true
+
+-- ---- files cut off, and limits
+
+abbrev pub first_bytes : ℕ → ModelOf
+first_bytes n = (model_of (take n (file line_model)) no_files boxes None).found
+
+pub record CutFilesAreRefused : Type 0 where
+  pub no_rules : first_bytes 217 ≡ refused (refusal 12 NoSection)
+  pub half_a_rule : first_bytes 250 ≡ refused (refusal 14 BadLine)
+  pub one_rule : is_model (first_bytes 252) ≡ true
+
+-- a value in so many parentheses
+abbrev pub nested : ℕ → List Bytes
+nested n = cell_rule (codes "{ " ++ replicate n 40 ++ codes "1" ++ replicate n 41 ++ codes " } 100 { t }")
+
+-- so many different offsets
+abbrev pub many_offsets : ℕ → List Bytes
+many_offsets n =
+    with_line 6 (codes "neighbors : " ++ flat_map (λ k. codes "(" ++ decimal (k / 60) ++ codes "," ++ decimal (k % 60) ++ codes ")") (range_with_len 0 n)) (cell_rule (codes "0 100 { t }"))
+
+pub record LimitsAreKept : Type 0 where
+  pub cells : refuses (with_line 5 (codes "dim : (1024,1025)") (cell_rule (codes "0 100 { t }"))) 3 TooLarge
+  pub most_nested : is_model (read (nested 64)) ≡ true
+  pub nested_deeper : refuses (nested 65) 10 TooLarge
+  pub most_offsets : is_model (read (many_offsets 128)) ≡ true
+  pub more_offsets : refuses (many_offsets 129) 3 TooLarge
+  pub delay : refuses (with_line 7 (codes "defaultdelaytime : 360000000") line_model) 7 BadValue
+  pub most_variables : is_model (read (cell_model (codes "statevariables : a b c d e f g h" ∷ []) [])) ≡ true
+  pub more_variables : refuses (cell_model (codes "statevariables : a b c d e f g h i" ∷ []) []) 7 BadValue
+  pub more_ports : refuses (cell_model (codes "neighborports : a b c d" ∷ []) []) 7 BadValue
 
 -- ---- groups, and the order of phases
 

@@ -1,6 +1,6 @@
 // Laws of the models that are accepted.
-ghost use Rattle.model_text.specs.Accepted.{FirstPhaseDecides, PassesEachPhase, ComponentsDiffer, AtomicsFit, LinksAreAccepted};
-ghost use Rattle.model_text.specs.GroupLaws.{OffsetsAreRight, ValuesFit};
+ghost use Rattle.model_text.specs.Accepted.{FirstPhaseDecides, PassesEachPhase, ComponentsDiffer, AtomicsFit, LinksAreAccepted, PartsAreSound, ReadsSoundModels};
+ghost use Rattle.model_text.specs.GroupLaws.{OffsetsAreRight, ValuesFit, SizesAreRight, NamesAreRight, NumbersAreRight, RulesAreSound, GroupsAreSound};
 
 /// The first phase that refuses decides, in the order of the phases.
 pub fn first_phase_decides()
@@ -35,4 +35,39 @@ pub fn accepted_offsets_are_right()
 /// A group has as many initial values as cells, whatever its rows and files.
 pub fn accepted_groups_have_a_value_for_each_cell()
     ensures { ValuesFit }
+{}
+
+/// The groups of an accepted model have at least one cell, and a default delay of at most 99:59:59:999.
+pub fn accepted_groups_have_right_sizes()
+    ensures { SizesAreRight }
+{}
+
+/// The groups of an accepted model have at most 8 variables and 3 further ports, with different names and a value for each.
+pub fn accepted_groups_have_right_names()
+    ensures { NamesAreRight }
+{}
+
+/// The groups of an accepted model have a rule set, and each number of a rule set or cell is in range.
+pub fn accepted_groups_have_right_numbers()
+    ensures { NumbersAreRight }
+{}
+
+/// A text that is a rule of a group is a sound rule.
+pub fn accepted_rules_are_sound()
+    ensures { RulesAreSound }
+{}
+
+/// The groups of an accepted model are sound.
+pub fn accepted_groups_are_sound()
+    ensures { GroupsAreSound }
+{}
+
+/// The components of an accepted model are sound.
+pub fn accepted_components_are_sound()
+    ensures { PartsAreSound }
+{}
+
+/// Every model that is accepted is sound.
+pub fn accepted_models_are_sound()
+    ensures { ReadsSoundModels }
 {}

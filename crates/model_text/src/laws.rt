@@ -1,6 +1,6 @@
 // Calls that name the definitions.
 ghost use Rattle.model_text.specs.Examples.{LineIsRead, TableIsRead, QueueIsRead, LifeIsRead, GroupsAreRead};
-ghost use Rattle.model_text.specs.RefusalExamples.{KindsHaveTexts, LineIsRefused, CellIsRefused, DepthIsBounded, ComponentsAreRefused, TablesAreRefused, GroupsAreRefused};
+ghost use Rattle.model_text.specs.RefusalExamples.{KindsHaveTexts, LineIsRefused, CellIsRefused, DepthIsBounded, ComponentsAreRefused, TablesAreRefused, GroupsAreRefused, SectionsAreRefused, CutFilesAreRefused, LimitsAreKept};
 ghost use Rattle.model_text.specs.FileExamples.{FilesAreLaidOn, FilesAreRefused};
 
 /// The line of three cells is read, in letters of either case.
@@ -71,4 +71,19 @@ pub fn files_are_laid_on()
 /// Initial files and drawings are refused.
 pub fn files_are_refused()
     ensures { FilesAreRefused }
+{}
+
+/// Keys and ports that stand again are refused, and sections that nothing reaches are not.
+pub fn sections_are_refused()
+    ensures { SectionsAreRefused }
+{}
+
+/// A file that is cut off is refused where its first lines are.
+pub fn cut_files_are_refused()
+    ensures { CutFilesAreRefused }
+{}
+
+/// The last that a limit accepts, and the first that it refuses.
+pub fn limits_are_kept()
+    ensures { LimitsAreKept }
 {}

@@ -1,7 +1,8 @@
-// Values, truth values, times, places and names.
+// Values, truth values, times, places and names, with their texts.
 #![tactic(auto)]
 
 pub mod digits;
+pub mod laws;
 mod literal;
 pub mod memory;
 pub mod name;
@@ -19,3 +20,6 @@ pub use raw::Raw;
 pub use time::Time;
 pub use truth::Tri;
 pub use value::{Compare, Overflow, Value};
+
+#[cfg(test)]
+mod tests;

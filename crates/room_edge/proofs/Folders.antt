@@ -1,5 +1,5 @@
 -- What a change of a map does to its folder.
-use Rattle.std.proofs.Common.{◌≡◌, ℕ, List, [], ◌++◌, Bool, true, false, cond, Option, Some, None, Vec, String, nat_cmp, refl, sym, ◌∙◌, ap, subst}
+use Rattle.std.proofs.Common.{◌≡◌, ℕ, List, ◌++◌, Bool, true, false, cond, Option, Some, None, Vec, String, nat_cmp, refl, sym, ◌∙◌, ap}
 use Rattle.std.specs.declared.alloc.Global.{Global}
 use Rattle.std.specs.Prelude.{if◌then◌else◌}
 use Rattle.std.specs.Option.{option_map}
@@ -9,8 +9,7 @@ use Rattle.std.specs.Cmp.Lexicographic.{slice_cmp}
 use Rattle.std.specs.BTreeMap.{BTreeMap, UpdatesBy, get_by_text}
 use Rattle.std.proofs.lemmas.Map.Text.{btree_map_updates_text}
 use Rattle.std.proofs.lemmas.Slice.Eq.{bytes_eq-Decides}
-use Rattle.std.proofs.lemmas.Bool.{cases_cond}
-use Rattle.room_edge.specs.Outside.{Folder, with_file, with_more}
+use Rattle.room_edge.specs.Outside.{with_file, with_more}
 use Rattle.room_edge.specs.Folder.{folder_of}
 
 abbrev Files : Type 0

@@ -1,6 +1,6 @@
 -- One call after another changes only what both may change.
-use Rattle.std.proofs.Common.{◌≡◌, refl, ◌∙◌}
-use Rattle.room_edge.specs.Outside.{Outside, OnlyInput, OnlyRest, OnlyOutput, OnlyMade, OnlyShown, OnlyComplained}
+use Rattle.std.proofs.Common.{refl, ◌∙◌}
+use Rattle.room_edge.specs.Outside.{Outside, OnlyInput, OnlyOutput, OnlyMade, OnlyShown, OnlyComplained}
 
 pub OnlyInput-refl : (a : Outside) → OnlyInput a a
 OnlyInput-refl a = record { files = refl; made = refl; shown = refl; complained = refl; write_faults = refl; complain_faults = refl; created = refl }

@@ -1,7 +1,5 @@
 -- What a room in memory tells: all of it. No call of its fails.
-use Rattle.std.specs.Prelude.{ℕ, List, [], map, drop, false, Option, Some, None, Vec, String}
-use Rattle.std.specs.declared.alloc.Global.{Global}
-use Rattle.std.specs.String.{string_bytes}
+use Rattle.std.specs.Prelude.{ℕ, drop, Some}
 use Rattle.room_edge.specs.Outside.{Outside}
 use Rattle.room_edge.specs.Folder.{folder_of, names_of}
 use Rattle.room_edge.specs.declared.sure.SureRoom.{SureRoom}

@@ -1,5 +1,6 @@
-// The real folder and streams. Of what they hold it tells nothing.
+//! The real folder and streams. Of what they hold it tells nothing.
 ghost use Rattle.std.specs.Prelude.{◌≡◌, ℕ, ◌<◌, ◌≤◌, length, map, is_some, IfSome};
+ghost use Rattle.room_edge.specs.Fresh.{nothing_told};
 ghost use Rattle.std.specs.String.{string_bytes};
 
 use crate::{OpenError, ReadFailed, Room, WriteError};
@@ -8,13 +9,19 @@ use std::fs::Files;
 use std::io::{ErrorKind, Read, Write};
 use std::{fs, io};
 
-/// A file that was made, kept open.
+// A file that was made, kept open.
 #[derive(Drop)]
-pub struct MadeFile<F: Drop> {
+struct MadeFile<F: Drop> {
     name: String,
     file: F,
 }
 
+/// The real folder and both standard streams, behind a runtime. It tells its counts and its names,
+/// and none of the bytes.
+///
+/// A made file stays open between two appends. A write that takes nothing of a piece that isn't
+/// empty is a fault of writing. The second stream takes text alone, so bytes that are no text are
+/// a fault of complaining.
 #[derive(Drop)]
 pub struct FolderRoom<R: Files + Print + Eprint + AllocGlobal + Drop> {
     rt: R,
@@ -51,8 +58,19 @@ fn append_to<F: Write + Drop>(
     None
 }
 
+// Whether the system had no memory for a call, which is no fault of the file.
+fn lacks_memory<F: Drop>(file: &io::Result<F>) -> bool {
+    match file {
+        Ok(_) => false,
+        Err(error) => error.kind() == ErrorKind::OutOfMemory,
+    }
+}
+
 impl<R: Files + Print + Eprint + AllocGlobal + Drop> FolderRoom<R> {
-    pub fn new(rt: R) -> Self {
+    /// The folder that the program runs in, and its two streams.
+    pub fn new(rt: R) -> Self
+        ensures { ⟦<FolderRoom<R> as Room>⟧.outside result ≡ nothing_told }
+    {
         let alloc = rt.alloc();
         FolderRoom {
             rt,
@@ -73,13 +91,17 @@ impl<R: Files + Print + Eprint + AllocGlobal + Drop> Room for FolderRoom<R> {
     ghost outside = { λ r. folder_outside r.read_faults r.write_faults r.complain_faults r.misses r.tried (map (λ m. string_bytes m.name) r.made.items) (is_some r.input) };
 
     fn open_input(&mut self, name: &str) -> Result<(), OpenError> {
+        let file = fs::open(&self.rt, name);
+        if lacks_memory(&file) {
+            return Err(OpenError::Memory);
+        }
         let Ok(copy) = String::from_str(self.rt.alloc(), name) else {
             return Err(OpenError::Memory);
         };
         let Ok(()) = self.tried.push(copy) else {
             return Err(OpenError::Memory);
         };
-        match fs::open(&self.rt, name) {
+        match file {
             Ok(file) => {
                 self.input = Some(file);
                 Ok(())
@@ -108,12 +130,20 @@ impl<R: Files + Print + Eprint + AllocGlobal + Drop> Room for FolderRoom<R> {
         }
     }
 
+    // Memory comes first, so that want of it leaves the file as it was.
     #[tactic(auto, unfolding(crate::specs::Outside::puts))]
     fn create(&mut self, name: &str) -> Result<(), WriteError> {
         let Ok(copy) = String::from_str(self.rt.alloc(), name) else {
             return Err(WriteError::Memory);
         };
-        let Ok(file) = fs::create(&self.rt, name) else {
+        if self.made.reserve(1).is_err() {
+            return Err(WriteError::Memory);
+        }
+        let file = fs::create(&self.rt, name);
+        if lacks_memory(&file) {
+            return Err(WriteError::Memory);
+        }
+        let Ok(file) = file else {
             self.write_faults = self.write_faults.saturating_add(1);
             return Err(WriteError::Failed);
         };
@@ -125,11 +155,10 @@ impl<R: Files + Print + Eprint + AllocGlobal + Drop> Room for FolderRoom<R> {
 
     #[tactic(auto, unfolding(crate::specs::Outside::adds))]
     fn append(&mut self, name: &str, bytes: &[u8]) -> Result<usize, WriteError> {
-        let written = append_to(&mut self.made, name, bytes);
         if bytes.is_empty() {
             return Ok(0);
         }
-        match written {
+        match append_to(&mut self.made, name, bytes) {
             Some(n) => Ok(n),
             None => {
                 self.write_faults = self.write_faults.saturating_add(1);

@@ -1,5 +1,5 @@
 //! A room in memory, whose calls may be made to fail.
-ghost use Rattle.std.specs.Prelude.{◌≡◌, ℕ, ◌<◌, ◌≤◌, ◌↔◌, ◌⊎◌, List, [], ◌∷◌, ◌++◌, length, min, Any, Contains, IsTrue, IfOk, OnOk, OnErr, IsOk, IsErr, IsErrOf, IfSome};
+ghost use Rattle.std.specs.Prelude.{◌≡◌, ℕ, ◌<◌, ◌≤◌, ◌↔◌, ◌⊎◌, List, [], ◌∷◌, ◌++◌, length, min, Any, Contains, IsTrue, IfOk, OnOk, OnErr, IsOk, IsErr, IsErrOf, IsSome, IfSome};
 ghost use Rattle.std.specs.Option.{option_copied};
 ghost use Rattle.room_edge.specs.Outside.{puts};
 ghost use Rattle.room_edge.specs.Faults.{raised};
@@ -141,9 +141,10 @@ impl MemoryRoom {
         }
     }
 
-    /// The bytes of a file that was made in the room.
+    /// The bytes of a file that was created in the room, and none where no such name was.
     pub fn made(&self, name: &str) -> Option<&[u8]>
-        ensures { IfSome (memory_outside self.now).made (λ made. option_copied result ≡ made name.now) }
+        ensures some { IsSome result ↔ Contains (memory_outside self.now).created name.now }
+        ensures bytes { IfSome (memory_outside self.now).made (λ made. option_copied result ≡ made name.now) }
     {
         self.sure.made(name)
     }

@@ -1,8 +1,8 @@
 //! A room in memory, whose calls take and give at most so many bytes at once. None of them fails.
-ghost use Rattle.std.specs.Prelude.{◌≡◌, ℕ, ◌<◌, ◌≤◌, List, [], ◌∷◌, ◌++◌, length, min, Contains, IsTrue, OnOk, OnErr, IfOk, IsOk, IsErrOf, IfSome};
+ghost use Rattle.std.specs.Prelude.{◌≡◌, ℕ, ◌<◌, ◌≤◌, List, [], ◌∷◌, ◌++◌, length, min, Contains, IsTrue, OnOk, OnErr, IfOk, IsOk, IsErrOf, IsSome, IfSome, ◌↔◌};
 ghost use Rattle.std.specs.Option.{option_copied};
 ghost use Rattle.room_edge.specs.Outside.{Outside, with_file, with_more, puts};
-ghost use Rattle.room_edge.specs.Folder.{folder_of, names_of};
+ghost use Rattle.room_edge.specs.Folder.{folder_of, names_of, Lists};
 ghost use Rattle.room_edge.specs.Fresh.{nothing_there};
 ghost use Rattle.room_edge.specs.Calls.{Opens, Reads, Creates, Appends, Shows, Complains};
 
@@ -29,6 +29,7 @@ pub struct SureRoom {
     misses: u64,
     ghost some: { 0 < piece },
     ghost within: { taken ≤ length input.items },
+    ghost listed: { Lists (folder_of made) (names_of created) },
 }
 
 // Puts a file in the place of what may stand there.
@@ -117,9 +118,10 @@ impl SureRoom {
         add_name(self.alloc, &mut self.tried, name)
     }
 
-    /// The bytes of a file that was made in the room.
+    /// The bytes of a file that was created in the room, and none where no such name was.
     pub fn made(&self, name: &str) -> Option<&[u8]>
-        ensures { IfSome (sure_outside self.now).made (λ made. option_copied result ≡ made name.now) }
+        ensures some { IsSome result ↔ Contains (sure_outside self.now).created name.now }
+        ensures bytes { IfSome (sure_outside self.now).made (λ made. option_copied result ≡ made name.now) }
     {
         match self.made.get(name) {
             None => None,

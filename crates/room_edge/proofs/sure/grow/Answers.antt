@@ -1,4 +1,4 @@
-use Rattle.std.proofs.Common.{rules, refl, sym, ◌∙◌}
+use Rattle.std.proofs.Common.{rules}
 use Rattle.std.proofs.lemmas.Result.{err_from_is_err_and}
 use Rattle.room_edge.proofs.Folders.{folder-more, folder-same}
 use Rattle.room_edge.proofs.sure.grow.Goals as goal

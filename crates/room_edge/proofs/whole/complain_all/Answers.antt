@@ -1,5 +1,4 @@
-use Rattle.std.proofs.Common.{refl, sym, ◌∙◌, ap, rules, arith}
-use Rattle.room_edge.specs.Outside.{streams}
+use Rattle.std.proofs.Common.{refl, sym, ◌∙◌, rules, arith}
 use Rattle.room_edge.proofs.Adding.{streams-nil, streams_piece}
 use Rattle.room_edge.proofs.Only.{OnlyComplained-refl, OnlyComplained-trans}
 use Rattle.room_edge.proofs.whole.complain_all.Goals as goal

@@ -1,5 +1,4 @@
-use Rattle.std.proofs.Common.{refl, sym, ◌∙◌, ap, rules, arith}
-use Rattle.room_edge.specs.Outside.{streams}
+use Rattle.std.proofs.Common.{refl, sym, ◌∙◌, rules, arith}
 use Rattle.room_edge.proofs.Adding.{streams-nil, streams_piece}
 use Rattle.room_edge.proofs.Only.{OnlyShown-refl, OnlyShown-trans}
 use Rattle.room_edge.proofs.whole.show_all.Goals as goal

@@ -1,5 +1,4 @@
-use Rattle.std.proofs.Common.{refl, sym, ◌∙◌, ap, rules, arith}
-use Rattle.room_edge.specs.Outside.{adds}
+use Rattle.std.proofs.Common.{refl, sym, ◌∙◌, rules, arith}
 use Rattle.room_edge.proofs.Adding.{adds-nil, adds_piece}
 use Rattle.room_edge.proofs.Only.{OnlyMade-refl, OnlyMade-trans}
 use Rattle.room_edge.proofs.whole.write_all.Goals as goal

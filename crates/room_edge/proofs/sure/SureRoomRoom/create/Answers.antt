@@ -1,8 +1,9 @@
 use Rattle.std.proofs.Common.{ap, Some, ◌∙◌, [], rules}
 use Rattle.std.specs.String.{string_bytes}
 use Rattle.room_edge.specs.Outside.{puts, with_file}
-use Rattle.room_edge.specs.Folder.{folder_of}
+use Rattle.room_edge.specs.Folder.{folder_of, names_of}
 use Rattle.room_edge.proofs.Folders.{folder-put}
+use Rattle.room_edge.proofs.Listed.{lists-file}
 use Rattle.room_edge.proofs.sure.SureRoomRoom.create.Goals as goal
 
 pub returns-clause-room : goal.returns-clause-room
@@ -18,4 +19,17 @@ returns-clause-room c =
       failed = search rules;
       faults = search rules;
       only = search rules;
+    }
+
+pub invariant_of-self-in-Ok-insert : goal.invariant_of-self-in-Ok-insert
+invariant_of-self-in-Ok-insert c =
+    let room = c.args.self.now in
+    record {
+      some = search rules;
+      within = search rules;
+      listed = lists-file (folder_of room.made) (folder_of c.insert.new.self) (names_of room.created) (names_of c.add_name.new.names) c.args.name.now []
+          (folder-put (string_bytes c.in-Ok.key) room.made c.insert.new.self c.new.result c.in-Ok-insert.ensures.updates
+          ∙ ap (λ l. with_file (string_bytes c.in-Ok.key) l (folder_of room.made)) c.new.ensures.items
+          ∙ ap (λ n. with_file n [] (folder_of room.made)) c.in-Ok.ensures.ok)
+          c.in-Ok-add_name.ensures.ok room.listed;
     }

@@ -1,0 +1,144 @@
+-- Initial values change no link: the paths of a tree are those of the tree without them.
+use Rattle.std.proofs.Common.{◌≡◌, ℕ, zero, suc, ◌+◌, Bool, true, false, cond, Option, Some, None, List, [], ◌∷◌, ◌++◌, map, length, refl, sym, ap, ◌∙◌}
+use Rattle.std.specs.Prelude.{codes}
+use Rattle.std.specs.List.{flat_map, sum}
+use Rattle.std.specs.Str.{bytes_eq}
+use Rattle.std.proofs.lemmas.List.{map-append}
+use Rattle.source_text.specs.Lines.{Files}
+use Rattle.ma_lines.specs.Sections.{Section}
+use Rattle.model_tree.specs.Tree.{Word, Tree, Trees, coupled, cells, atomic, nil, cons, name_of, leaf_count, leaf_counts, ins_of, outs_of}
+use Rattle.model_tree.specs.Pull.{is_own, is_child, brought, nothing, given_out, given_by, taken_in, all_taken_in, Source, leaf_source, top_source, sources, top_sources}
+use Rattle.model_tree.specs.Sound.{path_count}
+use Rattle.model_text.specs.Keyed.{section_named, Item, texts_of}
+use Rattle.model_text.specs.Walk.{top, is_group, children_of, section_of}
+use Rattle.model_text.specs.Stock.{class_of_item}
+use Rattle.model_text.specs.Links.{links_of}
+use Rattle.model_text.specs.Trees.{group_of, atomic_of, trees, component_of, first_tree, tree_at, tree_of, no_files}
+use Rattle.model_text.proofs.Parts.{child}
+
+abbrev mutual
+  pub bare : Tree → Tree
+  bare (coupled name ins outs children links) = coupled name ins outs (all_bare children) links
+  bare (cells g) = cells (record g { initial = [] })
+  bare (atomic name class settings) = atomic name class settings
+
+  pub all_bare : Trees → Trees
+  all_bare nil = nil
+  all_bare (cons t ts) = cons (bare t) (all_bare ts)
+
+-- ---- what stays
+
+same_name : (t : Tree) → name_of (bare t) ≡ name_of t
+same_name (coupled name ins outs children links) = refl
+same_name (cells g) = refl
+same_name (atomic name class settings) = refl
+
+pub same_ins : (t : Tree) → ins_of (bare t) ≡ ins_of t
+same_ins (coupled name ins outs children links) = refl
+same_ins (cells g) = refl
+same_ins (atomic name class settings) = refl
+
+pub same_outs : (t : Tree) → outs_of (bare t) ≡ outs_of t
+same_outs (coupled name ins outs children links) = refl
+same_outs (cells g) = refl
+same_outs (atomic name class settings) = refl
+
+mutual
+  same_leaves : (t : Tree) → leaf_count (bare t) ≡ leaf_count t
+  same_leaves (coupled name ins outs children links) = all_same_leaves children
+  same_leaves (cells g) = refl
+  same_leaves (atomic name class settings) = refl
+
+  all_same_leaves : (ts : Trees) → leaf_counts (all_bare ts) ≡ leaf_counts ts
+  all_same_leaves nil = refl
+  all_same_leaves (cons t ts) = ap (λ n. n + leaf_counts (all_bare ts)) (same_leaves t) ∙ ap (λ n. leaf_count t + n) (all_same_leaves ts)
+
+mutual
+  same_out : (t : Tree) (first : ℕ) (give : ℕ → List Source) (port : Word) → given_out (bare t) first give port ≡ given_out t first give port
+  same_out (coupled name ins outs children links) first give port =
+      ap (λ by. brought links (is_own port) nothing by nothing) (λ k p c. same_by children first give p c k)
+  same_out (cells g) first give port = refl
+  same_out (atomic name class settings) first give port = refl
+
+  same_by : (ts : Trees) (first : ℕ) (give : ℕ → List Source) (port name : Word) → given_by (all_bare ts) first give port name ≡ given_by ts first give port name
+  same_by nil first give port name = refl
+  same_by (cons t ts) first give port name =
+      ap (λ m. cond (bytes_eq m name) (given_out (bare t) first give port) (given_by (all_bare ts) (first + leaf_count (bare t)) give port name)) (same_name t)
+      ∙ ap (λ xs. cond (bytes_eq (name_of t) name) xs (given_by (all_bare ts) (first + leaf_count (bare t)) give port name)) (same_out t first give port)
+      ∙ ap (λ n. cond (bytes_eq (name_of t) name) (given_out t first give port) (given_by (all_bare ts) (first + n) give port name)) (same_leaves t)
+      ∙ ap (λ xs. cond (bytes_eq (name_of t) name) (given_out t first give port) xs) (same_by ts (first + leaf_count t) give port name)
+
+mutual
+  same_in : (t : Tree) (first : ℕ) (give : ℕ → List Source) (own : Word → List Source) → taken_in (bare t) first give own ≡ taken_in t first give own
+  same_in (coupled name ins outs children links) first give own =
+      all_same_in children first give (λ child port. brought links (is_child port child) own (given_by (all_bare children) first give) nothing)
+      ∙ ap (λ by. all_taken_in children first give (λ child port. brought links (is_child port child) own by nothing)) (λ k p c. same_by children first give p c k)
+  same_in (cells g) first give own = refl
+  same_in (atomic name class settings) first give own = refl
+
+  all_same_in : (ts : Trees) (first : ℕ) (give : ℕ → List Source) (own : Word → Word → List Source) → all_taken_in (all_bare ts) first give own ≡ all_taken_in ts first give own
+  all_same_in nil first give own = refl
+  all_same_in (cons t ts) first give own =
+      ap (λ m. taken_in (bare t) first give (own m) ++ all_taken_in (all_bare ts) (first + leaf_count (bare t)) give own) (same_name t)
+      ∙ ap (λ xs. xs ++ all_taken_in (all_bare ts) (first + leaf_count (bare t)) give own) (same_in t first give (own (name_of t)))
+      ∙ ap (λ n. taken_in t first give (own (name_of t)) ++ all_taken_in (all_bare ts) (first + n) give own) (same_leaves t)
+      ∙ ap (λ xs. taken_in t first give (own (name_of t)) ++ xs) (all_same_in ts (first + leaf_count t) give own)
+
+abbrev leaf_gives : ℕ → List Source
+leaf_gives n = leaf_source n ∷ []
+
+abbrev top_gives : Word → List Source
+top_gives p = top_source p ∷ []
+
+-- ---- paths
+
+pub same_paths : (t : Tree) → path_count (bare t) ≡ path_count t
+same_paths t =
+    ap (λ ports. sum (map (λ ports. sum (map length ports)) ports) + sum (map length (top_sources (bare t)))) (same_in t 0 leaf_gives top_gives)
+    ∙ ap (λ outs. sum (map (λ ports. sum (map length ports)) (sources t)) + sum (map length (map (given_out (bare t) 0 leaf_gives) outs))) (same_outs t)
+    ∙ ap (λ give. sum (map (λ ports. sum (map length ports)) (sources t)) + sum (map length (map give (outs_of t)))) (λ k port. same_out t 0 leaf_gives port k)
+
+-- ---- components made with other files
+
+bare_trees : (ts : List Tree) → all_bare (trees ts) ≡ trees (map bare ts)
+bare_trees [] = refl
+bare_trees (t ∷ ts) = ap (λ us. cons (bare t) us) (bare_trees ts)
+
+bare_of_all : (f g : Item → List Tree) → ((i : Item) → map bare (f i) ≡ map bare (g i)) → (is : List Item) → map bare (flat_map f is) ≡ map bare (flat_map g is)
+bare_of_all f g same [] = refl
+bare_of_all f g same (i ∷ is) =
+    map-append bare (f i) (flat_map f is) ∙ ap (λ ts. ts ++ map bare (flat_map f is)) (same i) ∙ ap (λ ts. map bare (g i) ++ ts) (bare_of_all f g same is)
+    ∙ sym (map-append bare (g i) (flat_map g is))
+
+same_bare : (n : ℕ) (files : Files) (ss : List Section) (s : Section) → map bare (component_of n files ss s) ≡ map bare (component_of n no_files ss s)
+same_bare zero files ss s = refl
+same_bare (suc n) files ss s = go (is_group s) (same_child (same_bare n files ss))
+  where
+    same_child : ((t : Section) → map bare (component_of n files ss t) ≡ map bare (component_of n no_files ss t)) → (i : Item) → map bare (child n files ss i) ≡ map bare (child n no_files ss i)
+    same_child later i = by_section (section_of ss i)
+      where
+        by_section : (o : Option Section) → map bare (elim o [ None ↦ atomic_of ss i (class_of_item i) | Some u ↦ component_of n files ss u ]) ≡ map bare (elim o [ None ↦ atomic_of ss i (class_of_item i) | Some u ↦ component_of n no_files ss u ])
+        by_section None = refl
+        by_section (Some t) = later t
+
+    go : (b : Bool) → ((i : Item) → map bare (child n files ss i) ≡ map bare (child n no_files ss i))
+        → map bare (cond b (cells (group_of files ss s)) (coupled s.name (texts_of (codes "in") s) (texts_of (codes "out") s) (trees (flat_map (child n files ss) (children_of s))) (links_of s)) ∷ [])
+        ≡ map bare (cond b (cells (group_of no_files ss s)) (coupled s.name (texts_of (codes "in") s) (texts_of (codes "out") s) (trees (flat_map (child n no_files ss) (children_of s))) (links_of s)) ∷ [])
+    go true later = refl
+    go false later =
+        ap (λ us. let x : List Tree = coupled s.name (texts_of (codes "in") s) (texts_of (codes "out") s) us (links_of s) ∷ [] in x)
+        (bare_trees (flat_map (child n files ss) (children_of s)) ∙ ap trees (bare_of_all (child n files ss) (child n no_files ss) later (children_of s)) ∙ sym (bare_trees (flat_map (child n no_files ss) (children_of s))))
+
+first_bare : (ts us : List Tree) → map bare ts ≡ map bare us → bare (first_tree ts) ≡ bare (first_tree us)
+first_bare ts us e = under ts ∙ ap first_tree e ∙ sym (under us)
+  where
+    under : (ts : List Tree) → bare (first_tree ts) ≡ first_tree (map bare ts)
+    under [] = refl
+    under (t ∷ ts) = refl
+
+pub same_tree : (files : Files) (ss : List Section) → bare (tree_of files ss) ≡ bare (tree_of no_files ss)
+same_tree files ss = go (section_named ss top)
+  where
+    go : (o : Option Section) → bare (tree_at files ss o) ≡ bare (tree_at no_files ss o)
+    go None = refl
+    go (Some s) = first_bare (component_of 17 files ss s) (component_of 17 no_files ss s) (same_bare 17 files ss s)

@@ -1,0 +1,23 @@
+use Rattle.std.proofs.Common.{refl}
+use Rattle.std.specs.Fmt.{digits}
+use Rattle.ma_lines.specs.Sections.{sections_of}
+use Rattle.rule_syntax.specs.Tokens.{tokens}
+use Rattle.rule_syntax.specs.Reading.{written_rule}
+use Rattle.rule_syntax.specs.RuleOf.{rule_of}
+use Rattle.model_text.specs.ModelOf.{model_of}
+use Rattle.model_text.proofs.laws.limits_are_kept.Goals as goal
+
+pub returns : goal.returns
+unfolding sections_of tokens written_rule rule_of model_of digits
+returns c =
+    record {
+      cells = refl;
+      most_nested = refl;
+      nested_deeper = refl;
+      most_offsets = refl;
+      more_offsets = refl;
+      delay = refl;
+      most_variables = refl;
+      more_variables = refl;
+      more_ports = refl;
+    }

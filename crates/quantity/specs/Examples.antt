@@ -1,0 +1,140 @@
+-- Values worked out by the definitions.
+use Rattle.std.specs.Prelude.{◌≡◌, ℕ, ◌^◌, ◌-◌, true, false, Some, None, [], replicate, pos, neg_ℤ, codes}
+use Rattle.quantity.specs.declared.truth.Tri.TheVariants.{True, False, Undef}
+use Rattle.quantity.specs.declared.value.Compare.TheVariants.{Equal, Unequal, Less, LessEqual, Greater, GreaterEqual}
+use Rattle.quantity.specs.declared.value.Value.{Value}
+use Rattle.quantity.specs.declared.value.Value.TheVariants.{Undefined, Num}
+use Rattle.quantity.specs.Arithmetic.{sum_of, difference_of, product_of, quotient_of, remainder_of, least_of, greatest_of, negative_of, size_of, sign_of, root_of, whole_part, rounded, fraction_of, comparison}
+use Rattle.quantity.specs.Literals.{value_in}
+use Rattle.quantity.specs.Names.{is_name}
+use Rattle.quantity.specs.Times.{time_in, time_text, read_time}
+use Rattle.quantity.specs.ValueTexts.{text5, value_text, read_text5}
+
+-- so many hundred-thousandths, above zero and below
+abbrev pub plus : ℕ → Value
+plus n = Num (pos n)
+
+abbrev pub minus : ℕ → Value
+minus n = Num (neg_ℤ (pos n))
+
+abbrev pub greatest : Value
+greatest = plus (10 ^ 15)
+
+abbrev pub least : Value
+least = minus (10 ^ 15)
+
+pub record SumsAsSaid : Type 0 where
+  pub sum : sum_of (plus 150000) (minus 200000) ≡ Some (minus 50000)
+  pub to_the_bound : sum_of (plus (10 ^ 15 - 1)) (plus 1) ≡ Some greatest
+  pub past_the_bound : sum_of greatest (plus 1) ≡ None
+  pub below_the_bound : difference_of least (plus 1) ≡ None
+  pub difference : difference_of greatest greatest ≡ Some (plus 0)
+  pub with_undefined : sum_of greatest Undefined ≡ Some Undefined
+  pub from_undefined : difference_of Undefined greatest ≡ Some Undefined
+
+pub record ProductsAsSaid : Type 0 where
+  pub cut : product_of (plus 100001) (plus 100001) ≡ Some (plus 100002)
+  pub cut_below_zero : product_of (minus 100001) (plus 100001) ≡ Some (minus 100002)
+  pub too_small : product_of (minus 1) (plus 99999) ≡ Some (plus 0)
+  -- the product is 10 ^ 20 + 1, and what is cut off is what passes the bound
+  pub cut_to_the_bound : product_of (plus 16764886321) (plus 5964848081) ≡ Some greatest
+  pub past_the_bound : product_of greatest (plus 100001) ≡ None
+  pub with_undefined : product_of Undefined greatest ≡ Some Undefined
+  pub third : quotient_of (plus 100000) (plus 300000) ≡ Some (plus 33333)
+  pub third_below_zero : quotient_of (plus 100000) (minus 300000) ≡ Some (minus 33333)
+  pub large : quotient_of greatest (plus 99999) ≡ None
+  pub by_zero : quotient_of greatest (plus 0) ≡ Some Undefined
+  pub by_undefined : quotient_of greatest Undefined ≡ Some Undefined
+  pub rest : remainder_of (plus 750000) (minus 200000) ≡ plus 150000
+  pub rest_below_zero : remainder_of (minus 750000) (plus 200000) ≡ minus 150000
+  pub rest_by_zero : remainder_of (plus 750000) (plus 0) ≡ Undefined
+
+pub record FunctionsAsSaid : Type 0 where
+  pub min : least_of (plus 1) (minus 2) ≡ minus 2
+  pub max : greatest_of (plus 1) (minus 2) ≡ plus 1
+  pub min_undefined : least_of (plus 1) Undefined ≡ Undefined
+  pub max_undefined : greatest_of Undefined (plus 1) ≡ Undefined
+  pub neg : negative_of (plus 150000) ≡ minus 150000
+  pub neg_zero : negative_of (plus 0) ≡ plus 0
+  pub abs : size_of least ≡ greatest
+  pub sign : sign_of (minus 1) ≡ minus 100000
+  pub sign_zero : sign_of (plus 0) ≡ plus 0
+  pub sign_above : sign_of greatest ≡ plus 100000
+  pub trunc : whole_part (minus 199999) ≡ minus 100000
+  pub fractional : fraction_of (minus 150000) ≡ minus 50000
+  pub half : rounded (plus 50000) ≡ plus 100000
+  pub less_than_half : rounded (plus 49999) ≡ plus 0
+  pub half_below_zero : rounded (minus 50000) ≡ minus 100000
+  pub two_and_a_half : rounded (plus 250000) ≡ plus 300000
+  pub at_the_bound : rounded least ≡ least
+  pub root_of_two : root_of (plus 200000) ≡ plus 141421
+  pub root_of_the_smallest : root_of (plus 1) ≡ plus 316
+  pub root_of_the_greatest : root_of greatest ≡ plus (10 ^ 10)
+  pub root_below_zero : root_of (minus 1) ≡ Undefined
+  pub root_of_undefined : root_of Undefined ≡ Undefined
+
+pub record ComparisonsAsSaid : Type 0 where
+  pub equal : comparison Equal (plus 1) (plus 1) ≡ True
+  pub unequal : comparison Unequal (plus 1) (plus 1) ≡ False
+  pub less : comparison Less (minus 2) (minus 1) ≡ True
+  pub less_equal : comparison LessEqual (plus 1) (plus 1) ≡ True
+  pub greater : comparison Greater (minus 2) (plus 1) ≡ False
+  pub greater_equal : comparison GreaterEqual (plus 0) (minus 1) ≡ True
+  pub with_undefined : comparison Equal Undefined Undefined ≡ Undef
+
+pub record LiteralsAsSaid : Type 0 where
+  pub undefined : value_in (codes "?") ≡ Some Undefined
+  pub number : value_in (codes "1.5") ≡ Some (plus 150000)
+  pub cut : value_in (codes "-1.2345678") ≡ Some (minus 123456)
+  pub point_first : value_in (codes "+.5") ≡ Some (plus 50000)
+  pub point_last : value_in (codes "7.") ≡ Some (plus 700000)
+  pub zero_below : value_in (codes "-0") ≡ Some (plus 0)
+  pub ten_digits : value_in (codes "9999999999") ≡ Some (plus 999999999900000)
+  pub eleven_digits : value_in (codes "12345678901") ≡ None
+  pub no_digit : value_in (codes ".") ≡ None
+  pub sign_alone : value_in (codes "-") ≡ None
+  pub two_signs : value_in (codes "--1") ≡ None
+  pub blank : value_in (codes " 1") ≡ None
+  pub exponent : value_in (codes "1e5") ≡ None
+  pub empty : value_in [] ≡ None
+
+pub record TextsAsSaid : Type 0 where
+  pub five_decimals : text5 (minus 150000) ≡ codes "-1.50000"
+  pub undefined : text5 Undefined ≡ codes "?"
+  pub longest : text5 least ≡ codes "-10000000000.00000"
+  -- cut to zero, a number has no sign
+  pub cut_to_zero : value_text 0 3 (minus 40000) ≡ codes "  0"
+  pub cut : value_text 1 0 (minus 199999) ≡ codes "-1.9"
+  pub right : value_text 2 7 (plus 100500) ≡ codes "   1.00"
+  pub whole : value_text 5 3 (plus 1) ≡ codes "0.00001"
+  pub undefined_right : value_text 3 4 Undefined ≡ codes "   ?"
+  pub read : read_text5 (codes "-1.50000") ≡ Some (minus 150000)
+  pub few_decimals : read_text5 (codes "-1.5") ≡ None
+  pub zero_first : read_text5 (codes "01.00000") ≡ None
+  pub zero_below : read_text5 (codes "-0.00000") ≡ None
+  pub too_large : read_text5 (codes "10000000000.00001") ≡ None
+
+pub record TimesAsSaid : Type 0 where
+  pub short : time_in (codes "0:0:0:100") ≡ Some 100
+  pub greatest_written : time_in (codes "99:59:59:999") ≡ Some 359999999
+  pub sixty_minutes : time_in (codes "00:60:00:000") ≡ None
+  pub sixty_seconds : time_in (codes "00:00:60:000") ≡ None
+  pub three_hours_digits : time_in (codes "100:00:00:000") ≡ None
+  pub three_parts : time_in (codes "1:2:3") ≡ None
+  pub five_parts : time_in (codes "1:2:3:4:5") ≡ None
+  pub no_digits : time_in (codes ":0:0:0") ≡ None
+  pub text : time_text 359999999 ≡ codes "99:59:59:999"
+  pub longest : time_text 719999998 ≡ codes "199:59:59:998"
+  pub zero : time_text 0 ≡ codes "00:00:00:000"
+  pub read : read_time (codes "199:59:59:998") ≡ Some 719999998
+  pub not_written_so : read_time (codes "0:0:0:100") ≡ None
+  pub too_late : read_time (codes "199:59:59:999") ≡ None
+
+pub record NamesAsSaid : Type 0 where
+  pub name : is_name (codes "life-rule") ≡ true
+  pub marks : is_name (codes "_a.9-") ≡ true
+  pub blank : is_name (codes "a b") ≡ false
+  pub capital : is_name (codes "Life") ≡ false
+  pub empty : is_name [] ≡ false
+  pub longest : is_name (replicate 64 97) ≡ true
+  pub too_long : is_name (replicate 65 97) ≡ false

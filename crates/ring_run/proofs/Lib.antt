@@ -1,0 +1,8 @@
+pub mod Asked
+pub mod Idle
+pub mod LineTexts
+pub mod Logs
+pub mod Looped
+pub mod Moves
+pub mod Reference
+pub mod Starts
