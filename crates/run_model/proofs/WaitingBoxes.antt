@@ -101,7 +101,7 @@ time-from : (low : ℕ) (w : ℤ) → IsTimeFrom low w → low ≤ milliseconds 
 time-from low (pos n) h = h
 time-from low (negsuc n) h = absurd h
 
-filter-waits : (low : ℕ) (keep : ℤ × ℤ → Bool) (ps : Words) → NeverFalls low ps → NeverFalls low (filter keep ps)
+pub filter-waits : (low : ℕ) (keep : ℤ × ℤ → Bool) (ps : Words) → NeverFalls low ps → NeverFalls low (filter keep ps)
 filter-waits low keep [] h = tt
 filter-waits low keep (p ∷ ps) h = kept (keep p) (filter-waits (milliseconds p.0) keep ps h.1)
   where
@@ -121,7 +121,7 @@ put-waits low at v (p ∷ ps) le h = test (nat_le (milliseconds p.0) at) refl (p
     test true e rest = let before : milliseconds p.0 ≤ at = grind (arith, nat_tests) in (h.0, rest before h.1)
     test false e rest = let after : at ≤ milliseconds p.0 = grind (arith, nat_tests) in (le, (placed p.0 after h.0, h.1))
 
-inputs-wait : (low at : ℕ) (ps : Words) (bag : Bag) → low ≤ at → NeverFalls low ps → NeverFalls low (cpu_inputs at ps bag)
+pub inputs-wait : (low at : ℕ) (ps : Words) (bag : Bag) → low ≤ at → NeverFalls low ps → NeverFalls low (cpu_inputs at ps bag)
 inputs-wait low at ps [] le h = h
 inputs-wait low at ps (i ∷ is) le h = inputs-wait low at (cpu_put at i.1 ps) is le (put-waits low at i.1 ps le h)
 
