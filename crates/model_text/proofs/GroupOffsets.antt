@@ -16,13 +16,13 @@ use Rattle.model_text.proofs.Basics.{both_empty, if_empty, each_of_phase, all_im
 use Rattle.model_text.proofs.Offsets.{offsets_are_near, offsets_are_distinct}
 
 -- the parts of a group's phase
-pub record Space_right (s : Section) : Type 0 where
+pub record SpaceParts (s : Section) : Type 0 where
   pub offsets : each_entry (codes "neighbors") s (λ e. at_entry e BadValue (list_all (is_offset (space_of s)) (places_of s e))) ≡ []
   pub ports : ports_refused s [] (entries_of (codes "portintransition") s) ≡ []
   pub zones : each_entry (codes "zone") s (λ e. at_entry e BadZone (is_some (zone_in (space_of s) e.value))) ≡ []
   pub fit : too_many_offsets s ≡ []
 
-pub space_parts : (s : Section) → of_space s ≡ [] → Space_right s
+pub space_parts : (s : Section) → of_space s ≡ [] → SpaceParts s
 space_parts s h =
     let offsets = each_entry (codes "neighbors") s (λ e. at_entry e BadValue (list_all (is_offset (space_of s)) (places_of s e))) in
     let ports = ports_refused s [] (entries_of (codes "portintransition") s) in

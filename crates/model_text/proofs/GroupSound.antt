@@ -41,7 +41,7 @@ use Rattle.model_text.proofs.Sizes.{right_sizes}
 use Rattle.model_text.proofs.GroupNames.{right_names}
 use Rattle.model_text.proofs.GroupRules.{is_lower, all_pass}
 use Rattle.model_text.proofs.Numbers.{both_of_all, right_numbers}
-use Rattle.model_text.proofs.SoundRules.{rules_are_sound}
+use Rattle.rule_syntax.proofs.ReadSound.{read_sound}
 
 -- ---- tests on numbers
 
@@ -144,7 +144,7 @@ set_right names s h =
     both_true (nat_le (length (rules_in names s)) 1024) (list_all (is_sound (extent_of names)) (rules_in names s))
     (at_most (length (rules_in names s)) 1024 (along (length (rules_in names s)) (length (entries_of (codes "rule") s)) (shorter (λ (e : Entry). result_ok (rule_of names e.value)) (entries_of (codes "rule") s)) (not_too_many (entries_of (codes "rule") s) parts.1)))
     (all_pass (is_sound (extent_of names)) (rules_in names s)
-    (all_found (λ r. is_sound (extent_of names) r ≡ true) (λ (e : Entry). result_ok (rule_of names e.value)) (λ e r f. rules_are_sound names e.value r (rule_there (rule_of names e.value) r f)) (entries_of (codes "rule") s)))
+    (all_found (λ r. is_sound (extent_of names) r ≡ true) (λ (e : Entry). result_ok (rule_of names e.value)) (λ e r f. read_sound names e.value r (rule_there (rule_of names e.value) r f)) (entries_of (codes "rule") s)))
   where
     along : (a b : ℕ) → a ≤ b → b ≤ 1024 → a ≤ 1024
     along a b h k = omega arith

@@ -11,7 +11,6 @@ mod Sizes
 mod GroupNames
 mod GroupRules
 mod Numbers
-mod SoundRules
 mod GroupSound
 mod Steps
 mod Parts

@@ -1,11 +1,7 @@
 -- What the phases say of the groups of an accepted model.
 use Rattle.std.specs.Prelude.{◌≡◌, ◌≤◌, ◌&&◌, nat_lt, true, false, None, List, ◌∷◌, map, length, codes}
 use Rattle.std.specs.List.{list_all, filter_map, AllByRecursion}
-use Rattle.std.specs.declared.result.Result.TheVariants.{Ok}
-use Rattle.quantity.specs.Bytes.{Bytes, has_repeat}
-use Rattle.rule_syntax.specs.Expression.{Rule}
-use Rattle.rule_syntax.specs.Scope.{Names, extent_of, is_sound}
-use Rattle.rule_syntax.specs.RuleOf.{rule_of}
+use Rattle.quantity.specs.Bytes.{has_repeat}
 use Rattle.rule_syntax.specs.Phrases.{out}
 use Rattle.cell_grid.specs.Space.{cell_count}
 use Rattle.source_text.specs.Lines.{Files}
@@ -61,10 +57,6 @@ pub record RightNumbers (ss : List Section) (s : Section) : Type 0 where
 
 abbrev pub NumbersAreRight : Type 0
 NumbersAreRight = (ss : List Section) → keys_refused ss ≡ None → rules_refused ss ≡ None → AllByRecursion (RightNumbers ss) (groups ss)
-
--- a text that is a rule of a group is a sound one
-abbrev pub RulesAreSound : Type 0
-RulesAreSound = (names : Names) (text : Bytes) (r : Rule) → rule_of names text ≡ Ok r → is_sound (extent_of names) r ≡ true
 
 -- the groups of an accepted model are sound
 abbrev pub GroupsAreSound : Type 0

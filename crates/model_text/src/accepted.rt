@@ -1,6 +1,6 @@
 // Laws of the models that are accepted.
 ghost use Rattle.model_text.specs.Accepted.{FirstPhaseDecides, PassesEachPhase, ComponentsDiffer, AtomicsFit, LinksAreAccepted, PartsAreSound, ReadsSoundModels};
-ghost use Rattle.model_text.specs.GroupLaws.{OffsetsAreRight, ValuesFit, SizesAreRight, NamesAreRight, NumbersAreRight, RulesAreSound, GroupsAreSound};
+ghost use Rattle.model_text.specs.GroupLaws.{OffsetsAreRight, ValuesFit, SizesAreRight, NamesAreRight, NumbersAreRight, GroupsAreSound};
 
 /// The first phase that refuses decides, in the order of the phases.
 pub fn first_phase_decides()
@@ -50,11 +50,6 @@ pub fn accepted_groups_have_right_names()
 /// The groups of an accepted model have a rule set, and each number of a rule set or cell is in range.
 pub fn accepted_groups_have_right_numbers()
     ensures { NumbersAreRight }
-{}
-
-/// A text that is a rule of a group is a sound rule.
-pub fn accepted_rules_are_sound()
-    ensures { RulesAreSound }
 {}
 
 /// The groups of an accepted model are sound.

@@ -11,4 +11,4 @@ mod Blocks
 mod Atoms
 mod Found
 mod RulesFound
-mod ReadSound
+pub mod ReadSound
