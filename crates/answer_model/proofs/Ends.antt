@@ -10,7 +10,7 @@ use Rattle.answer_model.specs.Asked.{asked, cdpp_app, drawlog_app}
 use Rattle.answer_model.specs.AskedRows.{words, plain}
 use Rattle.answer_model.specs.Answer.{Files, Answer, answer, run_on}
 use Rattle.answer_model.specs.AnswerRows.{by, files, shows}
-use Rattle.answer_model.specs.Outcome.{Rose, Room, Contents, Did, Outcome, a_file, Ending, as_answered, reading_failed, writing_failed, complaining_failed, memory_failed, Complete, Exact, OutcomeLaws, ByStatus, EndsByStatus, BeginFiles, IsBegun, contents_after, CdppEnds, CdppCauses}
+use Rattle.answer_model.specs.Outcome.{Rose, Room, Contents, Did, Outcome, a_file, Ending, as_answered, reading_failed, writing_failed, complaining_failed, memory_failed, Complete, Exact, OutcomeLaws, EndsByStatus, BeginFiles, IsBegun, contents_after, CdppEnds, CdppCauses}
 use Rattle.answer_model.specs.OutcomeRows.{before, cut, whole, asks}
 
 abbrev answered : Answer

@@ -1,5 +1,5 @@
 -- What a program answers to words and files: the files that it makes, what it shows and complains, its status, and the files that it looks for.
-use Rattle.std.specs.Prelude.{ℕ, suc, ◌+◌, ◌*◌, ◌%◌, Bool, false, ◌&&◌, ◌==◌, nat_lt, Option, Some, None, List, [], ◌∷◌, ◌++◌, length, map, slice_get, if◌then◌else◌, codes, decimal, unwrap_or, Result, Ok, Err}
+use Rattle.std.specs.Prelude.{ℕ, ◌+◌, ◌%◌, Bool, false, ◌&&◌, ◌==◌, nat_lt, Option, Some, None, List, [], ◌∷◌, ◌++◌, length, map, slice_get, if◌then◌else◌, codes, decimal, unwrap_or, Result, Ok, Err}
 use Rattle.std.specs.List.{find, filter, filter_map, flat_map, count_by, sum_by, last_or, range_with_len}
 use Rattle.std.specs.Option.{option_map}
 use Rattle.std.specs.Str.{bytes_eq}
@@ -12,7 +12,7 @@ use Rattle.rule_syntax.specs.Meaning.{whole}
 use Rattle.atomic_face.specs.declared.class.Class.{Class}
 use Rattle.model_tree.specs.Tree.{Word, Group, Tree, Leaf, atomic_leaf, cell_leaf, leaves, leaf_count, ins_of}
 use Rattle.run_model.specs.Cycle.{LeafState, box_state, cell_state}
-use Rattle.run_model.specs.Run.{Event, PortRecord, Cycle, RunState, Verdict, done, too_many, stop, unfinished, Run, start, run_from}
+use Rattle.run_model.specs.Run.{Event, PortRecord, Cycle, RunState, Verdict, done, too_many, stop, Run, start, run_from, most_cycles}
 use Rattle.quantity.specs.Bytes.{Bytes}
 use Rattle.quantity.specs.ValueTexts.{text5}
 use Rattle.quantity.specs.Times.{time_text}
@@ -140,7 +140,7 @@ abbrev pub mark_text : Asked → Tree → List Event → Bytes
 mark_text a tree events =
     elim a.seed [ None ↦ [] | Some seed ↦ codes " mark " ++ decimal (mark_of tree events a.end a.limit seed) ]
 
--- how a run ends; no run is left unfinished
+-- how a run ends
 pub record Said : Type 0 where
   pub status : ℕ
   pub shown : Bytes
@@ -155,7 +155,6 @@ said a tree events cycles done =
 said a tree events cycles (too_many t) =
     complains 11 (ended (codes "too many cycles: limit " ++ decimal a.limit ++ codes " at " ++ time_text t))
 said a tree events cycles (stop leaf t why) = complains (stop_status why) (stop_line tree leaf t why)
-said a tree events cycles unfinished = complains 0 []
 
 -- ---- the made files
 
@@ -213,7 +212,7 @@ begins tree events (Some s) =
     record { leaf_states = s.states; events = filter (λ (e : Event). nat_lt s.time e.time) events; last = None; count = 0 }
 
 unfoldable pub run_on : Tree → List Event → ℕ → ℕ → Option Saved → Run
-run_on tree events end limit from = run_from (suc ((end + 1) * limit)) tree end limit (begins tree events from)
+run_on tree events end limit from = run_from (most_cycles end limit) tree end limit (begins tree events from)
 
 abbrev pub with_source : Source → Files → (Bytes → List Word → Answer) → Answer
 with_source (file name) files go = with_file files name [] go

@@ -1,7 +1,7 @@
 -- A run: cycle after cycle, until a verdict.
-use Rattle.std.specs.Prelude.{ℕ, zero, suc, ◌+◌, ◌*◌, Bool, true, false, not, ◌&&◌, ◌==◌, nat_lt, nat_le, Option, Some, None, List, [], ◌∷◌, ◌++◌, map, slice_get, if◌then◌else◌}
+use Rattle.std.specs.Prelude.{ℕ, zero, suc, ◌+◌, ◌*◌, Bool, not, ◌&&◌, ◌==◌, nat_lt, nat_le, Option, Some, None, List, [], ◌∷◌, map, slice_get, if◌then◌else◌}
 use Rattle.std.specs.List.{filter, flat_map, filter_map, enumerate_from, position}
-use Rattle.std.specs.Option.{option_map, unwrap_or}
+use Rattle.std.specs.Option.{option_map}
 use Rattle.std.specs.Str.{bytes_eq}
 use Rattle.quantity.specs.declared.value.Value.{Value}
 use Rattle.rule_syntax.specs.declared.outcome.RuleStop.{RuleStop}
@@ -10,7 +10,7 @@ pub use Rattle.event_list.specs.Events.{Event}
 use Rattle.atomic_face.specs.Classes.{Bag, is_at}
 use Rattle.model_tree.specs.Tree.{Word, Tree, leaves, ins_of}
 use Rattle.model_tree.specs.Pull.{top_pulled}
-use Rattle.run_model.specs.CellStep.{PortState, CellState, least}
+use Rattle.run_model.specs.CellStep.{PortState, least}
 use Rattle.run_model.specs.Cycle.{LeafState, box_state, cell_state, initial_leaf, leaf_next, collected, given_by_leaf, bags, Moved, stayed, moved, stopped, moves, first_stop, all_after, next_of_all}
 
 -- ---- records of a cycle
@@ -120,7 +120,6 @@ pub data Verdict : Type 0 where
   done : Verdict
   too_many : (time : ℕ) → Verdict
   stop : (leaf time : ℕ) → RuleStop → Verdict
-  unfinished : Verdict
 
 pub data Next : Type 0 where
   ended : Verdict → Next
@@ -162,11 +161,19 @@ abbrev pub and_on : RunState → Next → (RunState → Run) → Run
 and_on s (ended v) go = record { cycles = []; verdict = v; left = s }
 and_on s (cycled c n) go = in_front c (go n)
 
--- at most n cycles
+-- no cycle more: a run in which one were due has too many
+abbrev pub at_last : RunState → Next → Run
+at_last s (ended v) = record { cycles = []; verdict = v; left = s }
+at_last s (cycled c n) = record { cycles = []; verdict = too_many c.time; left = s }
+
+-- at most n cycles, and then a verdict
 unfoldable pub run_from : ℕ → Tree → ℕ → ℕ → RunState → Run
-run_from zero tree end limit s = record { cycles = []; verdict = unfinished; left = s }
+run_from zero tree end limit s = at_last s (next_cycle tree end limit s)
 run_from (suc n) tree end limit s = and_on s (next_cycle tree end limit s) (run_from n tree end limit)
 
--- a run has at most (end + 1) * limit cycles, so this one is never unfinished
+-- at each instant up to the end there are at most `limit` cycles
+abbrev pub most_cycles : ℕ → ℕ → ℕ
+most_cycles end limit = (end + 1) * limit
+
 unfoldable pub run : Tree → List Event → ℕ → ℕ → Run
-run tree events end limit = run_from (suc ((end + 1) * limit)) tree end limit (start tree events)
+run tree events end limit = run_from (most_cycles end limit) tree end limit (start tree events)
