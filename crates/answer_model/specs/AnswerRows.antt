@@ -1,6 +1,11 @@
 -- Answers that compute.
 use Rattle.std.specs.Prelude.{◌≡◌, ℕ, ◌-◌, [], ◌∷◌, ◌++◌, length, take, codes, if◌then◌else◌, Ok}
+use Rattle.std.specs.List.{find}
+use Rattle.std.specs.Option.{option_map}
 use Rattle.std.specs.Str.{bytes_eq}
+use Rattle.room_edge.specs.Outside.{Folder}
+use Rattle.model_tree.specs.Tree.{Word}
+use Rattle.model_text.specs.Models.{made_text}
 use Rattle.model_tree.specs.Examples.{twice_and_once}
 use Rattle.run_model.specs.Examples.{later, event}
 use Rattle.quantity.specs.Bytes.{Bytes}
@@ -9,7 +14,9 @@ use Rattle.text_forms.specs.SavedRows.{line_saved}
 use Rattle.text_forms.specs.Models.{line, life}
 use Rattle.answer_model.specs.Asked.{usage}
 use Rattle.answer_model.specs.AskedRows.{words}
-use Rattle.answer_model.specs.Answer.{Files, Answer, ModelOf, model, refused, Readers, answer, drawing_answer, made_text}
+use Rattle.answer_model.specs.Answer.{Files, Answer}
+use Rattle.answer_model.specs.Cdpp.{ModelOf, model, refused, Readers, answer}
+use Rattle.answer_model.specs.Drawlog.{drawing_answer}
 
 -- readers of a few texts
 abbrev pub tree_in : Bytes → ModelOf
@@ -32,8 +39,12 @@ files =
     (codes "row1.ma", codes "line") ∷ (codes "row10.ma", codes "later") ∷ (codes "row14.ma", codes "queue") ∷ (codes "e", []) ∷ (codes "empty.ma", [])
     ∷ (codes "log.txt", line_log) ∷ (codes "torn.txt", take (length line_log - 3) line_log) ∷ (codes "s.txt", line_saved) ∷ []
 
+-- files by their names
+abbrev pub folder : Files → Folder
+folder files = λ name. option_map (λ (f : Word × Bytes). f.1) (find (λ (f : Word × Bytes). bytes_eq f.0 name) files)
+
 abbrev pub to : Bytes → Answer
-to text = answer by (words text) files []
+to text = answer by (words text) (folder files) []
 
 abbrev pub shows : Bytes → Bytes → Answer
 shows line input = record { made = []; shown = lines (line ∷ []); complained = []; status = 0; inputs = words input }
@@ -57,7 +68,7 @@ second_made [] = []
 second_made (f ∷ fs) = first_made fs
 
 abbrev pub on_from : Bytes → Bytes → Bytes
-on_from text saved = first_made (answer by (words text) ((codes "s.txt", saved) ∷ files) []).made
+on_from text saved = first_made (answer by (words text) (folder ((codes "s.txt", saved) ∷ files)) []).made
 
 abbrev pub joined : Bytes → Bytes → Bytes
 joined first next = let a = to first in first_made a.made ++ on_from next (second_made a.made)
@@ -95,5 +106,5 @@ pub record AnswersAsSaid : Type 0 where
   pub events_run : one_run (codes "cdpp -m row10.ma -e e -t 00:00:00:119 -l log.txt -L YXS") ≡ events_log
   pub frames_join : joined (codes "cdpp -m row1.ma -t 00:00:00:100 -d f.txt -g line -w 2 -S s.txt") (codes "cdpp -m row1.ma -t 00:00:00:300 -d f.txt -g line -w 2 -R s.txt") ≡ three_frames
   pub frames_run : one_run (codes "cdpp -m row1.ma -t 00:00:00:300 -d f.txt -g line -w 2") ≡ three_frames
-  pub draws : drawing_answer (words (codes "drawlog -l log.txt -g line -s 1,3 -w 2")) files ≡ record { made = []; shown = two_frames; complained = []; status = 0; inputs = words (codes "log.txt") }
-  pub torn : drawing_answer (words (codes "drawlog -l torn.txt -g line -s 1,3 -w 2")) files ≡ complains 13 (codes "log refused: line 5") (codes "torn.txt")
+  pub draws : drawing_answer (words (codes "drawlog -l log.txt -g line -s 1,3 -w 2")) (folder files) ≡ record { made = []; shown = two_frames; complained = []; status = 0; inputs = words (codes "log.txt") }
+  pub torn : drawing_answer (words (codes "drawlog -l torn.txt -g line -s 1,3 -w 2")) (folder files) ≡ complains 13 (codes "log refused: line 5") (codes "torn.txt")

@@ -1,16 +1,22 @@
 -- A room whose fifth append failed, after a run of three cells.
-use Rattle.std.specs.Prelude.{Some, [], ◌∷◌, take, codes, true}
+use Rattle.std.specs.Prelude.{Some, None, [], ◌∷◌, take, codes, true}
 use Rattle.quantity.specs.Bytes.{Bytes}
+use Rattle.room_edge.specs.Outside.{Outside}
 use Rattle.text_forms.specs.Rows.{line_log}
 use Rattle.answer_model.specs.AskedRows.{words}
-use Rattle.answer_model.specs.Answer.{Files}
-use Rattle.answer_model.specs.AnswerRows.{by, files}
-use Rattle.answer_model.specs.Outcome.{Room, CdppEnds, CdppCauses}
+use Rattle.answer_model.specs.Answer.{Files, names}
+use Rattle.answer_model.specs.AnswerRows.{by, files, folder}
+use Rattle.answer_model.specs.Headline.{puts_all}
+use Rattle.answer_model.specs.Programs.{CdppEnds, CdppCauses}
 
-abbrev pub before : Room
+abbrev pub before : Outside
 before =
     record {
-      contents = Some (record { files = files; made = []; shown = []; complained = [] });
+      files = Some (folder files);
+      made = Some (folder []);
+      shown = Some [];
+      complained = Some [];
+      rest = None;
       read_faults = 0;
       write_faults = 0;
       complain_faults = 0;
@@ -20,19 +26,21 @@ before =
       opened = true;
     }
 
-abbrev pub with_log : Files → Bytes → Bytes → Room
+abbrev pub with_log : Files → Bytes → Bytes → Outside
 with_log made shown complained =
     record before {
-      contents = Some (record { files = files; made = made; shown = shown; complained = complained });
+      made = puts_all before.made made;
+      shown = Some shown;
+      complained = Some complained;
       tried = codes "row1.ma" ∷ [];
-      created = codes "log.txt" ∷ [];
+      created = names made;
     }
 
 -- the log lacks its end, and one line says so
-abbrev pub cut : Room
+abbrev pub cut : Outside
 cut = record (with_log ((codes "log.txt", take 199 line_log) ∷ []) [] (codes "write fault: log.txt\n")) { write_faults = 1 }
 
-abbrev pub whole : Room
+abbrev pub whole : Outside
 whole = with_log ((codes "log.txt", line_log) ∷ []) (codes "end 00:00:00:100 cycles 2\n") []
 
 abbrev pub asks : Bytes

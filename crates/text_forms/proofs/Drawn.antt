@@ -12,7 +12,8 @@ use Rattle.cell_grid.specs.Space.{Space}
 use Rattle.model_tree.specs.Tree.{Word, Leaf, leaves}
 use Rattle.run_model.specs.Run.{Cycle, PortRecord, StateRecord}
 use Rattle.quantity.specs.Bytes.{Bytes}
-use Rattle.text_forms.specs.Lines.{LogLine, given, moved, line_text, is_line, parts_of, with_strokes, ended, leaf_name, given_line, moved_line, out_port_name, in_port_name, cycle_lines, letter_of, log_lines}
+use Rattle.text_forms.specs.LogLine.{LogLine, given, moved, line_text, is_line, parts_of, with_strokes}
+use Rattle.text_forms.specs.Lines.{ended, leaf_name, given_line, moved_line, out_port_name, in_port_name, cycle_lines, letter_of, log_lines}
 use Rattle.text_forms.specs.Frames.{Shown, shown_of, shown_by, shown_in, line_time, not_before, and_shown, shown_at, cell_of, lines_from, drawn_lines}
 use Rattle.text_forms.specs.DrawnLines.{NamesCells, never_fall, have_leaves, DrawnFromCycles}
 use Rattle.text_forms.proofs.Written.{has_no, none_at, both, and_true}
@@ -20,7 +21,7 @@ use Rattle.text_forms.proofs.WrittenLines.{Sep, join_no, given_fits, given_no, m
 
 -- ---- the log cut at its line ends
 
-line_end : Sep 10
+pub line_end : Sep 10
 line_end = record { digit = refl; name = refl; minus = refl; point = refl; colon = refl; open_at = refl; close_at = refl; comma = refl; question = refl }
 
 strokes_no : (parts : List Bytes) → list_all (has_no 10) parts ≡ true → list_all (has_no 10) (with_strokes parts) ≡ true

@@ -1,9 +1,9 @@
 -- Only what is written is read.
-use Rattle.std.proofs.Common.{◌≡◌, ℕ, ◌+◌, ◌==◌, Bool, true, false, cond, Option, Some, None, List, [], ◌∷◌, ◌++◌, refl, sym, ap, ◌∙◌, subst, length, map, codes, IsTrue, Result, Ok, Err, drop, nat_lt, nat_le, if◌then◌else◌}
+use Rattle.std.proofs.Common.{◌≡◌, ℕ, ◌+◌, ◌==◌, Bool, true, false, cond, Option, Some, None, List, [], ◌∷◌, ◌++◌, refl, sym, ap, ◌∙◌, subst, length, codes, IsTrue, Result, Ok, Err, drop, nat_lt, nat_le, if◌then◌else◌}
 use Rattle.std.proofs.lemmas.List.{append-nil, append_assoc}
 use Rattle.std.proofs.lemmas.Slice.Eq.{bytes_eq-Decides}
 use Rattle.std.proofs.lemmas.List.Splits.{join_with_byte-slice_split}
-use Rattle.std.specs.List.{slice_split, flat_map, join_with_byte, zip}
+use Rattle.std.specs.List.{slice_split, flat_map, join_with_byte}
 use Rattle.std.specs.Str.{bytes_eq}
 use Rattle.model_tree.specs.Tree.{Tree, Leaf, leaves}
 use Rattle.run_model.specs.Cycle.{LeafState}
@@ -11,8 +11,12 @@ use Rattle.quantity.specs.Bytes.{Bytes}
 use Rattle.quantity.specs.ValueTexts.{text5, guessed_value}
 use Rattle.quantity.specs.Times.{time_text, read_time, time_of}
 use Rattle.quantity.specs.Written.{if_written, for_some}
-use Rattle.text_forms.specs.Lines.{LogLine, parts_in, is_line, line_in, if_line, line_text, ended}
-use Rattle.text_forms.specs.State.{Refusal, Saved, StateRead, next_line, just, nothing_more, leaves_in, read_at, state_at, text_of_state, state_lines, leaf_line, read_leaf, leaf_in, if_leaf_state, words_in, at_line, bad}
+use Rattle.text_forms.specs.LogLine.{LogLine, parts_in, is_line, line_in, if_line, line_text}
+use Rattle.text_forms.specs.Lines.{ended}
+use Rattle.text_forms.specs.declared.refusal.StateRefusal.{StateRefusal}
+use Rattle.text_forms.specs.declared.refusal.StateRefusal.TheVariants.{BadStateLine, EndBefore, TooLarge}
+use Rattle.text_forms.specs.StateText.{text_of_state, state_lines, leaf_line, leaf_lines, at_line}
+use Rattle.text_forms.specs.StateOf.{Saved, next_line, just, nothing_more, leaves_in, read_at, state_at, read_leaf, leaf_state_in, if_leaf_state, words_in}
 use Rattle.text_forms.specs.ReadBack.{ReadsNothingElse}
 
 abbrev value_or : {A : Type 0} → Option A → A → A
@@ -46,7 +50,7 @@ line_kept (Some m) l h = by (is_line m) refl h
 -- ---- a state's lines
 
 -- a line that is taken has a line end and is read
-pub record Taken {A B : Type 0} (read : Bytes → Option A) (parts : List Bytes) (go : A → List Bytes → Result B Refusal) (b : B) : Type 0 where
+pub record Taken {A B : Type 0} (read : Bytes → Option A) (parts : List Bytes) (go : A → List Bytes → Result B StateRefusal) (b : B) : Type 0 where
   pub line : Bytes
   pub rest : List Bytes
   pub x : A
@@ -54,13 +58,13 @@ pub record Taken {A B : Type 0} (read : Bytes → Option A) (parts : List Bytes)
   pub read_as : read line ≡ Some x
   pub on : go x rest ≡ Ok b
 
-module _ {A B : Type 0} (n : ℕ) (read : Bytes → Option A) (go : A → List Bytes → Result B Refusal) (b : B) where
+module _ {A B : Type 0} (n : ℕ) (read : Bytes → Option A) (go : A → List Bytes → Result B StateRefusal) (b : B) where
   taken : (parts : List Bytes) → next_line n read parts go ≡ Ok b → Taken read parts go b
   taken [] h = absurd cc
   taken (line ∷ []) h = absurd cc
   taken (line ∷ next ∷ more) h = by (read line) refl h
     where
-      by : (o : Option A) → read line ≡ o → (elim o as (λ x. Result B Refusal) [ None ↦ bad n | Some x ↦ go x (next ∷ more) ]) ≡ Ok b → Taken read (line ∷ next ∷ more) go b
+      by : (o : Option A) → read line ≡ o → (elim o as (λ x. Result B StateRefusal) [ None ↦ Err (BadStateLine n) | Some x ↦ go x (next ∷ more) ]) ≡ Ok b → Taken read (line ∷ next ∷ more) go b
       by None e h = absurd cc
       by (Some x) e h = record { line = line; rest = next ∷ more; x = x; cut = refl; read_as = e; on = h }
 
@@ -71,11 +75,11 @@ just_is text line x h = by (bytes_eq line text) refl h
     by true e h = eq_true line text e
     by false e h = absurd cc
 
-abbrev ok_or : {A : Type 0} → Result A Refusal → A → A
+abbrev ok_or : {A : Type 0} → Result A StateRefusal → A → A
 ok_or (Ok a) d = a
 ok_or (Err e) d = d
 
-same_ok : {A : Type 0} (x y : A) → ◌≡◌ {A = Result A Refusal} (Ok x) (Ok y) → x ≡ y
+same_ok : {A : Type 0} (x y : A) → ◌≡◌ {A = Result A StateRefusal} (Ok x) (Ok y) → x ≡ y
 same_ok x y e = ap (λ r. ok_or r x) e
 
 nothing_after : {A : Type 0} (n : ℕ) (x y : A) (parts : List Bytes) → nothing_more n x parts ≡ Ok y → (parts ≡ [] ∷ []) × (x ≡ y)
@@ -84,17 +88,14 @@ nothing_after n x y [] h = absurd cc
 nothing_after n x y ([] ∷ next ∷ more) h = absurd cc
 nothing_after n x y ((c ∷ cs) ∷ more) h = absurd cc
 
-abbrev lines_of : List Leaf → List LeafState → List Bytes
-lines_of ls ss = map (λ (p : Leaf × LeafState). leaf_line p.0 p.1) (zip ls ss) ++ codes "end" ∷ []
-
 leaf_kept : (t : ℕ) (l : Leaf) (line : Bytes) (s : LeafState) → read_leaf t l line ≡ Some s → line ≡ leaf_line l s
-leaf_kept t l line s h = (kept (leaf_line l) line s (if_leaf_state t l (leaf_in l (drop 2 (words_in line)))) h).1
+leaf_kept t l line s h = (kept (leaf_line l) line s (if_leaf_state t l (leaf_state_in l (drop 2 (words_in line)))) h).1
 
-and_rest : (n t : ℕ) (ls : List Leaf) (s : LeafState) (rest : List Bytes) (ss : List LeafState) (r : Result (List LeafState) Refusal) → ((xs : List LeafState) → r ≡ Ok xs → rest ≡ lines_of ls xs ++ [] ∷ []) → (elim r as (λ x. Result (List LeafState) Refusal) [ Err e ↦ Err e | Ok xs ↦ Ok (s ∷ xs) ]) ≡ Ok ss → (xs : List LeafState) × (rest ≡ lines_of ls xs ++ [] ∷ []) × (s ∷ xs ≡ ss)
+and_rest : (n t : ℕ) (ls : List Leaf) (s : LeafState) (rest : List Bytes) (ss : List LeafState) (r : Result (List LeafState) StateRefusal) → ((xs : List LeafState) → r ≡ Ok xs → rest ≡ leaf_lines ls xs ++ [] ∷ []) → (elim r as (λ x. Result (List LeafState) StateRefusal) [ Err e ↦ Err e | Ok xs ↦ Ok (s ∷ xs) ]) ≡ Ok ss → (xs : List LeafState) × (rest ≡ leaf_lines ls xs ++ [] ∷ []) × (s ∷ xs ≡ ss)
 and_rest n t ls s rest ss (Err e) go h = absurd cc
 and_rest n t ls s rest ss (Ok xs) go h = (xs, go xs refl, same_ok (s ∷ xs) ss h)
 
-leaves_lines : (n t : ℕ) (ls : List Leaf) (parts : List Bytes) (ss : List LeafState) → leaves_in n t ls parts ≡ Ok ss → parts ≡ lines_of ls ss ++ [] ∷ []
+leaves_lines : (n t : ℕ) (ls : List Leaf) (parts : List Bytes) (ss : List LeafState) → leaves_in n t ls parts ≡ Ok ss → parts ≡ leaf_lines ls ss ++ [] ∷ []
 leaves_lines n t [] parts ss h =
     let k = taken n (just (codes "end")) (λ e rest. nothing_more (n + 1) [] rest) ss parts h in
     let m = nothing_after (n + 1) [] ss k.rest k.on in
@@ -102,7 +103,7 @@ leaves_lines n t [] parts ss h =
 leaves_lines n t (l ∷ ls) parts ss h =
     let k = taken n (read_leaf t l) (λ s rest. elim (leaves_in (n + 1) t ls rest) [ Err e ↦ Err e | Ok ss ↦ Ok (s ∷ ss) ]) ss parts h in
     let m = and_rest (n + 1) t ls k.x k.rest ss (leaves_in (n + 1) t ls k.rest) (leaves_lines (n + 1) t ls k.rest) k.on in
-    k.cut ∙ ap (λ x. x ∷ k.rest) (leaf_kept t l k.line k.x k.read_as) ∙ ap (λ r. leaf_line l k.x ∷ r) m.1 ∙ ap (λ xs. lines_of (l ∷ ls) xs ++ [] ∷ []) m.2
+    k.cut ∙ ap (λ x. x ∷ k.rest) (leaf_kept t l k.line k.x k.read_as) ∙ ap (λ r. leaf_line l k.x ∷ r) m.1 ∙ ap (λ xs. leaf_lines (l ∷ ls) xs ++ [] ∷ []) m.2
 
 -- ---- the whole text
 
@@ -114,20 +115,20 @@ joined [] = refl
 joined (l ∷ []) = sym (append-nil (ended l))
 joined (l ∷ m ∷ ls) = ap (λ r. l ++ 10 ∷ r) (joined (m ∷ ls)) ∙ sym (append_assoc l (10 ∷ []) (flat_map ended (m ∷ ls)))
 
-state_kept : (end t : ℕ) (ls : List Leaf) (parts : List Bytes) (s : Saved) → state_at end t ls parts ≡ Ok s → (t ≡ s.time) × (parts ≡ lines_of ls s.states ++ [] ∷ [])
+state_kept : (end t : ℕ) (ls : List Leaf) (parts : List Bytes) (s : Saved) → state_at end t ls parts ≡ Ok s → (t ≡ s.time) × (parts ≡ leaf_lines ls s.states ++ [] ∷ [])
 state_kept end t ls parts s h = by (nat_lt end t) h
   where
-    then_by : (r : Result (List LeafState) Refusal) → leaves_in 3 t ls parts ≡ r → (elim r as (λ x. StateRead) [ Err e ↦ Err e | Ok ss ↦ Ok (record { time = t; states = ss }) ]) ≡ Ok s → (t ≡ s.time) × (parts ≡ lines_of ls s.states ++ [] ∷ [])
+    then_by : (r : Result (List LeafState) StateRefusal) → leaves_in 3 t ls parts ≡ r → (elim r as (λ x. Result Saved StateRefusal) [ Err e ↦ Err e | Ok ss ↦ Ok (record { time = t; states = ss }) ]) ≡ Ok s → (t ≡ s.time) × (parts ≡ leaf_lines ls s.states ++ [] ∷ [])
     then_by (Err e) f h = absurd cc
     then_by (Ok ss) f h =
         let same = same_ok (record { time = t; states = ss }) s h in
-        (ap (λ (x : Saved). x.time) same, leaves_lines 3 t ls parts ss f ∙ ap (λ (x : Saved). lines_of ls x.states ++ [] ∷ []) same)
+        (ap (λ (x : Saved). x.time) same, leaves_lines 3 t ls parts ss f ∙ ap (λ (x : Saved). leaf_lines ls x.states ++ [] ∷ []) same)
 
-    by : (b : Bool) → cond b (Err (record { line = 2; kind = codes "2 EndBefore" })) (elim (leaves_in 3 t ls parts) as (λ x. StateRead) [ Err e ↦ Err e | Ok ss ↦ Ok (record { time = t; states = ss }) ]) ≡ Ok s → (t ≡ s.time) × (parts ≡ lines_of ls s.states ++ [] ∷ [])
+    by : (b : Bool) → cond b (Err (EndBefore 2)) (elim (leaves_in 3 t ls parts) as (λ x. Result Saved StateRefusal) [ Err e ↦ Err e | Ok ss ↦ Ok (record { time = t; states = ss }) ]) ≡ Ok s → (t ≡ s.time) × (parts ≡ leaf_lines ls s.states ++ [] ∷ [])
     by true h = absurd cc
     by false h = then_by (leaves_in 3 t ls parts) refl h
 
-in_size : (tree : Tree) (end : ℕ) (bytes : Bytes) (s : Saved) (b : Bool) → cond b (Err (record { line = 0; kind = codes "3 TooLarge" })) (next_line 1 (just (codes "state 1")) (slice_split (λ c. c == 10) bytes) (λ first rest. next_line 2 read_at rest (λ t rest. state_at end t (leaves tree) rest))) ≡ Ok s → bytes ≡ text_of_state tree s.time s.states
+in_size : (tree : Tree) (end : ℕ) (bytes : Bytes) (s : Saved) (b : Bool) → cond b (Err (TooLarge 0)) (next_line 1 (just (codes "state 1")) (slice_split (λ c. c == 10) bytes) (λ first rest. next_line 2 read_at rest (λ t rest. state_at end t (leaves tree) rest))) ≡ Ok s → bytes ≡ text_of_state tree s.time s.states
 in_size tree end bytes s true h = absurd cc
 in_size tree end bytes s false h =
     let k = taken 1 (just (codes "state 1")) (λ first rest. next_line 2 read_at rest (λ t rest. state_at end t (leaves tree) rest)) s (slice_split (λ c. c == 10) bytes) h in

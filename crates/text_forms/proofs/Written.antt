@@ -19,7 +19,7 @@ use Rattle.quantity.specs.Written.{is_digit, if_written, number_at_most, number_
 use Rattle.quantity.specs.Digits.{last_digits}
 use Rattle.quantity.specs.Times.{hours_text, time_text, time_of, read_time}
 use Rattle.quantity.specs.ValueTexts.{without_point, signed_in, guessed_value, as_value, positive, negative, text5, read_text5, minus_if}
-use Rattle.text_forms.specs.Lines.{is_value}
+use Rattle.text_forms.specs.LogLine.{is_value}
 
 -- ---- parts that are joined and split
 
@@ -109,7 +109,7 @@ hours_value : (h : ℕ) → h < 10 ^ 64 → (b : Bool) → nat_lt h 100 ≡ b �
 hours_value h lt true e = two h ∙ grind (arith, nat_tests)
 hours_value h lt false e = (decimal_is_IsNumeral_wide h lt).1
 
-at_most : (most n : ℕ) → n ≤ most → number_at_most most n ≡ Some n
+pub at_most : (most n : ℕ) → n ≤ most → number_at_most most n ≡ Some n
 at_most most n le = let e : nat_le n most ≡ true = grind (arith, nat_tests) in ap (λ b. cond b (Some n) None) e
 
 sum_is : (t h m s k : ℕ) → t ≤ 719999998 → h ≡ t / 3600000 → m ≡ t / 60000 % 60 % 100 → s ≡ t / 1000 % 60 % 100 → k ≡ t % 1000 % 1000 → h * 3600000 + m * 60000 + s * 1000 + k ≡ t
@@ -186,7 +186,7 @@ plain_number n le =
 no_minus : (c : ℕ) → is_digit c ≡ true → (c == 45) ≡ false
 no_minus c e = grind (arith, nat_tests)
 
-signed_digits : (most : ℕ) (ds : Bytes) → list_all is_digit ds ≡ true → nat_lt 0 (length ds) ≡ true → signed_in most ds ≡ positive (number_in most ds)
+pub signed_digits : (most : ℕ) (ds : Bytes) → list_all is_digit ds ≡ true → nat_lt 0 (length ds) ≡ true → signed_in most ds ≡ positive (number_in most ds)
 signed_digits most [] h l = absurd cc
 signed_digits most (d ∷ ds) h l = ap (λ b. cond b (negative (number_in most ds)) (positive (number_in most (d ∷ ds)))) (no_minus d (both (is_digit d) (list_all is_digit ds) h).0)
 

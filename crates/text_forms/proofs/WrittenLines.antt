@@ -15,16 +15,17 @@ use Rattle.quantity.specs.declared.value.Value.{Value}
 use Rattle.quantity.specs.declared.value.Value.TheVariants.{Undefined, Num}
 use Rattle.quantity.specs.Bytes.{Bytes}
 use Rattle.quantity.specs.Written.{is_digit}
-use Rattle.quantity.specs.Digits.{last_digits}
+use Rattle.quantity.specs.Digits.{last_digits, has_length}
 use Rattle.quantity.specs.Times.{hours_text, time_text}
 use Rattle.quantity.specs.ValueTexts.{text5, guessed_value}
-use Rattle.text_forms.specs.Lines.{LeafName, LogLine, given, moved, leaf_text, at_text, state_text, next_text, parts_of, with_strokes, line_text, is_name_byte, is_name, is_leaf, is_value, is_time, is_letter, is_state, is_next, is_line, has_place, leaf_of, leaf_in, at_in, time_in, given_in, moved_in, line_in, if_line, parts_in, read_line}
+use Rattle.quantity.specs.Names.{is_of_name, is_name}
+use Rattle.text_forms.specs.LogLine.{LeafName, LogLine, given, moved, leaf_text, at_text, state_text, next_text, parts_of, with_strokes, line_text, is_leaf, is_value, is_time, is_letter, is_state, is_next, is_line, has_place, leaf_of, leaf_in, at_in, guessed_time, given_in, moved_in, line_in, if_line, parts_in, read_line}
 use Rattle.text_forms.proofs.Written.{has_no, none_at, both, and_true, split_joined, all_digits, no_digit, no_in_last, hours_digits, time_guess, value_guess, written, body, body_no, negative_text, div_one}
 
 -- a byte that stands in no name, number, time or place
 pub record Sep (c : ℕ) : Type 0 where
   pub digit : is_digit c ≡ false
-  pub name : is_name_byte c ≡ false
+  pub name : is_of_name c ≡ false
   pub minus : (45 == c) ≡ false
   pub point : (46 == c) ≡ false
   pub colon : (58 == c) ≡ false
@@ -33,7 +34,7 @@ pub record Sep (c : ℕ) : Type 0 where
   pub comma : (44 == c) ≡ false
   pub question : (63 == c) ≡ false
 
-blank : Sep 32
+pub blank : Sep 32
 blank = record { digit = refl; name = refl; minus = refl; point = refl; colon = refl; open_at = refl; close_at = refl; comma = refl; question = refl }
 
 stroke : Sep 47
@@ -49,18 +50,18 @@ join_no c d e (x ∷ y ∷ ys) h =
 time_fits : (t : ℕ) → t ≤ 719999998 → t / 3600000 < 10 ^ 64
 time_fits t le = omega arith
 
-time_no : (c : ℕ) → Sep c → (t : ℕ) → t ≤ 719999998 → has_no c (time_text t) ≡ true
+pub time_no : (c : ℕ) → Sep c → (t : ℕ) → t ≤ 719999998 → has_no c (time_text t) ≡ true
 time_no c s t le =
     join_no c 58 s.colon (hours_text (t / 3600000) ∷ last_digits 2 (t / 60000 % 60) ∷ last_digits 2 (t / 1000 % 60) ∷ last_digits 3 (t % 1000) ∷ [])
     (and_true _ _ (no_digit c s.digit (hours_text (t / 3600000)) (hours_digits (t / 3600000) (time_fits t le) (nat_lt (t / 3600000) 100)))
     (and_true _ _ (no_in_last c s.digit 2 (t / 60000 % 60)) (and_true _ _ (no_in_last c s.digit 2 (t / 1000 % 60)) (and_true _ true (no_in_last c s.digit 3 (t % 1000)) refl))))
 
-value_no : (c : ℕ) → Sep c → (v : Value) → is_value v ≡ true → has_no c (text5 v) ≡ true
+pub value_no : (c : ℕ) → Sep c → (v : Value) → is_value v ≡ true → has_no c (text5 v) ≡ true
 value_no c s Undefined h = and_true _ true (ap not s.question) refl
 value_no c s (Num (pos n)) h = ap (λ m. has_no c (body m)) (div_one n) ∙ body_no c n (grind (arith, nat_tests)) s.digit s.point
 value_no c s (Num (negsuc n)) h = ap (has_no c) (negative_text n) ∙ and_true _ _ (ap not s.minus) (body_no c (suc n) (grind (arith, nat_tests)) s.digit s.point)
 
-differ : (c d : ℕ) → is_name_byte c ≡ false → is_name_byte d ≡ true → (d == c) ≡ false
+differ : (c d : ℕ) → is_of_name c ≡ false → is_of_name d ≡ true → (d == c) ≡ false
 differ c d e f = go (d == c) refl
   where
     same : (d == c) ≡ true → d ≡ c
@@ -68,12 +69,12 @@ differ c d e f = go (d == c) refl
 
     go : (b : Bool) → (d == c) ≡ b → (d == c) ≡ false
     go false g = g
-    go true g = let no : false ≡ true = sym e ∙ ap is_name_byte (sym (same g)) ∙ f in absurd cc
+    go true g = let no : false ≡ true = sym e ∙ ap is_of_name (sym (same g)) ∙ f in absurd cc
 
-name_no : (c : ℕ) → is_name_byte c ≡ false → (w : Bytes) → list_all is_name_byte w ≡ true → has_no c w ≡ true
+pub name_no : (c : ℕ) → is_of_name c ≡ false → (w : Bytes) → list_all is_of_name w ≡ true → has_no c w ≡ true
 name_no c e [] h = refl
 name_no c e (d ∷ ds) h =
-    let k = both (is_name_byte d) (list_all is_name_byte ds) h in
+    let k = both (is_of_name d) (list_all is_of_name ds) h in
     and_true _ _ (ap not (differ c d e k.0)) (name_no c e ds k.1)
 
 small : (n : ℕ) → nat_le n 1048575 ≡ true → n < 10 ^ 64
@@ -98,14 +99,13 @@ at_no c s (n ∷ ns) h =
     (list_all-append (λ z. not (z == c)) (join_with_byte 44 (map decimal (n ∷ ns))) (codes ")")
     ∙ and_true _ _ (join_no c 44 s.comma (map decimal (n ∷ ns)) (decimals_no c s.digit (n ∷ ns) h)) (and_true _ true (ap not s.close_at) refl))
 
-leaf_parts : (l : LeafName) → is_leaf l ≡ true → (list_all is_name_byte l.name ≡ true) × (list_all (λ n. nat_le n 1048575) l.at ≡ true)
+leaf_parts : (l : LeafName) → is_leaf l ≡ true → (list_all is_of_name l.name ≡ true) × (list_all (λ n. nat_le n 1048575) l.at ≡ true)
 leaf_parts l h =
     let k = both (is_name l.name && list_all (λ n. nat_le n 1048575) l.at) ((length l.at == 0) || (length l.at == 2) || (length l.at == 3)) h in
     let m = both (is_name l.name) (list_all (λ n. nat_le n 1048575) l.at) k.0 in
-    let n = both (list_all is_name_byte l.name && nat_le 1 (length l.name)) (nat_le (length l.name) 64) m.0 in
-    ((both (list_all is_name_byte l.name) (nat_le 1 (length l.name)) n.0).0, m.1)
+    ((both (has_length 1 64 l.name) (list_all is_of_name l.name) m.0).1, m.1)
 
-leaf_no : (c : ℕ) → Sep c → (l : LeafName) → is_leaf l ≡ true → has_no c (leaf_text l) ≡ true
+pub leaf_no : (c : ℕ) → Sep c → (l : LeafName) → is_leaf l ≡ true → has_no c (leaf_text l) ≡ true
 leaf_no c s l h =
     let k = leaf_parts l h in
     list_all-append (λ z. not (z == c)) l.name (at_text l.at) ∙ and_true _ _ (name_no c s.name l.name k.0) (at_no c s l.at k.1)
@@ -125,7 +125,7 @@ at_guess n ns h =
     ∙ ap (map (digits_value 10)) (split_joined 44 (decimal n) (map decimal ns) (decimals_no 44 refl (n ∷ ns) h))
     ∙ values_back (n ∷ ns) h
 
-leaf_guess : (name : Bytes) (at : List ℕ) → list_all is_name_byte name ≡ true → list_all (λ n. nat_le n 1048575) at ≡ true → leaf_in (name ++ at_text at) ≡ record { name = name; at = at }
+leaf_guess : (name : Bytes) (at : List ℕ) → list_all is_of_name name ≡ true → list_all (λ n. nat_le n 1048575) at ≡ true → leaf_in (name ++ at_text at) ≡ record { name = name; at = at }
 leaf_guess name [] h k = ap leaf_in (append-nil name) ∙ ap leaf_of (slice_split_none (λ c. c == 40) name (none_at 40 name (name_no 40 refl name h)))
 leaf_guess name (n ∷ ns) h k =
     let rest = join_with_byte 44 (map decimal (n ∷ ns)) ++ codes ")" in
@@ -168,11 +168,11 @@ pub record GivenFits (letter t : ℕ) (l : LeafName) (port : Bytes) (v : Value) 
   pub letter_is : is_letter letter l ≡ true
   pub time : nat_le t 719999998 ≡ true
   pub leaf : is_leaf l ≡ true
-  pub port_is : list_all is_name_byte port ≡ true
+  pub port_is : list_all is_of_name port ≡ true
   pub value : is_value v ≡ true
 
-name_bytes : (w : Bytes) → is_name w ≡ true → list_all is_name_byte w ≡ true
-name_bytes w h = (both (list_all is_name_byte w) (nat_le 1 (length w)) (both (list_all is_name_byte w && nat_le 1 (length w)) (nat_le (length w) 64) h).0).0
+name_bytes : (w : Bytes) → is_name w ≡ true → list_all is_of_name w ≡ true
+name_bytes w h = (both (has_length 1 64 w) (list_all is_of_name w) h).1
 
 pub given_fits : (letter t : ℕ) (l : LeafName) (port : Bytes) (v : Value) → is_line (given letter t l port v) ≡ true → GivenFits letter t l port v
 given_fits letter t l port v h =
@@ -199,7 +199,7 @@ given_no c s k letter t l port v f =
 given_guess : (letter t : ℕ) (l : LeafName) (port : Bytes) (v : Value) → GivenFits letter t l port v → line_in (parts_of (given letter t l port v)) ≡ Some (given letter t l port v)
 given_guess letter t l port v f =
     let k = leaf_parts l f.leaf in
-    ap (λ b. cond b (moved_in (time_in (time_text t)) (leaf_in (leaf_text l)) port (text5 v)) (given_in letter (time_in (time_text t)) (leaf_in (leaf_text l)) port (guessed_value (text5 v)))) (not_moved letter l f.letter_is)
+    ap (λ b. cond b (moved_in (guessed_time (time_text t)) (leaf_in (leaf_text l)) port (text5 v)) (given_in letter (guessed_time (time_text t)) (leaf_in (leaf_text l)) port (guessed_value (text5 v)))) (not_moved letter l f.letter_is)
     ∙ ap (λ o. given_in letter o (leaf_in (leaf_text l)) port (guessed_value (text5 v))) (time_guess t (in_time t f.time))
     ∙ ap (λ x. given_in letter (Some t) x port (guessed_value (text5 v))) (leaf_guess l.name l.at k.0 k.1)
     ∙ ap (λ o. given_in letter (Some t) l port o) (value_guess v f.value)
@@ -237,7 +237,7 @@ state_guess : (l : LeafName) (state : Option Value) → is_state l state ≡ tru
 state_guess l None h = refl
 state_guess l (Some v) h = value_guess v (both (has_place l) (is_value v) h).1
 
-next_guess : (next : Option ℕ) → is_next next ≡ true → time_in (next_text next) ≡ next
+next_guess : (next : Option ℕ) → is_next next ≡ true → guessed_time (next_text next) ≡ next
 next_guess None h = refl
 next_guess (Some t) h = time_guess t (in_time t h)
 
@@ -246,7 +246,7 @@ moved_guess t l state next f =
     let k = leaf_parts l f.leaf in
     ap (λ o. moved_in o (leaf_in (leaf_text l)) (state_text state) (next_text next)) (time_guess t (in_time t f.time))
     ∙ ap (λ x. moved_in (Some t) x (state_text state) (next_text next)) (leaf_guess l.name l.at k.0 k.1)
-    ∙ ap (λ o. Some (moved t l o (time_in (next_text next)))) (state_guess l state f.state_is)
+    ∙ ap (λ o. Some (moved t l o (guessed_time (next_text next)))) (state_guess l state f.state_is)
     ∙ ap (λ o. Some (moved t l state o)) (next_guess next f.next_is)
 
 line_guess : (l : LogLine) → is_line l ≡ true → line_in (parts_in (line_text l)) ≡ Some l

@@ -10,7 +10,8 @@ use Rattle.run_model.specs.Run.{Cycle, PortRecord}
 use Rattle.quantity.specs.Bytes.{Bytes}
 use Rattle.quantity.specs.ValueTexts.{value_text}
 use Rattle.quantity.specs.Times.{time_text}
-use Rattle.text_forms.specs.Lines.{LogLine, given, moved, read_line, ended}
+use Rattle.text_forms.specs.LogLine.{LogLine, given, moved, read_line}
+use Rattle.text_forms.specs.Lines.{ended}
 
 -- a cell of the group gave this value at `out`
 pub record Shown : Type 0 where

@@ -1,7 +1,10 @@
+pub mod LogLine
 pub mod Lines
 pub mod Frames
 pub mod BoxStates
-pub mod State
+pub mod StateText
+pub mod LeafStates
+pub mod StateOf
 pub mod Models
 pub mod ReadBack
 pub mod DrawnLines

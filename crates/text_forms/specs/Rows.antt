@@ -8,7 +8,8 @@ use Rattle.model_tree.specs.Examples.{twice_and_once}
 use Rattle.run_model.specs.Run.{run}
 use Rattle.run_model.specs.Examples.{with_port}
 use Rattle.quantity.specs.Bytes.{Bytes}
-use Rattle.text_forms.specs.Lines.{given, moved, log_bytes, out_bytes, read_line, ended}
+use Rattle.text_forms.specs.LogLine.{given, moved, read_line}
+use Rattle.text_forms.specs.Lines.{log_bytes, out_bytes, ended}
 use Rattle.text_forms.specs.Frames.{Picture, frames_of, drawn}
 use Rattle.text_forms.specs.Models.{line, line_group, solid, solid_group}
 

@@ -1,5 +1,5 @@
 -- Texts of states that compute.
-use Rattle.std.specs.Prelude.{◌≡◌, ℕ, true, false, List, [], ◌∷◌, ◌++◌, ℤ, pos, negsuc, codes, Ok, Err}
+use Rattle.std.specs.Prelude.{◌≡◌, true, false, List, [], ◌∷◌, ◌++◌, ℤ, pos, negsuc, codes, Ok, Err}
 use Rattle.atomic_face.specs.declared.class.Class.TheVariants.{Queue}
 use Rattle.model_tree.specs.Examples.{twice_and_once}
 use Rattle.run_model.specs.Cycle.{LeafState}
@@ -9,7 +9,9 @@ use Rattle.quantity.specs.Bytes.{Bytes}
 use Rattle.text_forms.specs.Rows.{lines}
 use Rattle.text_forms.specs.Models.{line}
 use Rattle.text_forms.specs.BoxStates.{is_box_state, is_table}
-use Rattle.text_forms.specs.State.{Refusal, text_of_state, state_of}
+use Rattle.text_forms.specs.declared.refusal.StateRefusal.TheVariants.{BadStateLine, EndBefore}
+use Rattle.text_forms.specs.StateText.{text_of_state}
+use Rattle.text_forms.specs.StateOf.{state_of}
 
 abbrev pub saved : Bytes → Bytes → Bytes
 saved fourth more =
@@ -26,12 +28,6 @@ line_saved = saved fourth (codes "end\n")
 
 abbrev pub line_states : List LeafState
 line_states = (run line [] 100 10000).left.leaf_states
-
-abbrev pub refused : ℕ → Bytes → Refusal
-refused line kind = record { line = line; kind = kind }
-
-abbrev pub bad_line : ℕ → Refusal
-bad_line line = refused line (codes "1 BadStateLine")
 
 abbrev pub queue_saved : Bytes
 queue_saved =
@@ -54,19 +50,19 @@ table_settings = pos 2 ∷ pos 0 ∷ pos 30 ∷ pos 100000 ∷ pos 1 ∷ pos 50 
 pub record SavedAsSaid : Type 0 where
   pub written : text_of_state line 100 line_states ≡ line_saved
   pub read : state_of line_saved line 200 ≡ Ok (record { time = 100; states = line_states })
-  pub end_before : state_of line_saved line 50 ≡ Err (refused 2 (codes "2 EndBefore"))
-  pub no_end : state_of (saved fourth []) line 200 ≡ Err (bad_line 6)
-  pub not_after : state_of (saved (codes "cell line(0,1) 1.00000 0.00000 1 100 0.00000") (codes "end\n")) line 200 ≡ Err (bad_line 4)
-  pub torn : state_of (saved fourth (codes "end")) line 200 ≡ Err (bad_line 6)
-  pub follows : state_of (saved fourth (codes "end\n\n")) line 200 ≡ Err (bad_line 7)
-  pub sign : state_of (saved (codes "cell line(0,1) 1.00000 -0.00000 1 200 0.00000") (codes "end\n")) line 200 ≡ Err (bad_line 4)
-  pub empty : state_of [] line 200 ≡ Err (bad_line 1)
+  pub end_before : state_of line_saved line 50 ≡ Err (EndBefore 2)
+  pub no_end : state_of (saved fourth []) line 200 ≡ Err (BadStateLine 6)
+  pub not_after : state_of (saved (codes "cell line(0,1) 1.00000 0.00000 1 100 0.00000") (codes "end\n")) line 200 ≡ Err (BadStateLine 4)
+  pub torn : state_of (saved fourth (codes "end")) line 200 ≡ Err (BadStateLine 6)
+  pub follows : state_of (saved fourth (codes "end\n\n")) line 200 ≡ Err (BadStateLine 7)
+  pub sign : state_of (saved (codes "cell line(0,1) 1.00000 -0.00000 1 200 0.00000") (codes "end\n")) line 200 ≡ Err (BadStateLine 4)
+  pub empty : state_of [] line 200 ≡ Err (BadStateLine 1)
   pub boxes : text_of_state twice_and_once 0 (run twice_and_once [] 0 10000).left.leaf_states ≡ queue_saved
   pub boxes_read : state_of queue_saved twice_and_once 2000 ≡ Ok (record { time = 0; states = (run twice_and_once [] 0 10000).left.leaf_states })
   pub ports : text_of_state with_port 150 (run with_port [] 150 10000).left.leaf_states ≡ port_saved
   pub ports_read : state_of port_saved with_port 150 ≡ Ok (record { time = 150; states = (run with_port [] 150 10000).left.leaf_states })
   pub variables : text_of_state with_variables 150 (run with_variables [] 150 10000).left.leaf_states ≡ variables_saved
-  pub two_lists : state_of variables_saved with_port 200 ≡ Err (bad_line 3)
+  pub two_lists : state_of variables_saved with_port 200 ≡ Err (BadStateLine 3)
   pub idle : is_box_state Queue [] (pos 0 ∷ negsuc 0 ∷ []) ≡ true
   pub idle_with_value : is_box_state Queue [] (pos 0 ∷ negsuc 0 ∷ pos 5 ∷ []) ≡ false
   pub hold : is_table table_settings (pos 0 ∷ pos 30 ∷ pos 0 ∷ []) ≡ true

@@ -1,0 +1,139 @@
+-- What follows from an outcome.
+use Rattle.std.proofs.Common.{◌≡◌, ◌≢◌, ℕ, Bool, true, false, [], ◌∷◌, ◌++◌, refl, sym, ap, ◌∙◌, subst, arith, inl, inr, ◌⊎◌}
+use Rattle.std.specs.Bool.{OnFalse}
+use Rattle.std.proofs.lemmas.List.{append-nil}
+use Rattle.room_edge.specs.Faults.{Rose}
+use Rattle.room_edge.specs.Outside.{Outside, streams}
+use Rattle.room_edge.proofs.Adding.{streams-nil}
+use Rattle.answer_model.specs.Answer.{Files, Answer, names}
+use Rattle.answer_model.specs.Headline.{is_free, puts_all, BeginFiles, Writes, WritesPart, WritesNothing}
+use Rattle.answer_model.specs.Outcome.{Did, HasMore, Outcome, Ending, as_answered, reading_failed, writing_failed, complaining_failed, memory_failed, IsBegun, IsOwn, Complains, FollowsAnswer, IsComplete, IsExact, OutcomeLaws}
+
+-- ---- beginnings
+
+all_begun : (files : Files) → BeginFiles files files
+all_begun [] = tt
+all_begun (f ∷ fs) = (refl, ([], sym (append-nil f.1)), all_begun fs)
+
+whole_begun : (a : Answer) (did : Did) → did.made ≡ a.made → did.shown ≡ a.shown → IsBegun a did
+whole_begun a did m s = (subst (λ fs. BeginFiles fs a.made) (sym m) (all_begun a.made), ([], sym s ∙ sym (append-nil did.shown)))
+
+none_begun : (a : Answer) (did : Did) → did.made ≡ [] → did.shown ≡ [] → IsBegun a did
+none_begun a did m s = (subst (λ fs. BeginFiles fs a.made) (sym m) tt, (a.shown, ap (λ bs. bs ++ a.shown) (sym s)))
+
+-- ---- what was done, outside
+
+writes : (a : Answer) (old new : Outside) (did : Did) → HasMore did old new → did.made ≡ a.made → did.shown ≡ a.shown → did.complained ≡ a.complained → Writes a old new a.status
+writes a old new did more m s c =
+    record {
+      status = refl;
+      made = more.made ∙ ap (puts_all old.made) m;
+      created = more.created ∙ ap (λ (fs : Files). old.created ++ names fs) m;
+      shown = more.shown ∙ ap (streams old.shown) s;
+      complained = more.complained ∙ ap (streams old.complained) c;
+    }
+
+writes_part : (a : Answer) (old new : Outside) (did : Did) → HasMore did old new → IsBegun a did → WritesPart a old new
+writes_part a old new did more begun =
+    record { files = (did.made, begun.0, more.made, more.created); shown = (did.shown, begun.1, more.shown) }
+
+writes_nothing : (old new : Outside) (did : Did) → HasMore did old new → did.made ≡ [] → did.shown ≡ [] → WritesNothing old new
+writes_nothing old new did more m s =
+    record {
+      made = more.made ∙ ap (puts_all old.made) m;
+      created = more.created ∙ ap (λ (fs : Files). old.created ++ names fs) m ∙ append-nil old.created;
+      shown = more.shown ∙ ap (streams old.shown) s ∙ streams-nil old.shown;
+    }
+
+-- ---- ending by ending
+
+on_false : (b : Bool) (P : Type 0) → P → OnFalse b P
+on_false true P p = tt
+on_false false P p = p
+
+not_that : {A : Type 0} (m n : ℕ) → m ≢ n → m ≡ n → A
+not_that m n h e = absurd (h e)
+
+begun_by : (a : Answer) (old new : Outside) (did : Did) (status : ℕ) → Ending a old new did status → IsBegun a did
+begun_by a old new did _ (as_answered m s c) = whole_begun a did m s
+begun_by a old new did _ (reading_failed rose m s l c) = none_begun a did m s
+begun_by a old new did _ (writing_failed rose b l c) = b
+begun_by a old new did _ (complaining_failed rose also b l c) = b
+begun_by a old new did _ (memory_failed b l c) = b
+
+own_by : (a : Answer) (old new : Outside) (did : Did) (status : ℕ) → HasMore did old new → Ending a old new did status → OnFalse (is_free status) (Writes a old new status)
+own_by a old new did _ more (as_answered m s c) = on_false (is_free a.status) (Writes a old new a.status) (writes a old new did more m s c)
+own_by a old new did _ more (reading_failed rose m s l c) = tt
+own_by a old new did _ more (writing_failed rose b l c) = tt
+own_by a old new did _ more (complaining_failed rose also b l c) = tt
+own_by a old new did _ more (memory_failed b l c) = tt
+
+nothing_by : (a : Answer) (old new : Outside) (did : Did) (status : ℕ) → IsOwn a.status → HasMore did old new → Ending a old new did status → status ≡ 4 → WritesNothing old new
+nothing_by a old new did _ own more (as_answered m s c) = not_that a.status 4 own.0
+nothing_by a old new did _ own more (reading_failed rose m s l c) = λ e. writes_nothing old new did more m s
+nothing_by a old new did _ own more (writing_failed rose b l c) = λ e. absurd (omega arith)
+nothing_by a old new did _ own more (complaining_failed rose also b l c) = λ e. absurd (omega arith)
+nothing_by a old new did _ own more (memory_failed b l c) = λ e. absurd (omega arith)
+
+read_by : (a : Answer) (old new : Outside) (did : Did) (status : ℕ) → IsOwn a.status → Ending a old new did status → status ≡ 4 → Rose old.read_faults new.read_faults
+read_by a old new did _ own (as_answered m s c) = not_that a.status 4 own.0
+read_by a old new did _ own (reading_failed rose m s l c) = λ e. rose
+read_by a old new did _ own (writing_failed rose b l c) = λ e. absurd (omega arith)
+read_by a old new did _ own (complaining_failed rose also b l c) = λ e. absurd (omega arith)
+read_by a old new did _ own (memory_failed b l c) = λ e. absurd (omega arith)
+
+write_by : (a : Answer) (old new : Outside) (did : Did) (status : ℕ) → IsOwn a.status → Ending a old new did status → status ≡ 5 → Rose old.write_faults new.write_faults
+write_by a old new did _ own (as_answered m s c) = not_that a.status 5 own.1
+write_by a old new did _ own (reading_failed rose m s l c) = λ e. absurd (omega arith)
+write_by a old new did _ own (writing_failed rose b l c) = λ e. rose
+write_by a old new did _ own (complaining_failed rose also b l c) = λ e. rose
+write_by a old new did _ own (memory_failed b l c) = λ e. absurd (omega arith)
+
+complains_by : (a : Answer) (old new : Outside) (did : Did) (status : ℕ) → IsOwn a.status → HasMore did old new → Ending a old new did status → Complains a old new did status
+complains_by a old new did _ own more (as_answered m s c) =
+    record { more = more; at_4 = not_that a.status 4 own.0; at_5 = not_that a.status 5 own.1; at_12 = not_that a.status 12 own.2 }
+complains_by a old new did _ own more (reading_failed {name} rose m s l c) =
+    record { more = more; at_4 = λ e. (name, l, c); at_5 = λ e. absurd (omega arith); at_12 = λ e. absurd (omega arith) }
+complains_by a old new did _ own more (writing_failed {name} rose b l c) =
+    record { more = more; at_4 = λ e. absurd (omega arith); at_5 = λ e. inl (name, l, c); at_12 = λ e. absurd (omega arith) }
+complains_by a old new did _ own more (complaining_failed {line} rose also b l c) =
+    record { more = more; at_4 = λ e. absurd (omega arith); at_5 = λ e. inr (also, (line, l, c)); at_12 = λ e. absurd (omega arith) }
+complains_by a old new did _ own more (memory_failed {line} b l c) =
+    record { more = more; at_4 = λ e. absurd (omega arith); at_5 = λ e. absurd (omega arith); at_12 = λ e. (line, l, c) }
+
+follows : (a : Answer) (old new : Outside) (status : ℕ) → IsOwn a.status → Outcome a old new status → FollowsAnswer a old new status
+follows a old new status own o =
+    record {
+      own = own_by a old new o.did status o.more o.ending;
+      part = writes_part a old new o.did o.more (begun_by a old new o.did status o.ending);
+      tried = (o.did.tried, o.inputs, o.more.tried);
+      nothing = nothing_by a old new o.did status own o.more o.ending;
+      complains = (o.did, complains_by a old new o.did status own o.more o.ending);
+      read_fault = read_by a old new o.did status own o.ending;
+      write_fault = write_by a old new o.did status own o.ending;
+    }
+
+-- ---- without a fault; and where nothing is free
+
+complete_by : (a : Answer) (old new : Outside) (did : Did) (status : ℕ) → Ending a old new did status → ¬ Rose old.read_faults new.read_faults → ¬ Rose old.write_faults new.write_faults → (status ≡ a.status) ⊎ (status ≡ 12)
+complete_by a old new did _ (as_answered m s c) r w = inl refl
+complete_by a old new did _ (reading_failed rose m s l c) r w = absurd (r rose)
+complete_by a old new did _ (writing_failed rose b l c) r w = absurd (w rose)
+complete_by a old new did _ (complaining_failed rose also b l c) r w = absurd (w rose)
+complete_by a old new did _ (memory_failed b l c) r w = inr refl
+
+is_complete : IsComplete
+is_complete a old new status o = complete_by a old new o.did status o.ending
+
+exact_by : (a : Answer) (old new : Outside) (did : Did) (status : ℕ) → HasMore did old new → Ending a old new did status → status ≢ 4 → status ≢ 5 → status ≢ 12 → Writes a old new status
+exact_by a old new did _ more (as_answered m s c) p q r = writes a old new did more m s c
+exact_by a old new did _ more (reading_failed rose m s l c) p q r = absurd (p refl)
+exact_by a old new did _ more (writing_failed rose b l c) p q r = absurd (q refl)
+exact_by a old new did _ more (complaining_failed rose also b l c) p q r = absurd (q refl)
+exact_by a old new did _ more (memory_failed b l c) p q r = absurd (r refl)
+
+is_exact : IsExact
+is_exact a old new status o = exact_by a old new o.did status o.more o.ending
+
+pub outcome_laws : OutcomeLaws
+outcome_laws = record { follow = follows; complete = is_complete; exact = is_exact }

@@ -1,0 +1,66 @@
+-- The files that a run makes: its log, its output, its frames and its state at the end.
+use Rattle.std.specs.Prelude.{ℕ, ◌+◌, Option, Some, None, List, [], ◌∷◌, ◌++◌, slice_get, if◌then◌else◌}
+use Rattle.std.specs.Str.{bytes_eq}
+use Rattle.quantity.specs.declared.value.Value.{Value}
+use Rattle.quantity.specs.declared.value.Value.TheVariants.{Undefined}
+use Rattle.quantity.specs.Bytes.{Bytes}
+use Rattle.model_tree.specs.Tree.{Word, Group, Tree, Leaf, atomic_leaf, cell_leaf, leaves}
+use Rattle.run_model.specs.Cycle.{LeafState, box_state, cell_state}
+use Rattle.run_model.specs.Run.{Event, Cycle, done, Run}
+use Rattle.text_forms.specs.Lines.{log_bytes, out_bytes}
+use Rattle.text_forms.specs.Frames.{frames_of}
+use Rattle.text_forms.specs.StateText.{text_of_state}
+use Rattle.text_forms.specs.StateOf.{Saved}
+use Rattle.answer_model.specs.Asked.{Asked, FramesFile}
+use Rattle.answer_model.specs.Answer.{Files, Answer}
+use Rattle.answer_model.specs.RunEnd.{said}
+
+abbrev pub file_if : Option Word → Bytes → Files
+file_if None bytes = []
+file_if (Some name) bytes = (name, bytes) ∷ []
+
+-- ---- frames
+
+-- the group of a name, with the number of its first leaf
+abbrev pub group_at : Word → List Leaf → Option (ℕ × Group)
+group_at name [] = None
+group_at name (atomic_leaf n class settings ∷ ls) = group_at name ls
+group_at name (cell_leaf g first cell ∷ ls) = if bytes_eq g.name name then Some (first, g) else group_at name ls
+
+abbrev pub emitted_of : Option LeafState → Value
+emitted_of None = Undefined
+emitted_of (Some (box_state b)) = Undefined
+emitted_of (Some (cell_state c)) = elim (slice_get c.ports 0) [ None ↦ Undefined | Some p ↦ p.emitted ]
+
+-- what each cell of a group had emitted before the run
+abbrev pub emitted_before : Option Saved → ℕ → ℕ → Value
+emitted_before None first cell = Undefined
+emitted_before (Some s) first cell = emitted_of (slice_get s.states (first + cell))
+
+abbrev pub frames_file : Tree → Option Saved → List Cycle → FramesFile → Files
+frames_file tree from cycles f =
+    elim (group_at f.drawing.group (leaves tree)) [
+      | None ↦ []
+      | Some g ↦ (f.name, frames_of (record { space = g.1.space; plane = f.drawing.plane; width = f.width; decimals = f.decimals }) g.0 (emitted_before from g.0) cycles) ∷ []
+    ]
+
+abbrev pub frames_if : Tree → Option Saved → List Cycle → Option FramesFile → Files
+frames_if tree from cycles None = []
+frames_if tree from cycles (Some f) = frames_file tree from cycles f
+
+-- ---- all files, in their order
+
+-- a state is saved of a run that is done, and else nothing
+abbrev pub saved_text : Asked → Tree → Run → Bytes
+saved_text a tree r = elim r.verdict [ done ↦ text_of_state tree a.end r.left.leaf_states | _ ↦ [] ]
+
+abbrev pub made_files : Asked → Tree → Option Saved → Run → Files
+made_files a tree from r =
+    file_if a.log (log_bytes tree a.letters r.cycles) ++ file_if a.out (out_bytes tree r.cycles) ++ frames_if tree from r.cycles a.frames
+    ++ file_if a.save (saved_text a tree r)
+
+-- what a run answers, from the start or from a saved state
+abbrev pub answer_of_run : Asked → Tree → List Event → Option Saved → List Word → Run → Answer
+answer_of_run a tree events from inputs r =
+    let s = said a tree events r.cycles r.verdict in
+    record { made = made_files a tree from r; shown = s.shown; complained = s.complained; status = s.status; inputs = inputs }

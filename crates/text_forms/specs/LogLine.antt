@@ -1,0 +1,129 @@
+-- A log line: its form, which no model decides, its text and the text read back.
+use Rattle.std.specs.Prelude.{ℕ, Bool, true, not, ◌&&◌, ◌||◌, ◌==◌, nat_le, Option, Some, None, List, [], ◌∷◌, ◌++◌, length, map, unsigned_abs, ◌^◌, if◌then◌else◌, codes, decimal}
+use Rattle.std.specs.List.{slice_split, list_all, filter, join_with_byte}
+use Rattle.std.specs.Str.{bytes_eq}
+use Rattle.std.specs.Str.Parse.{digits_value}
+use Rattle.quantity.specs.declared.value.Value.{Value}
+use Rattle.quantity.specs.declared.value.Value.TheVariants.{Undefined, Num}
+use Rattle.quantity.specs.Bytes.{Bytes}
+use Rattle.quantity.specs.Names.{is_name}
+use Rattle.quantity.specs.ValueTexts.{text5, guessed_value}
+use Rattle.quantity.specs.Times.{time_text, time_of}
+use Rattle.quantity.specs.Written.{if_written}
+use Rattle.model_tree.specs.Tree.{Word}
+
+-- a leaf's name; a cell's has the group's name and two or three coordinates, an atomic leaf's has none
+pub record LeafName : Type 0 where
+  pub name : Word
+  pub at : List ℕ
+
+-- a value given at a port, by its letter, or a leaf that moved
+pub data LogLine : Type 0 where
+  given : (letter time : ℕ) (leaf : LeafName) (port : Word) (value : Value) → LogLine
+  moved : (time : ℕ) (leaf : LeafName) (state : Option Value) (next : Option ℕ) → LogLine
+
+-- ---- what is written
+
+abbrev pub at_text : List ℕ → Bytes
+at_text [] = []
+at_text (n ∷ ns) = 40 ∷ (join_with_byte 44 (map decimal (n ∷ ns)) ++ codes ")")
+
+abbrev pub leaf_text : LeafName → Bytes
+leaf_text l = l.name ++ at_text l.at
+
+abbrev pub state_text : Option Value → Bytes
+state_text None = codes "-"
+state_text (Some v) = text5 v
+
+abbrev pub next_text : Option ℕ → Bytes
+next_text None = codes "..."
+next_text (Some t) = time_text t
+
+abbrev pub parts_of : LogLine → List Bytes
+parts_of (given letter time leaf port value) =
+    (letter ∷ []) ∷ time_text time ∷ leaf_text leaf ∷ port ∷ text5 value ∷ []
+parts_of (moved time leaf state next) =
+    codes "S" ∷ time_text time ∷ leaf_text leaf ∷ state_text state ∷ next_text next ∷ []
+
+-- a stroke between each two
+abbrev pub with_strokes : List Bytes → List Bytes
+with_strokes [] = []
+with_strokes (x ∷ []) = x ∷ []
+with_strokes (x ∷ y ∷ ys) = x ∷ codes "/" ∷ with_strokes (y ∷ ys)
+
+abbrev pub line_text : LogLine → Bytes
+line_text l = join_with_byte 32 (with_strokes (parts_of l))
+
+-- ---- which lines there are
+
+abbrev pub is_leaf : LeafName → Bool
+is_leaf l =
+    is_name l.name && list_all (λ n. nat_le n 1048575) l.at
+    && ((length l.at == 0) || (length l.at == 2) || (length l.at == 3))
+
+abbrev pub has_place : LeafName → Bool
+has_place l = not (length l.at == 0)
+
+abbrev pub is_value : Value → Bool
+is_value Undefined = true
+is_value (Num x) = nat_le (unsigned_abs x) (10 ^ 15)
+
+abbrev pub is_time : ℕ → Bool
+is_time t = nat_le t 719999998
+
+-- the letters are Y, X and N, and N is of cells alone
+abbrev pub is_letter : ℕ → LeafName → Bool
+is_letter letter l = (letter == 89) || (letter == 88) || ((letter == 78) && has_place l)
+
+abbrev pub is_state : LeafName → Option Value → Bool
+is_state l None = not (has_place l)
+is_state l (Some v) = has_place l && is_value v
+
+abbrev pub is_next : Option ℕ → Bool
+is_next None = true
+is_next (Some t) = is_time t
+
+abbrev pub is_line : LogLine → Bool
+is_line (given letter time leaf port value) =
+    is_letter letter leaf && is_time time && is_leaf leaf && is_name port && is_value value
+is_line (moved time leaf state next) = is_time time && is_leaf leaf && is_state leaf state && is_next next
+
+-- ---- a line read back: its parts stand between the strokes
+
+abbrev pub at_in : Bytes → List ℕ
+at_in text = map (digits_value 10) (slice_split (λ c. c == 44) (filter (λ c. not (c == 41)) text))
+
+abbrev pub leaf_of : List Bytes → LeafName
+leaf_of (name ∷ at ∷ []) = record { name = name; at = at_in at }
+leaf_of (name ∷ parts) = record { name = name; at = [] }
+leaf_of [] = record { name = []; at = [] }
+
+abbrev pub leaf_in : Bytes → LeafName
+leaf_in text = leaf_of (slice_split (λ c. c == 40) text)
+
+abbrev pub guessed_time : Bytes → Option ℕ
+guessed_time text = time_of (slice_split (λ c. c == 58) text)
+
+abbrev pub given_in : ℕ → Option ℕ → LeafName → Word → Option Value → Option LogLine
+given_in letter (Some t) leaf port (Some v) = Some (given letter t leaf port v)
+given_in letter t leaf port v = None
+
+abbrev pub moved_in : Option ℕ → LeafName → Bytes → Bytes → Option LogLine
+moved_in None leaf state next = None
+moved_in (Some t) leaf state next = Some (moved t leaf (guessed_value state) (guessed_time next))
+
+abbrev pub line_in : List Bytes → Option LogLine
+line_in ((c ∷ []) ∷ t ∷ leaf ∷ a ∷ b ∷ []) =
+    if c == 83 then moved_in (guessed_time t) (leaf_in leaf) a b else given_in c (guessed_time t) (leaf_in leaf) a (guessed_value b)
+line_in parts = None
+
+abbrev pub if_line : Option LogLine → Option LogLine
+if_line None = None
+if_line (Some l) = if is_line l then Some l else None
+
+-- what stands between blanks, without the strokes
+abbrev pub parts_in : Bytes → List Bytes
+parts_in text = filter (λ w. not (bytes_eq w (codes "/"))) (slice_split (λ c. c == 32) text)
+
+abbrev pub read_line : Bytes → Option LogLine
+read_line text = if_written line_text text (if_line (line_in (parts_in text)))
