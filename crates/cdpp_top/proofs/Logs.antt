@@ -1,0 +1,73 @@
+-- What a cycle more does to the log.
+use Rattle.std.proofs.Common.{◌≡◌, ℕ, List, [], ◌∷◌, ◌++◌, length, Option, Some, None, refl, sym, ◌∙◌, ap, arith, append_assoc}
+use Rattle.std.proofs.lemmas.List.{append-nil}
+use Rattle.std.proofs.lemmas.Grind.{flat_map-append}
+use Rattle.std.proofs.lemmas.List.Elements.{filter-append}
+use Rattle.std.specs.List.{filter, flat_map, list_any}
+use Rattle.quantity.specs.Bytes.{Bytes}
+use Rattle.model_tree.specs.Tree.{Word, Leaf, leaves}
+use Rattle.run_model.specs.Run.{Cycle, Run, in_front}
+use Rattle.text_forms.specs.Lines.{cycle_lines, ended}
+use Rattle.text_forms.specs.LogLine.{LogLine, line_text, letter_of}
+use Rattle.std.specs.Prelude.{codes, ◌==◌, Bool}
+use Rattle.room_edge.specs.Outside.{Folder}
+use Rattle.room_edge.proofs.Adding.{adds-adds, adds-nil}
+use Rattle.answer_model.specs.Headline.{Begins}
+use Rattle.cell_engine.specs.Ring.{Ring, ring_tree}
+use Rattle.cdpp_top.specs.Logged.{logs}
+use Rattle.cdpp_top.specs.RunOf.{log_of}
+
+abbrev is_wanted : LogLine → Bool
+is_wanted l = list_any (λ c. c == letter_of l) (codes "Y")
+
+abbrev text_of : LogLine → Bytes
+text_of l = ended (line_text l)
+
+pub log_of-append : (ring : Ring) (xs ys : List Cycle) → log_of ring (xs ++ ys) ≡ log_of ring xs ++ log_of ring ys
+log_of-append ring xs ys =
+    let lines : List Cycle → List LogLine = flat_map (cycle_lines (leaves (ring_tree ring))) in
+    ap (λ ls. flat_map text_of (filter is_wanted ls)) (flat_map-append (cycle_lines (leaves (ring_tree ring))) xs ys)
+        ∙ ap (flat_map text_of) (filter-append is_wanted (lines xs) (lines ys))
+        ∙ flat_map-append text_of (filter is_wanted (lines xs)) (filter is_wanted (lines ys))
+
+-- the lines of the next cycle, and then those of the cycles after it
+pub lines_next : (ring here : Ring) (r later : Run) (c : Cycle) (text : Bytes) → here ≡ ring → r ≡ in_front c later → text ≡ log_of here (c ∷ []) → log_of ring r.cycles ≡ text ++ log_of ring later.cycles
+lines_next ring here r later c text here_is is text_is =
+    ap (λ (q : Run). log_of ring q.cycles) is ∙ log_of-append ring (c ∷ []) later.cycles
+        ∙ ap (λ l. l ++ log_of ring later.cycles) (sym (text_is ∙ ap (λ q. log_of q (c ∷ [])) here_is))
+
+pub logs-nil : (log : Option Word) (made : Option Folder) → logs log made [] ≡ made
+logs-nil None made = refl
+logs-nil (Some name) made = adds-nil made name
+
+pub logs-logs : (log : Option Word) (made : Option Folder) (a b : Bytes) → logs log (logs log made a) b ≡ logs log made (a ++ b)
+logs-logs None made a b = refl
+logs-logs (Some name) made a b = adds-adds made name a b
+
+-- the log so far is all of it, where nothing is left
+pub log_ended : (log : Option Word) (was made : Option Folder) (done all rest : Bytes) → rest ≡ [] → made ≡ logs log was done → all ≡ done ++ rest → made ≡ logs log was all
+log_ended log was made done all rest none made_is all_is =
+    made_is ∙ ap (logs log was) (sym (all_is ∙ ap (λ r. done ++ r) none ∙ append-nil done))
+
+-- a part of the next lines is a part of the whole
+pub log_part : (log : Option Word) (was made new : Option Folder) (done all text rest later part : Bytes) → rest ≡ text ++ later → made ≡ logs log was done → all ≡ done ++ rest → Begins part text → new ≡ logs log made part
+    → (more : Bytes) × Begins more all × (new ≡ logs log was more)
+log_part log was made new done all text rest later part rest_is made_is all_is begins new_is = (
+  done ++ part,
+  (
+    begins.0 ++ later,
+    all_is ∙ ap (λ r. done ++ r) rest_is ∙ ap (λ t. done ++ (t ++ later)) begins.1
+        ∙ ap (λ l. done ++ l) (append_assoc part begins.0 later)
+        ∙ sym (append_assoc done part (begins.0 ++ later)),
+  ),
+  new_is ∙ ap (λ m. logs log m part) made_is ∙ logs-logs log was done part,
+)
+
+-- all of the next lines
+pub log_more : (log : Option Word) (was made new : Option Folder) (done all text rest later : Bytes) → rest ≡ text ++ later → made ≡ logs log was done → all ≡ done ++ rest → new ≡ logs log made text
+    → (more : Bytes) × (new ≡ logs log was more) × (all ≡ more ++ later)
+log_more log was made new done all text rest later rest_is made_is all_is new_is = (
+  done ++ text,
+  new_is ∙ ap (λ m. logs log m text) made_is ∙ logs-logs log was done text,
+  all_is ∙ ap (λ r. done ++ r) rest_is ∙ sym (append_assoc done text later),
+)

@@ -1,0 +1,36 @@
+-- What is left of a run, before and after a cycle.
+use Rattle.std.proofs.Common.{◌≡◌, ℕ, zero, suc, ◌-◌, ◌<◌, [], refl, sym, ◌∙◌, ap, arith}
+use Rattle.model_tree.specs.Tree.{Tree}
+use Rattle.run_model.specs.Run.{Cycle, RunState, Verdict, too_many, Next, ended, cycled, next_cycle, Run, run_from, and_on, at_last, in_front}
+use Rattle.cell_engine.specs.Ring.{ring_tree}
+use Rattle.ring_run.specs.Standing.{Standing, state_of, next_of}
+use Rattle.ring_run.specs.Steps.{Keeps}
+use Rattle.cdpp_top.specs.RunOf.{run_of}
+
+from_ended : (n : ℕ) (tree : Tree) (end limit : ℕ) (s : RunState) (v : Verdict) → next_cycle tree end limit s ≡ ended v → run_from n tree end limit s ≡ record { cycles = []; verdict = v; left = s }
+unfolding run_from
+from_ended zero tree end limit s v is = ap (at_last s) is
+from_ended (suc n) tree end limit s v is = ap (λ x. and_on s x (run_from n tree end limit)) is
+
+from_cycled : (n : ℕ) (tree : Tree) (end limit : ℕ) (s m : RunState) (c : Cycle) → next_cycle tree end limit s ≡ cycled c m → run_from (suc n) tree end limit s ≡ in_front c (run_from n tree end limit m)
+unfolding run_from
+from_cycled n tree end limit s m c is = ap (λ x. and_on s x (run_from n tree end limit)) is
+
+from_none : (tree : Tree) (end limit : ℕ) (s m : RunState) (c : Cycle) → next_cycle tree end limit s ≡ cycled c m → run_from 0 tree end limit s ≡ record { cycles = []; verdict = too_many c.time; left = s }
+unfolding run_from
+from_none tree end limit s m c is = ap (at_last s) is
+
+-- the run ends here
+pub run_ended : (n : ℕ) (s : Standing) (v : Verdict) → next_of s ≡ ended v → run_of n s ≡ record { cycles = []; verdict = v; left = state_of s }
+run_ended n s v is = from_ended n (ring_tree s.ring) s.end s.limit (state_of s) v is
+
+-- a cycle is due where no more are counted
+pub run_stopped : (n : ℕ) (s m : Standing) (c : Cycle) → n ≡ 0 → next_of s ≡ cycled c (state_of m) → run_of n s ≡ record { cycles = []; verdict = too_many c.time; left = state_of s }
+run_stopped n s m c none is = ap (λ k. run_of k s) none ∙ from_none (ring_tree s.ring) s.end s.limit (state_of s) (state_of m) c is
+
+-- the run goes on after a cycle
+pub run_more : (n : ℕ) (s m : Standing) (c : Cycle) → 0 < n → next_of s ≡ cycled c (state_of m) → Keeps s m → run_of n s ≡ in_front c (run_of (n - 1) m)
+run_more n s m c some is keeps =
+    let e : n ≡ suc (n - 1) = omega arith in
+    ap (λ k. run_of k s) e ∙ from_cycled (n - 1) (ring_tree s.ring) s.end s.limit (state_of s) (state_of m) c is
+        ∙ (λ i. in_front c (run_from (n - 1) (ring_tree (sym keeps.ring i)) (sym keeps.end i) (sym keeps.limit i) (state_of m)))
