@@ -1,9 +1,8 @@
 -- Times as texts: as people write them, and as logs have them.
-use Rattle.std.specs.Prelude.{ℕ, ◌+◌, ◌*◌, ◌/◌, ◌%◌, ◌&&◌, ◌==◌, nat_lt, Option, Some, None, List, [], ◌∷◌, if◌then◌else◌, decimal}
+use Rattle.std.specs.Prelude.{ℕ, ◌+◌, ◌*◌, ◌/◌, ◌%◌, ◌&&◌, nat_lt, Option, None, List, [], ◌∷◌, if◌then◌else◌, decimal}
 use Rattle.std.specs.List.{slice_split, join_with_byte}
 use Rattle.std.specs.Bool.{then_some}
 use Rattle.std.specs.Option.{option_and_then}
-use Rattle.std.specs.Str.Parse.{digits_value}
 use Rattle.quantity.specs.Bytes.{Bytes, is_byte, all_there}
 use Rattle.quantity.specs.Digits.{whole_number, last_digits}
 use Rattle.quantity.specs.Written.{if_written, number_at_most}
@@ -12,13 +11,21 @@ abbrev pub milliseconds_of : List ℕ → Option ℕ
 milliseconds_of (h ∷ m ∷ s ∷ ms ∷ []) = then_some (nat_lt m 60 && nat_lt s 60) (((h * 60 + m) * 60 + s) * 1000 + ms)
 milliseconds_of ns = None
 
-abbrev pub parsed_parts : List Bytes → Option (List ℕ)
-parsed_parts (h ∷ m ∷ s ∷ ms ∷ []) = all_there (whole_number 2 h ∷ whole_number 2 m ∷ whole_number 2 s ∷ whole_number 3 ms ∷ [])
-parsed_parts texts = None
+-- hours of at most so many digits, minutes, seconds and milliseconds
+abbrev pub numbers_in : ℕ → Bytes → Bytes → Bytes → Bytes → Option (List ℕ)
+numbers_in most h m s ms = all_there (whole_number most h ∷ whole_number 2 m ∷ whole_number 2 s ∷ whole_number 3 ms ∷ [])
 
--- hours, minutes, seconds and milliseconds, with : between
+abbrev pub parsed_parts : ℕ → List Bytes → Option (List ℕ)
+parsed_parts most (h ∷ m ∷ s ∷ ms ∷ []) = numbers_in most h m s ms
+parsed_parts most texts = None
+
+-- the same, with : between
+abbrev pub milliseconds_in : ℕ → Bytes → Option ℕ
+milliseconds_in most text = option_and_then milliseconds_of (parsed_parts most (slice_split (is_byte 58) text))
+
+-- a time as people write it: hours below 100
 abbrev pub time_in : Bytes → Option ℕ
-time_in text = option_and_then milliseconds_of (parsed_parts (slice_split (is_byte 58) text))
+time_in text = milliseconds_in 2 text
 
 abbrev pub hours_text : ℕ → Bytes
 hours_text n = if nat_lt n 100 then last_digits 2 n else decimal n
@@ -31,11 +38,10 @@ time_parts ms =
 abbrev pub time_text : ℕ → Bytes
 time_text ms = join_with_byte 58 (time_parts ms)
 
-abbrev pub time_of : List Bytes → Option ℕ
-time_of (h ∷ m ∷ s ∷ ms ∷ []) =
-    number_at_most 719999998 (digits_value 10 h * 3600000 + digits_value 10 m * 60000 + digits_value 10 s * 1000 + digits_value 10 ms)
-time_of parts = None
+-- a time that the program writes: it is at most this
+abbrev pub guessed_time : Bytes → Option ℕ
+guessed_time text = option_and_then (number_at_most 719999998) (milliseconds_in 3 text)
 
--- a time as it is written; it is at most this
+-- a time as it is written, and as nothing else is
 abbrev pub read_time : Bytes → Option ℕ
-read_time text = if_written time_text text (time_of (slice_split (λ c. c == 58) text))
+read_time text = if_written time_text text (guessed_time text)

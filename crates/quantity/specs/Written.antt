@@ -1,5 +1,5 @@
 -- Texts that stand for what is written so, and for nothing else.
-use Rattle.std.specs.Prelude.{ℕ, ◌==◌, Bool, ◌&&◌, nat_lt, nat_le, Option, Some, None, length, if◌then◌else◌, decimal}
+use Rattle.std.specs.Prelude.{ℕ, Bool, ◌&&◌, nat_lt, nat_le, Option, Some, None, length, if◌then◌else◌, decimal}
 use Rattle.std.specs.List.{list_all}
 use Rattle.std.specs.Str.{bytes_eq}
 use Rattle.std.specs.Str.Parse.{digits_value}

@@ -1,0 +1,64 @@
+// Whole numbers in texts.
+ghost use Rattle.std.specs.Prelude.{◌≡◌, ◌<◌, ◌≤◌, ◌^◌, length, IsTrue, IfSome};
+ghost use Rattle.std.specs.List.{before_first, after_first, list_all, position};
+ghost use Rattle.std.specs.Char.{is_ascii_digit};
+ghost use Rattle.std.specs.Str.{all_ascii_digits};
+ghost use Rattle.quantity.specs.Bytes.{is_byte};
+ghost use Rattle.quantity.specs.Digits.{are_digits, number_in, whole_number};
+
+/// The number of 1 to `most` decimal digits; None where the text is anything else.
+pub fn whole_number(most: usize, text: &[u8]) -> Option<u64>
+    requires { most ≤ 18 }
+    ensures value { result ≡ whole_number most text.now }
+    ensures below { IfSome result (λ n. n < 10 ^ most) }
+{
+    if are_digits(1, most, text) {
+        Some(number_in(text))
+    } else {
+        None
+    }
+}
+
+/// Whether the text has at least `least` and at most `most` bytes, and each is a digit.
+pub(crate) fn are_digits(least: usize, most: usize, text: &[u8]) -> bool
+    ensures { result ≡ are_digits least most text.now }
+{
+    least <= text.len() && text.len() <= most && all_are_digits(text)
+}
+
+fn all_are_digits(text: &[u8]) -> bool
+    ensures { result ≡ list_all is_ascii_digit text.now }
+{
+    text.iter().all(|c| c.is_ascii_digit())
+}
+
+/// The number that these digits stand for.
+pub(crate) fn number_in(digits: &[u8]) -> u64
+    requires digits { IsTrue (all_ascii_digits digits.now) }
+    requires short { length digits.now ≤ 18 }
+    ensures value { result ≡ number_in digits.now }
+    ensures below { result < 10 ^ length digits.now }
+{
+    let mut number = 0;
+    for digit in digits {
+        number = number * 10 + u64::from(*digit - b'0');
+    }
+    number
+}
+
+/// What stands before the first such byte, and what stands after it: all and nothing where there is none.
+pub(crate) fn cut_at(byte: u8, text: &[u8]) -> (&[u8], &[u8])
+    ensures before { result.0.now ≡ before_first (is_byte byte) text.now }
+    ensures after { result.1.now ≡ after_first (is_byte byte) text.now }
+{
+    match first_place(byte, text) {
+        Some(at) => (&text[..at], &text[at + 1..]),
+        None => (text, &[]),
+    }
+}
+
+fn first_place(byte: u8, text: &[u8]) -> Option<usize>
+    ensures { result ≡ position (is_byte byte) text.now }
+{
+    text.iter().position(|c| byte == *c)
+}

@@ -1,0 +1,86 @@
+// Short texts, written from their right end on.
+ghost use Rattle.std.specs.Prelude.{◌≡◌, ◌+◌, ◌-◌, ◌<◌, ◌≤◌, [], ◌∷◌, ◌++◌, length, replicate, decimal, OnOk, OnErr};
+ghost use Rattle.quantity.specs.Digits.{last_digits};
+
+use crate::memory::OutOfMemory;
+use itoa::write_digits;
+use std::marker::Model;
+
+/// A text of at most 24 bytes, which grows on its left.
+#[derive(Drop)]
+pub(crate) struct ShortText {
+    bytes: [u8; 24],
+    start: usize,
+}
+
+impl Model for ShortText {
+    ghost use Rattle.std.specs.Prelude.{List, ℕ, ◌≤◌, drop};
+
+    ghost Value = { List ℕ };
+
+    ghost view = { λ t. drop t.start t.bytes };
+
+    ghost invariant = { λ t. t.start ≤ 24 };
+}
+
+impl ShortText {
+    pub(crate) fn new() -> ShortText
+        ensures { result ≡ [] }
+    {
+        ShortText {
+            bytes: [0; 24],
+            start: 24,
+        }
+    }
+
+    pub(crate) fn put_byte(&mut self, byte: u8)
+        requires { length self.old < 24 }
+        ensures { self.new ≡ byte ∷ self.old }
+    {
+        self.start -= 1;
+        self.bytes[self.start] = byte;
+    }
+
+    /// Puts the last digits of the number in front, so many of them.
+    pub(crate) fn put_digits(&mut self, count: usize, number: u64)
+        requires { length self.old + count ≤ 24 }
+        ensures { self.new ≡ last_digits count number ++ self.old }
+    {
+        let mut left = number;
+        for _digit in 0..count {
+            self.put_byte(b'0' + (left % 10) as u8);
+            left /= 10;
+        }
+    }
+
+    pub(crate) fn put_number(&mut self, number: u64)
+        requires { length self.old + length (decimal number) ≤ 24 }
+        ensures { self.new ≡ decimal number ++ self.old }
+    {
+        self.start = write_digits(number, &mut self.bytes, self.start);
+    }
+
+    /// Puts blanks in front, up to so many places; a longer text stays as it is.
+    pub(crate) fn fill_to(&mut self, width: usize)
+        requires { width ≤ 24 }
+        ensures { self.new ≡ replicate (width - length self.old) 32 ++ self.old }
+    {
+        for _place in self.as_bytes().len()..width {
+            self.put_byte(b' ');
+        }
+    }
+
+    pub(crate) fn as_bytes(&self) -> &[u8]
+        ensures { result.now ≡ self.now }
+    {
+        &self.bytes[self.start..]
+    }
+
+    pub(crate) fn append_to(&self, into: &mut Vec<u8>) -> Result<(), OutOfMemory>
+        ensures ok { OnOk result (into.new.items ≡ into.old.items ++ self.now) }
+        ensures err { OnErr result (into.new.items ≡ into.old.items) }
+    {
+        into.extend_from_slice(self.as_bytes())?;
+        Ok(())
+    }
+}
