@@ -1,7 +1,12 @@
-//! The cells of a group, and what one step makes of a cell.
+//! The cells of a ring, and what one step makes of a cell.
 #![tactic(auto)]
 
 pub mod laws;
 pub mod plain;
+mod port;
+mod steps;
+pub mod store;
 
 pub use plain::{PlainGroup, PlainRule};
+pub use steps::Steps;
+pub use store::{Cell, CellStore};
