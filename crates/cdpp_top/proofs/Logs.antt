@@ -1,5 +1,6 @@
 -- What a cycle more does to the log.
-use Rattle.std.proofs.Common.{◌≡◌, ℕ, List, [], ◌∷◌, ◌++◌, length, Option, Some, None, refl, sym, ◌∙◌, ap, arith, append_assoc}
+use Rattle.std.proofs.Common.{◌≡◌, ℕ, List, [], ◌∷◌, ◌++◌, take, drop, Option, Some, None, refl, sym, ◌∙◌, ap, append_assoc, take-append-drop}
+use Rattle.std.specs.Borrow.{Bor}
 use Rattle.std.proofs.lemmas.List.{append-nil}
 use Rattle.std.proofs.lemmas.Grind.{flat_map-append}
 use Rattle.std.proofs.lemmas.List.Elements.{filter-append}
@@ -10,10 +11,11 @@ use Rattle.run_model.specs.Run.{Cycle, Run, in_front}
 use Rattle.text_forms.specs.Lines.{cycle_lines, ended}
 use Rattle.text_forms.specs.LogLine.{LogLine, line_text, letter_of}
 use Rattle.std.specs.Prelude.{codes, ◌==◌, Bool}
-use Rattle.room_edge.specs.Outside.{Folder}
+use Rattle.room_edge.specs.Outside.{Folder, adds}
 use Rattle.room_edge.proofs.Adding.{adds-adds, adds-nil}
 use Rattle.answer_model.specs.Headline.{Begins}
 use Rattle.cell_engine.specs.Ring.{Ring, ring_tree}
+use Rattle.cdpp_top.specs.AskedOf.{name_of}
 use Rattle.cdpp_top.specs.Logged.{logs}
 use Rattle.cdpp_top.specs.RunOf.{log_of}
 
@@ -70,4 +72,12 @@ log_more log was made new done all text rest later rest_is made_is all_is new_is
   done ++ text,
   new_is ∙ ap (λ m. logs log m text) made_is ∙ logs-logs log was done text,
   all_is ∙ ap (λ r. done ++ r) rest_is ∙ sym (append_assoc done text later),
+)
+
+-- a piece of the text
+pub taken_part : (log : Option (Bor Word)) (name : Bor Word) (old new : Option Folder) (text : Bytes) (k : ℕ) → log ≡ Some name → new ≡ adds old name.now (take k text) → (part : Bytes) × Begins part text × (new ≡ logs (name_of log) old part)
+taken_part log name old new text k is new_is = (
+  take k text,
+  (drop k text, sym (take-append-drop k text)),
+  new_is ∙ ap (λ l. logs (name_of l) old (take k text)) (sym is),
 )

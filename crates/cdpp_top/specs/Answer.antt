@@ -4,7 +4,7 @@ use Rattle.quantity.specs.Bytes.{Bytes}
 use Rattle.model_tree.specs.Tree.{Word, Tree}
 use Rattle.run_model.specs.Run.{Run, run}
 use Rattle.cell_engine.specs.Ring.{Ring, ring_tree}
-use Rattle.ring_text.specs.RingIn.{ring_in}
+use Rattle.ring_text.specs.Reading.{ring_in}
 use Rattle.room_edge.specs.Outside.{Folder}
 use Rattle.answer_model.specs.Asked as whole
 use Rattle.answer_model.specs.Answer.{Answer, if_asked, missing, only_complains, refused_text}

@@ -5,3 +5,4 @@ pub mod Statuses
 pub mod Logged
 pub mod RunOf
 pub mod Lines
+pub mod Trouble

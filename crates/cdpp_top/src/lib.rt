@@ -1,9 +1,12 @@
 //! The program over any room.
 #![tactic(auto)]
 
+mod complain;
+mod ending;
 mod lines;
 mod log;
+mod program;
 mod run;
 mod words;
 
-pub use words::Asked;
+pub use program::cdpp;

@@ -8,10 +8,12 @@ ghost use Rattle.answer_model.specs.Headline.{Begins};
 ghost use Rattle.cdpp_top.specs.AskedOf.{name_of};
 ghost use Rattle.cdpp_top.specs.Logged.{logs, IsAmong};
 ghost use Rattle.cdpp_top.specs.RunOf.{run_of, log_of};
+ghost use Rattle.cdpp_top.specs.Trouble as trouble;
 
 use crate::log::write_log;
+use cell_engine::Steps;
 use quantity::Time;
-use ring_run::{Progress, RingRun, Steps, Stop};
+use ring_run::{Progress, RingRun, Stop};
 use room_edge::{Room, WriteError};
 use std::alloc::Global;
 use std::sync::ledger::Ledger;
@@ -49,27 +51,35 @@ pub fn run_cycles<R: Room, L: Ledger>(
     ensures created { (R.outside room.new).created ≡ (R.outside room.old).created }
     ensures only { OnlyMade (R.outside room.old) (R.outside room.new) }
 {
-    let _time: Option<Time> = None;
     let mut cycles: u64 = 0;
     let mut left = most;
     'cycles: loop {
         let mut text: Vec<u8> = Vec::new(alloc);
-        match run.cycle(&mut text, steps) {
-            Ok(Progress::Done) => return Ok(cycles),
-            Ok(Progress::Cycled(t)) => {
-                if left == 0 {
-                    return Err(Trouble::TooManyCycles(t));
-                }
-                match write_log(room, log, &text) {
-                    Ok(()) => {}
-                    Err(WriteError::Failed) => return Err(Trouble::WriteFault),
-                    Err(WriteError::Memory) => return Err(Trouble::Memory),
-                }
-                cycles += 1;
-                left -= 1;
-            }
-            Err(Stop::TooManyCycles(t)) => return Err(Trouble::TooManyCycles(t)),
-            Err(Stop::Memory) => return Err(Trouble::Memory),
+        let progress = match run.cycle(&mut text, steps) {
+            Ok(progress) => progress,
+            Err(stop) => return Err(trouble_of(stop)),
+        };
+        let Progress::Cycled(t) = progress else {
+            return Ok(cycles);
+        };
+        if left == 0 {
+            return Err(Trouble::TooManyCycles(t));
         }
+        match write_log(room, log, &text) {
+            Ok(()) => {}
+            Err(WriteError::Failed) => return Err(Trouble::WriteFault),
+            Err(WriteError::Memory) => return Err(Trouble::Memory),
+        }
+        cycles += 1;
+        left -= 1;
+    }
+}
+
+fn trouble_of(stop: Stop) -> Trouble
+    ensures { result ≡ trouble.trouble_of stop }
+{
+    match stop {
+        Stop::TooManyCycles(t) => Trouble::TooManyCycles(t),
+        Stop::Memory => Trouble::Memory,
     }
 }
