@@ -11,8 +11,8 @@ use Rattle.run_model.specs.Run.{Cycle, Run, in_front}
 use Rattle.text_forms.specs.Lines.{cycle_lines, ended}
 use Rattle.text_forms.specs.LogLine.{LogLine, line_text, letter_of}
 use Rattle.std.specs.Prelude.{codes, ◌==◌, Bool}
-use Rattle.room_edge.specs.Outside.{Folder, adds}
-use Rattle.room_edge.proofs.Adding.{adds-adds, adds-nil}
+use Rattle.room_edge.specs.Outside.{Folder, adds, streams}
+use Rattle.room_edge.proofs.Adding.{adds-adds, adds-nil, streams-nil}
 use Rattle.answer_model.specs.Headline.{Begins}
 use Rattle.cell_engine.specs.Ring.{Ring, ring_tree}
 use Rattle.cdpp_top.specs.AskedOf.{name_of}
@@ -81,3 +81,10 @@ taken_part log name old new text k is new_is = (
   (drop k text, sym (take-append-drop k text)),
   new_is ∙ ap (λ l. logs (name_of l) old (take k text)) (sym is),
 )
+
+-- a piece of a line on a stream
+pub shown_part : (was now : Option Bytes) (line text : Bytes) (k : ℕ) → text ≡ line → now ≡ streams was (take k text) → (part : Bytes) × Begins part line × (now ≡ streams was part)
+shown_part was now line text k is new_is = (take k line, (drop k line, sym (take-append-drop k line)), new_is ∙ ap (λ t. streams was (take k t)) is)
+
+pub shown_none : (was now : Option Bytes) (line : Bytes) → now ≡ was → (part : Bytes) × Begins part line × (now ≡ streams was part)
+shown_none was now line is = ([], (line, refl), is ∙ sym (streams-nil was))

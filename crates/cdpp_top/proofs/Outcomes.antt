@@ -1,14 +1,18 @@
 -- The answer of a run, from what its calls did.
 use Rattle.std.proofs.Common.{◌≡◌, ◌⊎◌, inl, inr, ℕ, List, [], ◌∷◌, ◌++◌, length, Bool, true, false, Option, Some, None, refl, sym, ◌∙◌, ap, subst, arith}
 use Rattle.std.specs.Bool.{OnFalse}
-use Rattle.std.specs.Prelude.{Contains, IfSome, codes}
+use Rattle.std.specs.Prelude.{Contains, IfSome, codes, nat_lt, ◌<◌, ◌≤◌, if◌then◌else◌}
+use Rattle.std.proofs.lemmas.Bool.{le-ltb}
+use Rattle.std.proofs.lemmas.Bool.Decides.{Decides-ltb}
+use Rattle.cell_engine.specs.Ring.{Ring}
+use Rattle.ring_text.specs.Reading.{ring_in}
 use Rattle.std.specs.Option.{option_to_list}
 use Rattle.std.proofs.lemmas.List.{append-nil, length_push, get_or_push}
 use Rattle.quantity.specs.Bytes.{Bytes}
 use Rattle.model_tree.specs.Tree.{Word, Tree}
 use Rattle.run_model.specs.Run.{Cycle, Run, Verdict, done, too_many}
 use Rattle.text_forms.specs.Lines.{log_bytes, ended}
-use Rattle.room_edge.specs.Outside.{Folder, Outside, adds, puts, streams}
+use Rattle.room_edge.specs.Outside.{Folder, Outside, OnlyInput, streams}
 use Rattle.room_edge.proofs.Adding.{adds-puts, streams-nil}
 use Rattle.answer_model.specs.Answer.{Answer, names}
 use Rattle.answer_model.specs.Headline.{Writes, WritesPart, is_free, puts_all, Begins, BeginFiles}
@@ -19,6 +23,12 @@ use Rattle.cdpp_top.specs.Answer.{limit, with_defaults, answer_to_run, answer_to
 use Rattle.cdpp_top.specs.Lines.{end_text}
 use Rattle.cdpp_top.specs.Logged.{with_log, logs, IsAmong}
 use Rattle.cdpp_top.specs.Statuses.{IsOr}
+
+is_long : (n m : ℕ) → n < m → nat_lt n m ≡ true
+is_long n m lt = (Decides-ltb n m).1 lt
+
+not_long : (n m : ℕ) → m ≤ n → nat_lt n m ≡ false
+not_long n m le = le-ltb n m le
 
 -- ---- nothing is made
 
@@ -125,3 +135,31 @@ inputs_ring a bytes = elim ring_of_file bytes as (λ o. (answer_to_ring a o).inp
 pub inputs_file : (a : Asked) (o : Option Bytes) → (answer_to_file a o).inputs ≡ a.model ∷ []
 inputs_file a None = refl
 inputs_file a (Some bytes) = inputs_ring a bytes
+
+-- ---- after the input was read
+
+pub on_false_from : {P Q : Type 0} (b : Bool) → (P → Q) → OnFalse b P → OnFalse b Q
+on_false_from true step p = tt
+on_false_from false step p = step p
+
+pub writes_from : (a : Answer) (old mid new : Outside) (given : ℕ) → OnlyInput old mid → Writes a mid new given → Writes a old new given
+writes_from a old mid new given only w = record {
+  status = w.status;
+  made = w.made ∙ ap (λ m. puts_all m a.made) only.made;
+  created = w.created ∙ ap (λ l. l ++ names a.made) only.created;
+  shown = w.shown ∙ ap (λ s. streams s a.shown) only.shown;
+  complained = w.complained ∙ ap (λ s. streams s a.complained) only.complained;
+}
+
+pub part_from : (a : Answer) (old mid new : Outside) → OnlyInput old mid → WritesPart a mid new → WritesPart a old new
+part_from a old mid new only w = record {
+  files = (w.files.0, w.files.1, w.files.2 ∙ ap (λ m. puts_all m w.files.0) only.made, w.files.3 ∙ ap (λ l. l ++ names w.files.0) only.created);
+  shown = (w.shown.0, w.shown.1, w.shown.2 ∙ ap (λ s. streams s w.shown.0) only.shown);
+}
+
+-- the ring of a file within the limit, and of a longer one
+pub file_ring : (a : Asked) (bytes : Bytes) (o : Option Ring) → length bytes ≤ 16777216 → o ≡ ring_in bytes → answer_to_file a (Some bytes) ≡ answer_to_ring a o
+file_ring a bytes o short is = ap (λ b. answer_to_ring a (if b then None else ring_in bytes)) (not_long 16777216 (length bytes) short) ∙ ap (answer_to_ring a) (sym is)
+
+pub file_long : (a : Asked) (bytes : Bytes) → 16777216 < length bytes → answer_to_file a (Some bytes) ≡ answer_to_ring a None
+file_long a bytes long = ap (λ b. answer_to_ring a (if b then None else ring_in bytes)) (is_long 16777216 (length bytes) long)

@@ -59,8 +59,9 @@ pub fn run_cycles<R: Room, L: Ledger>(
             Ok(progress) => progress,
             Err(stop) => return Err(trouble_of(stop)),
         };
-        let Progress::Cycled(t) = progress else {
-            return Ok(cycles);
+        let t = match progress {
+            Progress::Cycled(t) => t,
+            Progress::Done => return Ok(cycles),
         };
         if left == 0 {
             return Err(Trouble::TooManyCycles(t));
