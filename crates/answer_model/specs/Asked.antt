@@ -11,6 +11,7 @@ use Rattle.quantity.specs.Bytes.{Bytes}
 use Rattle.quantity.specs.Digits.{number_between}
 use Rattle.quantity.specs.Times.{time_in}
 use Rattle.quantity.specs.Written.{for_some}
+use Rattle.model_text.specs.Drawings.{Drawing}
 use Rattle.quantity.specs.Names.{is_name}
 
 -- ---- commands: options with a short name alone and one value
@@ -75,10 +76,6 @@ number low high text = number_between 7 low high text
 pub data Source : Type 0 where
   file : (name : Word) → Source
   made : (size : ℕ) → Source
-
-pub record Drawing : Type 0 where
-  pub group : Word
-  pub plane : ℕ
 
 pub record FramesFile : Type 0 where
   pub name : Word

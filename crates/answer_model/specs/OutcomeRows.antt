@@ -1,18 +1,19 @@
--- A room whose fifth append failed, after a run of three cells.
+-- Rooms in which a run of three cells was whole, was cut at its fifth append, and was not read.
 use Rattle.std.specs.Prelude.{Some, None, [], ◌∷◌, take, codes, true}
 use Rattle.quantity.specs.Bytes.{Bytes}
 use Rattle.room_edge.specs.Outside.{Outside}
 use Rattle.text_forms.specs.Rows.{line_log}
 use Rattle.answer_model.specs.AskedRows.{words}
 use Rattle.answer_model.specs.Answer.{Files, names}
-use Rattle.answer_model.specs.AnswerRows.{by, files, folder}
+use Rattle.answer_model.specs.WholeFiles.{folder, boxes, model}
+use Rattle.model_text.specs.Models.{line_model}
 use Rattle.answer_model.specs.Headline.{puts_all}
 use Rattle.answer_model.specs.Programs.{CdppEnds, CdppCauses}
 
 abbrev pub before : Outside
 before =
     record {
-      files = Some (folder files);
+      files = Some (folder (model line_model));
       made = Some (folder []);
       shown = Some [];
       complained = Some [];
@@ -32,7 +33,7 @@ with_log made shown complained =
       made = puts_all before.made made;
       shown = Some shown;
       complained = Some complained;
-      tried = codes "row1.ma" ∷ [];
+      tried = codes "m.ma" ∷ [];
       created = names made;
     }
 
@@ -43,10 +44,15 @@ cut = record (with_log ((codes "log.txt", take 199 line_log) ∷ []) [] (codes "
 abbrev pub whole : Outside
 whole = with_log ((codes "log.txt", line_log) ∷ []) (codes "end 00:00:00:100 cycles 2\n") []
 
+-- the first read failed
+abbrev pub unread : Outside
+unread = record (with_log [] [] (codes "read fault: m.ma\n")) { read_faults = 1 }
+
 abbrev pub asks : Bytes
-asks = codes "cdpp -m row1.ma -t 00:00:00:100 -l log.txt"
+asks = codes "cdpp -m m.ma -t 00:00:00:100 -l log.txt"
 
 pub record EndsAsSaid : Type 0 where
-  pub cut_short : CdppEnds by (words asks) [] before cut 5
+  pub cut_short : CdppEnds (words asks) boxes before cut 5
   pub cut_causes : CdppCauses (words asks) before cut 5
-  pub complete : CdppEnds by (words asks) [] before whole 0
+  pub complete : CdppEnds (words asks) boxes before whole 0
+  pub not_read : CdppEnds (words asks) boxes before unread 4

@@ -5,12 +5,12 @@ use Rattle.model_tree.specs.Tree.{Word}
 use Rattle.room_edge.specs.Outside.{Outside}
 use Rattle.answer_model.specs.Asked.{asked}
 use Rattle.answer_model.specs.AskedDrawing.{asked_drawing}
-use Rattle.answer_model.specs.Cdpp.{Readers, answer}
+use Rattle.answer_model.specs.Cdpp.{answer}
 use Rattle.answer_model.specs.Drawlog.{drawing_answer}
 use Rattle.answer_model.specs.Outcome.{Outcome, Causes}
 
-abbrev pub CdppEnds : Readers → List Word → List Class → Outside → Outside → ℕ → Type 0
-CdppEnds by words classes old new status = IfSome old.files (λ files. Outcome (answer by words files classes) old new status)
+abbrev pub CdppEnds : List Word → List Class → Outside → Outside → ℕ → Type 0
+CdppEnds words classes old new status = IfSome old.files (λ files. Outcome (answer words files classes) old new status)
 
 abbrev pub CdppCauses : List Word → Outside → Outside → ℕ → Type 0
 CdppCauses words old new status =

@@ -1,9 +1,10 @@
 -- The files that a run makes: its log, its output, its frames and its state at the end.
-use Rattle.std.specs.Prelude.{ℕ, ◌+◌, Option, Some, None, List, [], ◌∷◌, ◌++◌, slice_get, if◌then◌else◌}
+use Rattle.std.specs.Prelude.{ℕ, ◌+◌, nat_lt, Option, Some, None, List, [], ◌∷◌, ◌++◌, slice_get, if◌then◌else◌}
 use Rattle.std.specs.Str.{bytes_eq}
 use Rattle.quantity.specs.declared.value.Value.{Value}
 use Rattle.quantity.specs.declared.value.Value.TheVariants.{Undefined}
 use Rattle.quantity.specs.Bytes.{Bytes}
+use Rattle.cell_grid.specs.Space.{cell_count}
 use Rattle.model_tree.specs.Tree.{Word, Group, Tree, Leaf, atomic_leaf, cell_leaf, leaves}
 use Rattle.run_model.specs.Cycle.{LeafState, box_state, cell_state}
 use Rattle.run_model.specs.Run.{Event, Cycle, done, Run}
@@ -33,15 +34,15 @@ emitted_of (Some (box_state b)) = Undefined
 emitted_of (Some (cell_state c)) = elim (slice_get c.ports 0) [ None ↦ Undefined | Some p ↦ p.emitted ]
 
 -- what each cell of a group had emitted before the run
-abbrev pub emitted_before : Option Saved → ℕ → ℕ → Value
-emitted_before None first cell = Undefined
-emitted_before (Some s) first cell = emitted_of (slice_get s.states (first + cell))
+abbrev pub emitted_before : Option Saved → ℕ × Group → ℕ → Value
+emitted_before None g cell = Undefined
+emitted_before (Some s) g cell = if nat_lt cell (cell_count g.1.space) then emitted_of (slice_get s.states (g.0 + cell)) else Undefined
 
 abbrev pub frames_file : Tree → Option Saved → List Cycle → FramesFile → Files
 frames_file tree from cycles f =
     elim (group_at f.drawing.group (leaves tree)) [
       | None ↦ []
-      | Some g ↦ (f.name, frames_of (record { space = g.1.space; plane = f.drawing.plane; width = f.width; decimals = f.decimals }) g.0 (emitted_before from g.0) cycles) ∷ []
+      | Some g ↦ (f.name, frames_of (record { space = g.1.space; plane = f.drawing.plane; width = f.width; decimals = f.decimals }) g.0 (emitted_before from g) cycles) ∷ []
     ]
 
 abbrev pub frames_if : Tree → Option Saved → List Cycle → Option FramesFile → Files

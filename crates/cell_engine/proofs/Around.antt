@@ -109,6 +109,7 @@ computed_is t r cells k same h short ends = by_rule (some_fits r.rules ones ends
   where
     ones : ℕ
     ones = ones_at cells (length cells) k
+
     by_rule : (q : PlainRule) × (first_fit r.rules (ones_at cells (length cells) k) ≡ Some q) → cell_moved (ring_group r) k t true (ring_sight t r cells k) [] (cell_of cells k) ≡ Ok (computed_cell t r.rules cells (length cells) k)
     by_rule fit =
         let c = cell_of cells k in

@@ -1,5 +1,5 @@
 -- The ports of cells, by place.
-use Rattle.std.proofs.Common.{◌≡◌, ℕ, ◌+◌, ◌<◌, List, [], ◌∷◌, length, get_or, set, map, refl, sym, ◌∙◌, ap, cond, Bool, true, false}
+use Rattle.std.proofs.Common.{◌≡◌, ℕ, ◌+◌, ◌<◌, List, [], ◌∷◌, length, get_or, set, map, refl, sym, ◌∙◌, ap, cond, Bool, true, false, zero, suc, arith}
 use Rattle.std.proofs.lemmas.List.{map-set, get_or-map, length-map, set-get_or}
 use Rattle.quantity.specs.Arithmetic.{same_value}
 use Rattle.quantity.specs.declared.value.Value.{Value}
@@ -9,10 +9,7 @@ use Rattle.run_model.specs.CellStep.{PortState, CellState, port_emitted, cell_em
 use Rattle.cell_engine.specs.declared.port.Port.{Port}
 use Rattle.cell_engine.specs.Beside.{left, right, emitted_of, ones_at}
 use Rattle.cell_engine.specs.Kept.{port_from, cell_from}
-use Rattle.cell_engine.specs.Store.{no_cell, cell_of}
-
-abbrev pub cell_of_port : PortState → CellState
-cell_of_port p = record { ports = p ∷ []; variables = [] }
+use Rattle.cell_engine.specs.Store.{no_cell, cell_of, one_port}
 
 pub cell_here : (cells : List Port) (i : ℕ) (p : Port) → i < length cells → p ≡ get_or cells i p → cell_of (map cell_from cells) i ≡ cell_from p
 cell_here cells i p within is = get_or-map cell_from cells i p no_cell within ∙ ap cell_from (sym is)
@@ -25,7 +22,7 @@ cell_written cells i old new f within is step =
 -- a port is written that stands for the same
 pub cell_kept : (cells : List Port) (i : ℕ) (old new : Port) → old ≡ get_or cells i old → port_from new ≡ port_from old → map cell_from (set cells i new) ≡ map cell_from cells
 cell_kept cells i old new is same =
-    map-set cell_from cells i new ∙ ap (set (map cell_from cells) i) (ap cell_of_port same ∙ ap cell_from is) ∙ sym (map-set cell_from cells i (get_or cells i old)) ∙ ap (map cell_from) (set-get_or cells i old)
+    map-set cell_from cells i new ∙ ap (set (map cell_from cells) i) (ap one_port same ∙ ap cell_from is) ∙ sym (map-set cell_from cells i (get_or cells i old)) ∙ ap (map cell_from) (set-get_or cells i old)
 
 three : (a b c : Bool) → bool_byte a + (bool_byte b + bool_byte c) ≡ ((0 + cond a 1 0) + cond b 1 0) + cond c 1 0
 three true true true = refl
@@ -49,3 +46,9 @@ ones_are cells i j k a b c within j_is k_is jw kw a_is b_is c_is =
     let at_right : cell_of (map cell_from cells) (right (length cells) i) ≡ cell_from c = ap (cell_of (map cell_from cells)) (sym k_is) ∙ cell_here cells k c kw c_is in
     let here : cell_of (map cell_from cells) i ≡ cell_from b = cell_here cells i b within b_is in
     λ t. how_many (whole 1) (emitted_of (sym at_left t) ∷ emitted_of (sym here t) ∷ emitted_of (sym at_right t) ∷ [])
+
+-- each cell has one port
+pub ports_are : (cells : List Port) (k : ℕ) → k < length (map cell_from cells) → (p : PortState) × (cell_of (map cell_from cells) k ≡ one_port p)
+ports_are [] k h = absurd (omega arith)
+ports_are (p ∷ ps) zero h = (port_from p, refl)
+ports_are (p ∷ ps) (suc k) h = ports_are ps k (omega arith)

@@ -1,5 +1,5 @@
 -- A store of cells: a ring, and where each of its cells stands.
-use Rattle.std.specs.Prelude.{◌≡◌, ℕ, ◌+◌, ◌≤◌, Bool, true, false, ◌&&◌, nat_le, is_none, Option, Some, None, List, [], ◌∷◌, length, map, slice_set, slice_index_or, IsTrue}
+use Rattle.std.specs.Prelude.{◌≡◌, ℕ, ◌+◌, ◌<◌, ◌≤◌, Bool, true, false, ◌&&◌, nat_le, is_none, Option, Some, None, List, [], ◌∷◌, length, map, slice_set, slice_index_or, IsTrue}
 use Rattle.std.specs.List.{list_all}
 use Rattle.quantity.specs.declared.value.Value.{Value}
 use Rattle.model_tree.specs.Tree.{Group}
@@ -55,3 +55,14 @@ pub record Tells (emitted computed : Value) (next : Option ℕ) (c : CellState) 
   pub emitted_is : map (λ (p : PortState). p.emitted) c.ports ≡ emitted ∷ []
   pub computed_is : map (λ (p : PortState). p.computed) c.ports ≡ computed ∷ []
   pub next_is : cell_next c ≡ next
+
+-- a cell of a ring has one port and no variables
+abbrev pub one_port : PortState → CellState
+one_port p = record { ports = p ∷ []; variables = [] }
+
+-- what holds of every store
+pub record IsRingStore (s : Store) : Type 0 where
+  pub same : length s.cells ≡ length s.values
+  pub short : IsTrue (are_short s.rules)
+  pub ends : IsTrue (ends_always s.rules)
+  pub ports : (k : ℕ) → k < length s.cells → (p : PortState) × (cell_at s k ≡ one_port p)

@@ -6,6 +6,8 @@ pub mod plain;
 mod port;
 mod steps;
 pub mod store;
+#[cfg(test)]
+mod tests;
 
 pub use plain::{PlainGroup, PlainRule};
 pub use steps::Steps;

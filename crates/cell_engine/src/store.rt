@@ -8,7 +8,7 @@ ghost use Rattle.run_model.specs.Cycle.{next_of_all};
 ghost use Rattle.cell_engine.specs.Beside as beside;
 ghost use Rattle.cell_engine.specs.Beside.{ones_at, first_fit, took_rule};
 ghost use Rattle.cell_engine.specs.Kept.{port_from, cell_from};
-ghost use Rattle.cell_engine.specs.Store.{Store, are_short, ends_always, group_of, cell_of, cell_at, with_cell, leaf_states, computed_at, Tells};
+ghost use Rattle.cell_engine.specs.Store.{Store, are_short, ends_always, group_of, cell_of, cell_at, with_cell, leaf_states, computed_at, Tells, IsRingStore};
 
 use crate::port::{Port, is_one};
 use crate::{PlainGroup, PlainRule, Steps};
@@ -18,7 +18,7 @@ use std::marker::Model;
 use std::sync::ledger::Ledger;
 
 /// What a cell gave last, what it computed last, and when it is due next.
-#[derive(Clone, Copy, Debug)]
+#[derive(Clone, Copy, PartialEq, Eq, Debug)]
 pub struct Cell {
     pub emitted: Value,
     pub computed: Value,
@@ -72,6 +72,7 @@ impl CellStore {
         ensures value { result ≡ length self.now.cells }
         ensures some { 1 ≤ result }
         ensures most { result ≤ 1024 }
+        ensures ring { IsRingStore self.now }
     {
         self.cells.len() as u32
     }
@@ -190,12 +191,7 @@ fn emit_at(cells: &mut [Port], i: usize, t: Time) -> Value
     cells[i].emit(t)
 }
 
-fn compute_at(
-    cells: &mut [Port],
-    rules: &[PlainRule],
-    i: usize,
-    t: Time,
-) -> Result<(), OutOfMemory>
+fn compute_at(cells: &mut [Port], rules: &[PlainRule], i: usize, t: Time) -> Result<(), OutOfMemory>
     requires within { i < length cells.old }
     requires time { t ≤ 359999999 }
     requires short { IsTrue (are_short rules.now) }

@@ -1,7 +1,7 @@
 -- The forms of the values of keys.
-use Rattle.std.specs.Prelude.{ℕ, ◌==◌, Bool, false, not, ◌&&◌, ◌||◌, nat_le, Option, Some, None, List, [], ◌∷◌, ◌++◌, map, length, ℤ, pos, codes}
-use Rattle.std.specs.List.{filter, list_all, slice_split, before_first, after_first}
-use Rattle.std.specs.Option.{option_map, option_and_then, is_some}
+use Rattle.std.specs.Prelude.{ℕ, ◌==◌, Bool, false, not, ◌&&◌, ◌||◌, nat_le, Option, Some, None, List, [], ◌∷◌, map, length, ℤ, pos, codes}
+use Rattle.std.specs.List.{filter, list_all, before_first, after_first}
+use Rattle.std.specs.Option.{option_and_then, is_some}
 use Rattle.std.specs.Bool.{then_some}
 use Rattle.std.specs.Prelude.{int_le}
 use Rattle.std.specs.Str.{bytes_eq}
@@ -9,7 +9,7 @@ use Rattle.quantity.specs.Bytes.{Bytes, is_byte, is_blank, is_empty, is_among, h
 use Rattle.quantity.specs.Names.{is_name}
 use Rattle.quantity.specs.Digits.{has_length, whole_number}
 use Rattle.quantity.specs.Literals.{value_in}
-use Rattle.source_text.specs.Tuples.{tuple}
+use Rattle.source_text.specs.Tuples.{tuple, NamedTuple, named_tuple, parts_of}
 use Rattle.rule_syntax.specs.Tokens.{is_of_word}
 use Rattle.std.specs.Char.{is_ascii_alphabetic}
 
@@ -29,12 +29,12 @@ are_sizes (Some ns) = list_all (λ n. int_le (pos 1) n) ns
 abbrev pub is_dim : Bytes → Bool
 is_dim text = are_sizes (tuple text)
 
+abbrev pub is_at_most : ℕ → Option ℕ → Bool
+is_at_most most None = false
+is_at_most most (Some n) = nat_le n most
+
 abbrev pub is_delay_time : Bytes → Bool
-is_delay_time text = is_at_most (whole_number 9 text)
-  where
-    is_at_most : Option ℕ → Bool
-    is_at_most None = false
-    is_at_most (Some n) = nat_le n 359999999
+is_delay_time text = is_at_most 359999999 (whole_number 9 text)
 
 abbrev pub is_one_of : List Bytes → Bytes → Bool
 is_one_of texts text = is_among texts text
@@ -61,24 +61,6 @@ abbrev pub are_ports : Bytes → Bool
 are_ports text = are_words 3 text && not (is_among (words text) (codes "out"))
 
 -- ---- tuples behind names
-
-pub record NamedTuple : Type 0 where
-  pub name : Bytes
-  pub place : List ℤ
-
--- a name and a tuple without its closing parenthesis
-abbrev pub named_tuple : Bytes → Option NamedTuple
-named_tuple text =
-    option_map (λ is. record { name = before_first (is_byte 40) text; place = is }) (tuple (40 ∷ after_first (is_byte 40) text ++ 41 ∷ []))
-
--- the parts that end with a closing parenthesis, where nothing but blanks follows the last
-abbrev pub closed_parts : List Bytes → Option (List Bytes)
-closed_parts [] = None
-closed_parts (p ∷ []) = then_some (is_empty (trimmed p)) []
-closed_parts (p ∷ q ∷ ps) = option_map (λ rest. p ∷ rest) (closed_parts (q ∷ ps))
-
-abbrev pub parts_of : Bytes → Option (List Bytes)
-parts_of text = closed_parts (slice_split (is_byte 41) text)
 
 -- tuples, each behind the group's name or behind nothing
 abbrev pub is_of_group : Bytes → NamedTuple → Bool

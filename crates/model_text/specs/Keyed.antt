@@ -4,8 +4,10 @@ use Rattle.std.specs.List.{filter, find, flat_map}
 use Rattle.std.specs.Option.{option_map}
 use Rattle.std.specs.Str.{bytes_eq}
 use Rattle.quantity.specs.Bytes.{Bytes, words}
-use Rattle.source_text.specs.Kinds.{Refusal, refusal}
-use Rattle.source_text.specs.Lines.{Entry, Section}
+use Rattle.model_text.specs.declared.kind.Kind.{Kind}
+use Rattle.model_text.specs.Refusals.{Refusal, refusal, number_of}
+use Rattle.ma_lines.specs.declared.section.Entry.{Entry}
+use Rattle.ma_lines.specs.Sections.{Section}
 
 abbrev pub section_named : List Section → Bytes → Option Section
 section_named ss name = find (λ (s : Section). bytes_eq s.name name) ss
@@ -37,7 +39,7 @@ texts_of key s = map (λ (i : Item). i.text) (items_of key s)
 -- ---- refusals of a phase: the least line, and there the least number
 
 abbrev pub comes_before : Refusal → Refusal → Bool
-comes_before a b = nat_lt a.line b.line || ((a.line == b.line) && nat_lt a.kind b.kind)
+comes_before a b = nat_lt a.line b.line || ((a.line == b.line) && nat_lt (number_of a.kind) (number_of b.kind))
 
 abbrev pub lesser : Refusal → Option Refusal → Refusal
 lesser a None = a
@@ -48,7 +50,7 @@ least [] = None
 least (r ∷ rs) = Some (lesser r (least rs))
 
 -- an entry's refusal of a kind, where a test fails
-abbrev pub at_entry : Entry → ℕ → Bool → List Refusal
+abbrev pub at_entry : Entry → Kind → Bool → List Refusal
 at_entry e kind is_right = if is_right then [] else refusal e.line kind ∷ []
 
 abbrev pub each_entry : Bytes → Section → (Entry → List Refusal) → List Refusal

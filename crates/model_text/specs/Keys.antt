@@ -4,9 +4,14 @@ use Rattle.std.specs.List.{filter, flat_map, list_all}
 use Rattle.std.specs.Option.{is_some, option_to_list}
 use Rattle.quantity.specs.Bytes.{Bytes, is_among, words}
 use Rattle.quantity.specs.Names.{is_name}
-use Rattle.source_text.specs.Kinds.{Refusal, refusal, duplicate_key, missing_key, bad_value}
-use Rattle.source_text.specs.Lines.{Entry, Section}
+use Rattle.model_text.specs.declared.kind.Kind.TheVariants.{DuplicateKey, MissingKey, BadValue}
+use Rattle.model_text.specs.Refusals.{Refusal, refusal}
+use Rattle.ma_lines.specs.declared.section.Entry.{Entry}
+use Rattle.ma_lines.specs.Sections.{Section}
 use Rattle.rule_syntax.specs.Phrases.{looked_up}
+use Rattle.atomic_face.specs.declared.class.Class.{Class}
+use Rattle.atomic_face.specs.ClassNames.{class_named}
+use Rattle.atomic_face.specs.Settings.{once_keys}
 use Rattle.model_text.specs.Keyed.{section_named, first_entry, value_of, Item, items_of, least}
 use Rattle.model_text.specs.Walk.{is_group, name_of, class_of, reached, atomics}
 use Rattle.model_text.specs.Forms.{is_size, is_dim, is_delay_time, is_value_text, is_file_name, are_names, is_one_of, are_words, are_ports, tuples_of, port_rule_text, has_two_ends}
@@ -19,22 +24,14 @@ group_keys =
     ∷ codes "initialmapvalue" ∷ codes "initialcellsvalue" ∷ codes "localtransition" ∷ codes "statevariables" ∷ codes "statevalues"
     ∷ codes "neighborports" ∷ codes "portvalues" ∷ []
 
--- the parameters of a class that may stand once
-abbrev pub parameter_keys : List (Bytes × List Bytes)
-parameter_keys =
-    (codes "queue", codes "preparation" ∷ [])
-    ∷ (codes "generator", codes "start" ∷ codes "period" ∷ codes "value" ∷ codes "step" ∷ codes "count" ∷ [])
-    ∷ (codes "cpu", codes "delay" ∷ []) ∷ (codes "counter", codes "delay" ∷ codes "start" ∷ codes "step" ∷ [])
-    ∷ (codes "table", codes "states" ∷ codes "initial" ∷ []) ∷ []
-
-abbrev pub once_keys : Section → List Bytes
-once_keys s = if is_group s then group_keys else codes "type" ∷ []
+abbrev pub section_keys : Section → List Bytes
+section_keys s = if is_group s then group_keys else codes "type" ∷ []
 
 -- entries whose key is among these and stands before
 abbrev pub again : List Bytes → List Bytes → List Entry → List Refusal
 again once before [] = []
 again once before (e ∷ es) =
-    (if is_among once e.key && is_among before e.key then refusal e.line duplicate_key ∷ [] else []) ++ again once (e.key ∷ before) es
+    (if is_among once e.key && is_among before e.key then refusal e.line DuplicateKey ∷ [] else []) ++ again once (e.key ∷ before) es
 
 -- ---- keys that are missing
 
@@ -45,7 +42,7 @@ abbrev pub has_space : Section → Bool
 has_space s = has_key (codes "dim") s || (has_key (codes "height") s && has_key (codes "width") s)
 
 abbrev pub missing : Section → List Refusal
-missing s = if has_space s && has_key (codes "localtransition") s then [] else refusal s.line missing_key ∷ []
+missing s = if has_space s && has_key (codes "localtransition") s then [] else refusal s.line MissingKey ∷ []
 
 -- ---- values off their form
 
@@ -78,19 +75,19 @@ is_off None text = false
 is_off (Some is_right) text = not (is_right text)
 
 abbrev pub off_form : List (Bytes × (Bytes → Bool)) → List Entry → List Refusal
-off_form table es = map (λ (e : Entry). refusal e.line bad_value) (filter (λ (e : Entry). is_off (looked_up table e.key) e.value) es)
+off_form table es = map (λ (e : Entry). refusal e.line BadValue) (filter (λ (e : Entry). is_off (looked_up table e.key) e.value) es)
 
 -- dim beside height or width, at the line of dim
 abbrev pub double_space : Section → List Refusal
 double_space s =
     if has_key (codes "height") s || has_key (codes "width") s
-    then map (λ (e : Entry). refusal e.line bad_value) (option_to_list (first_entry (codes "dim") s))
+    then map (λ (e : Entry). refusal e.line BadValue) (option_to_list (first_entry (codes "dim") s))
     else []
 
 -- words that stand before
 abbrev pub repeated : List Bytes → List Item → List Refusal
 repeated before [] = []
-repeated before (i ∷ is) = (if is_among before i.text then refusal i.line bad_value ∷ [] else []) ++ repeated (i.text ∷ before) is
+repeated before (i ∷ is) = (if is_among before i.text then refusal i.line BadValue ∷ [] else []) ++ repeated (i.text ∷ before) is
 
 -- ---- the phase
 
@@ -99,15 +96,16 @@ of_group s = missing s ++ off_form (group_forms s) s.entries ++ double_space s
 
 abbrev pub of_section : Section → List Refusal
 of_section s =
-    again (once_keys s) [] s.entries ++ repeated [] (items_of (codes "in") s) ++ repeated [] (items_of (codes "out") s)
+    again (section_keys s) [] s.entries ++ repeated [] (items_of (codes "in") s) ++ repeated [] (items_of (codes "out") s)
     ++ (if is_group s then of_group s else off_form (forms s) s.entries)
 
-abbrev pub parameters_again : Option (List Bytes) → Option Section → List Refusal
-parameters_again (Some keys) (Some s) = again keys [] s.entries
-parameters_again keys s = []
+-- parameters of the class that may stand once
+abbrev pub parameters_again : Option Class → Option Section → List Refusal
+parameters_again (Some class) (Some s) = again (once_keys class) [] s.entries
+parameters_again class s = []
 
 abbrev pub of_atomic : List Section → Item → List Refusal
-of_atomic ss i = parameters_again (looked_up parameter_keys (class_of i)) (section_named ss (name_of i))
+of_atomic ss i = parameters_again (class_named (class_of i)) (section_named ss (name_of i))
 
 abbrev pub keys_refused : List Section → Option Refusal
 keys_refused ss = least (flat_map of_section (reached ss) ++ flat_map (of_atomic ss) (atomics ss))

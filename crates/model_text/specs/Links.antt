@@ -9,19 +9,23 @@ use Rattle.atomic_face.specs.declared.class.Class.{Class}
 use Rattle.model_tree.specs.declared.link.End.{End}
 use Rattle.model_tree.specs.declared.link.End.TheVariants.{Own, Child, Cell}
 use Rattle.model_tree.specs.declared.link.Link.{Link}
-use Rattle.model_tree.specs.Pull.{class_ports}
+use Rattle.atomic_face.specs.ClassNames.{class_ports}
 use Rattle.quantity.specs.Bytes.{Bytes, is_byte, is_empty}
 use Rattle.quantity.specs.Names.{is_name}
-use Rattle.source_text.specs.Kinds.{Refusal, refusal, unknown_port}
-use Rattle.source_text.specs.Lines.{Entry, Section}
+use Rattle.source_text.specs.Tuples.{NamedTuple, named_tuple, parts_of}
+use Rattle.model_text.specs.declared.kind.Kind.{Kind}
+use Rattle.model_text.specs.declared.kind.Kind.TheVariants.{UnknownPort}
+use Rattle.model_text.specs.Refusals.{Refusal, refusal, kind_of_link}
+use Rattle.ma_lines.specs.declared.section.Entry.{Entry}
+use Rattle.ma_lines.specs.Sections.{Section}
 use Rattle.rule_syntax.specs.Phrases.{out}
 use Rattle.model_text.specs.Keyed.{entries_of, texts_of, Item, least}
 use Rattle.model_text.specs.Walk.{is_group, children_of, name_of, is_atomic, section_of, reached}
-use Rattle.model_text.specs.Forms.{NamedTuple, named_tuple, ends_of, parts_of}
-use Rattle.model_text.specs.Places.{cell_in}
+use Rattle.model_text.specs.Forms.{ends_of}
+use Rattle.cell_grid.specs.Places.{cell_in}
 use Rattle.model_text.specs.Spaces.{space_of}
-use Rattle.model_text.specs.Stock.{class_named}
-use Rattle.model_text.specs.Faces.{Face, link_refused}
+use Rattle.model_text.specs.Stock.{class_of_item}
+use Rattle.model_tree.specs.Faces.{Face, link_refused}
 
 -- ---- ends
 
@@ -87,7 +91,7 @@ inputs_of_class (Some class) = class_ports class
 
 abbrev pub inputs_of : List Section → Option Item → List Bytes
 inputs_of ss None = []
-inputs_of ss (Some i) = if is_atomic i then inputs_of_class (class_named i) else ports_in (codes "in") (section_of ss i)
+inputs_of ss (Some i) = if is_atomic i then inputs_of_class (class_of_item i) else ports_in (codes "in") (section_of ss i)
 
 abbrev pub outputs_of : List Section → Option Item → List Bytes
 outputs_of ss None = []
@@ -105,11 +109,11 @@ face_of ss s =
 
 -- ---- refusals
 
-abbrev pub entry_refused : Face → List Link → Option Link → Option ℕ
-entry_refused f before None = Some unknown_port
-entry_refused f before (Some l) = link_refused f before l
+abbrev pub entry_refused : Face → List Link → Option Link → Option Kind
+entry_refused f before None = Some UnknownPort
+entry_refused f before (Some l) = option_map kind_of_link (link_refused f before l)
 
-abbrev pub at_line : Entry → Option ℕ → List Refusal
+abbrev pub at_line : Entry → Option Kind → List Refusal
 at_line e None = []
 at_line e (Some kind) = refusal e.line kind ∷ []
 

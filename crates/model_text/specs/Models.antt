@@ -2,11 +2,7 @@
 use Rattle.std.specs.Prelude.{ℕ, ◌-◌, ◌%◌, ◌==◌, ◌&&◌, ◌||◌, List, [], ◌∷◌, ◌++◌, map, take, drop, codes, decimal, if◌then◌else◌}
 use Rattle.std.specs.List.{range_with_len}
 use Rattle.quantity.specs.Bytes.{Bytes}
-
--- each line with its end
-abbrev pub file : List Bytes → Bytes
-file [] = []
-file (l ∷ ls) = l ++ (10 ∷ file ls)
+use Rattle.source_text.specs.Examples.{file}
 
 abbrev pub line_model : List Bytes
 line_model =

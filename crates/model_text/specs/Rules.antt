@@ -11,13 +11,16 @@ use Rattle.cell_grid.specs.Region.{Region}
 use Rattle.cell_grid.specs.Space.{dims_of}
 use Rattle.model_tree.specs.Pull.{distinct}
 use Rattle.quantity.specs.Bytes.{Bytes}
-use Rattle.source_text.specs.Kinds.{Refusal, refusal, too_large, no_section}
-use Rattle.source_text.specs.Lines.{Entry, Section}
+use Rattle.model_text.specs.declared.kind.Kind.TheVariants.{TooLarge, NoSection}
+use Rattle.model_text.specs.Refusals.{Refusal, refusal, kind_of_rule}
+use Rattle.ma_lines.specs.declared.section.Entry.{Entry}
+use Rattle.ma_lines.specs.Sections.{Section}
+use Rattle.rule_syntax.specs.declared.refusal.RuleRefusal.{RuleRefusal}
 use Rattle.rule_syntax.specs.Scope.{Names}
 use Rattle.rule_syntax.specs.RuleOf.{rule_of}
 use Rattle.model_text.specs.Keyed.{section_named, entries_of, texts_of, Item, least}
 use Rattle.model_text.specs.Walk.{groups}
-use Rattle.model_text.specs.Places.{zone_in}
+use Rattle.cell_grid.specs.ZoneTexts.{zone_in}
 use Rattle.model_text.specs.Spaces.{space_of, offsets_of, PortPlace, port_place}
 
 -- the names that a group's rules may use
@@ -56,18 +59,18 @@ rule_set_number s name = unwrap_or (position (bytes_eq name) (rule_sets_named s)
 -- ---- the phase
 
 abbrev pub absent : List Section → Item → List Refusal
-absent ss i = if is_some (section_named ss i.text) then [] else refusal i.line no_section ∷ []
+absent ss i = if is_some (section_named ss i.text) then [] else refusal i.line NoSection ∷ []
 
 abbrev pub rule_refused : Names → Entry → List Refusal
 rule_refused names e = refused (rule_of names e.value)
   where
-    refused : Result Rule ℕ → List Refusal
+    refused : Result Rule RuleRefusal → List Refusal
     refused (Ok r) = []
-    refused (Err kind) = refusal e.line kind ∷ []
+    refused (Err why) = refusal e.line (kind_of_rule why) ∷ []
 
 -- the 1025th rule, where there is one
 abbrev pub too_many : List Entry → List Refusal
-too_many rules = map (λ (e : Entry). refusal e.line too_large) (take 1 (drop 1024 rules))
+too_many rules = map (λ (e : Entry). refusal e.line TooLarge) (take 1 (drop 1024 rules))
 
 abbrev pub of_rules : Names → Section → List Refusal
 of_rules names s = flat_map (rule_refused names) (entries_of (codes "rule") s) ++ too_many (entries_of (codes "rule") s)

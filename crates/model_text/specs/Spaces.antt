@@ -10,15 +10,18 @@ use Rattle.cell_grid.specs.declared.grid.Border.{Border}
 use Rattle.cell_grid.specs.declared.grid.Border.TheVariants.{Wrapped, NoWrapped}
 use Rattle.quantity.specs.Bytes.{Bytes}
 use Rattle.quantity.specs.Digits.{whole_number}
-use Rattle.source_text.specs.Tuples.{tuple}
-use Rattle.source_text.specs.Kinds.{Refusal, refusal, bad_value, bad_zone, bad_initial, too_large}
-use Rattle.source_text.specs.Lines.{Entry, Section}
+use Rattle.source_text.specs.Tuples.{tuple, NamedTuple}
+use Rattle.model_text.specs.declared.kind.Kind.TheVariants.{BadValue, BadZone, BadInitial, TooLarge}
+use Rattle.model_text.specs.Refusals.{Refusal, refusal}
+use Rattle.ma_lines.specs.declared.section.Entry.{Entry}
+use Rattle.ma_lines.specs.Sections.{Section}
 use Rattle.rule_syntax.specs.Scope.{offset_of, same_offset}
 use Rattle.model_text.specs.Keyed.{entries_of, value_of, is_value, least, at_entry, each_entry}
 use Rattle.model_text.specs.Walk.{groups}
-use Rattle.model_text.specs.Forms.{NamedTuple, tuples_of, PortRuleText, port_rule_text}
-use Rattle.model_text.specs.Places.{is_offset, cell_in, zone_in}
-use Rattle.model_text.specs.Initial.{Row, row_digits, row_values}
+use Rattle.model_text.specs.Forms.{tuples_of, PortRuleText, port_rule_text}
+use Rattle.cell_grid.specs.Places.{is_offset, cell_in}
+use Rattle.cell_grid.specs.ZoneTexts.{zone_in}
+use Rattle.cell_grid.specs.Initial.{Row, row_digits, row_values}
 
 -- ---- the space of a group
 
@@ -48,7 +51,7 @@ abbrev pub first_large : ℕ → List Section → Option Refusal
 first_large cells [] = None
 first_large cells (g ∷ gs) =
     let more = cells + cell_count (space_of g) in
-    option_or (if nat_lt 1048576 more then Some (refusal g.line too_large) else None) (first_large more gs)
+    option_or (if nat_lt 1048576 more then Some (refusal g.line TooLarge) else None) (first_large more gs)
 
 abbrev pub cells_refused : List Section → Option Refusal
 cells_refused ss = first_large 0 (groups ss)
@@ -97,7 +100,7 @@ is_new_place before (Some p) = is_some p.cell && not (list_any (same_place p) be
 abbrev pub ports_refused : Section → List PortPlace → List Entry → List Refusal
 ports_refused s before [] = []
 ports_refused s before (e ∷ es) =
-    at_entry e bad_value (is_new_place before (port_place s e)) ++ ports_refused s (before ++ filter_map (port_place s) (e ∷ [])) es
+    at_entry e BadValue (is_new_place before (port_place s e)) ++ ports_refused s (before ++ filter_map (port_place s) (e ∷ [])) es
 
 -- ---- the phase
 
@@ -115,15 +118,15 @@ abbrev pub rows_of : Section → List Row
 rows_of s = filter_map (row_in s) s.entries
 
 abbrev pub too_many_offsets : Section → List Refusal
-too_many_offsets s = if nat_lt 128 (length (offsets_of s)) then refusal s.line too_large ∷ [] else []
+too_many_offsets s = if nat_lt 128 (length (offsets_of s)) then refusal s.line TooLarge ∷ [] else []
 
 abbrev pub of_space : Section → List Refusal
 of_space s =
-    each_entry (codes "neighbors") s (λ e. at_entry e bad_value (list_all (is_offset (space_of s)) (places_of s e)))
+    each_entry (codes "neighbors") s (λ e. at_entry e BadValue (list_all (is_offset (space_of s)) (places_of s e)))
     ++ ports_refused s [] (entries_of (codes "portintransition") s)
-    ++ each_entry (codes "zone") s (λ e. at_entry e bad_zone (is_some (zone_in (space_of s) e.value)))
-    ++ each_entry (codes "initialrowvalue") s (λ e. at_entry e bad_initial (is_some (row_in s e)))
-    ++ each_entry (codes "initialrow") s (λ e. at_entry e bad_initial (is_some (row_in s e)))
+    ++ each_entry (codes "zone") s (λ e. at_entry e BadZone (is_some (zone_in (space_of s) e.value)))
+    ++ each_entry (codes "initialrowvalue") s (λ e. at_entry e BadInitial (is_some (row_in s e)))
+    ++ each_entry (codes "initialrow") s (λ e. at_entry e BadInitial (is_some (row_in s e)))
     ++ too_many_offsets s
 
 abbrev pub spaces_refused : List Section → Option Refusal

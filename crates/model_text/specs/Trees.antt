@@ -1,6 +1,6 @@
 -- The tree of an accepted file.
-use Rattle.std.specs.Prelude.{ℕ, zero, suc, ◌+◌, Option, Some, None, List, [], ◌∷◌, map, length, replicate, if◌then◌else◌, codes}
-use Rattle.std.specs.List.{filter_map, flat_map, sum}
+use Rattle.std.specs.Prelude.{ℕ, zero, suc, Option, Some, None, List, [], ◌∷◌, map, length, replicate, if◌then◌else◌, codes}
+use Rattle.std.specs.List.{filter_map, flat_map}
 use Rattle.std.specs.Option.{option_map, option_and_then, unwrap_or}
 use Rattle.quantity.specs.declared.value.Value.{Value}
 use Rattle.quantity.specs.declared.value.Value.TheVariants.{Undefined}
@@ -10,23 +10,19 @@ use Rattle.model_tree.specs.declared.group.DelayKind.{DelayKind}
 use Rattle.model_tree.specs.declared.group.DelayKind.TheVariants.{Transport, Inertial}
 use Rattle.model_tree.specs.declared.group.PortRule.{PortRule}
 use Rattle.model_tree.specs.Tree.{Group, Tree, Trees, coupled, cells, atomic, nil, cons}
-use Rattle.model_tree.specs.Pull.{sources, top_sources}
 use Rattle.quantity.specs.Bytes.{Bytes, words}
 use Rattle.quantity.specs.Digits.{whole_number}
 use Rattle.quantity.specs.Literals.{value_in}
-use Rattle.source_text.specs.Lines.{Section}
+use Rattle.source_text.specs.Lines.{Files}
+use Rattle.ma_lines.specs.Sections.{Section}
 use Rattle.model_text.specs.Keyed.{section_named, value_of, is_value, texts_of, Item}
 use Rattle.model_text.specs.Walk.{top, is_group, children_of, name_of, section_of}
 use Rattle.model_text.specs.Spaces.{space_of, offsets_of, zones_of, rows_of, PortPlace, port_places}
-use Rattle.model_text.specs.Initial.{filled, with_rows, with_map, with_cells, map_file, cells_file}
-use Rattle.model_text.specs.Settings.{settings_of}
-use Rattle.model_text.specs.Stock.{class_named, parameters_of}
+use Rattle.cell_grid.specs.Initial.{filled, with_rows, with_map, with_cells, map_file, cells_file}
+use Rattle.atomic_face.specs.Settings.{settings_of}
+use Rattle.model_text.specs.Stock.{class_of_item, params_of}
 use Rattle.model_text.specs.Rules.{rule_sets_of, rule_set_number}
 use Rattle.model_text.specs.Links.{links_of}
-
--- the content of a file, where there is one of that name
-abbrev pub Files : Type 0
-Files = Bytes → Option Bytes
 
 -- ---- groups
 
@@ -45,7 +41,7 @@ map_of files s = option_and_then (map_file (space_of s)) (option_and_then files 
 abbrev pub cells_of : Files → Section → Option (List (ℕ × Value))
 cells_of files s = option_and_then (cells_file (space_of s)) (option_and_then files (value_of (codes "initialcellsvalue") s))
 
--- initialvalue, row entries by line, map file, cells file
+-- first initialvalue, then the row entries by line, the map file and the cells file
 abbrev pub initial_of : Files → Section → List Value
 initial_of files s =
     with_cells (with_map (with_rows (space_of s) (filled (space_of s) (initial_value_of s)) (rows_of s)) (map_of files s)) (cells_of files s)
@@ -90,7 +86,7 @@ group_of files ss s =
 
 abbrev pub atomic_of : List Section → Item → Option Class → List Tree
 atomic_of ss i None = []
-atomic_of ss i (Some class) = atomic (name_of i) class (settings_of class (parameters_of ss i)) ∷ []
+atomic_of ss i (Some class) = atomic (name_of i) class (settings_of class (params_of ss i)) ∷ []
 
 abbrev pub trees : List Tree → Trees
 trees [] = nil
@@ -103,7 +99,7 @@ component_of (suc n) files ss s =
     (if is_group s then cells (group_of files ss s)
     else
     coupled s.name (texts_of (codes "in") s) (texts_of (codes "out") s)
-    (trees (flat_map (λ (i : Item). elim (section_of ss i) [ None ↦ atomic_of ss i (class_named i) | Some t ↦ component_of n files ss t ]) (children_of s)))
+    (trees (flat_map (λ (i : Item). elim (section_of ss i) [ None ↦ atomic_of ss i (class_of_item i) | Some t ↦ component_of n files ss t ]) (children_of s)))
     (links_of s))
     ∷ []
 
@@ -123,8 +119,3 @@ tree_of files ss = tree_at files ss (section_named ss top)
 
 abbrev pub no_files : Files
 no_files name = None
-
--- ---- link paths
-
-abbrev pub path_count : Tree → ℕ
-path_count t = sum (map (λ ports. sum (map length ports)) (sources t)) + sum (map length (top_sources t))

@@ -5,8 +5,11 @@ use Rattle.std.specs.Option.{option_map, option_or, is_some}
 use Rattle.std.specs.Str.{bytes_eq}
 use Rattle.quantity.specs.Bytes.{Bytes, is_byte, is_empty, is_among}
 use Rattle.quantity.specs.Names.{is_name}
-use Rattle.source_text.specs.Kinds.{Refusal, refusal, no_top, missing_key, bad_value, unknown_component, duplicate_component, component_cycle, too_large}
-use Rattle.source_text.specs.Lines.{Entry, Section}
+use Rattle.model_text.specs.declared.kind.Kind.{Kind}
+use Rattle.model_text.specs.declared.kind.Kind.TheVariants.{NoTop, MissingKey, BadValue, UnknownComponent, DuplicateComponent, ComponentCycle, TooLarge}
+use Rattle.model_text.specs.Refusals.{Refusal, refusal}
+use Rattle.ma_lines.specs.declared.section.Entry.{Entry}
+use Rattle.ma_lines.specs.Sections.{Section}
 use Rattle.model_text.specs.Keyed.{section_named, first_entry, value_of, is_value, Item, items_of}
 
 abbrev pub top : Bytes
@@ -92,24 +95,24 @@ atomics ss = filter is_atomic (items_in (walk ss))
 
 -- ---- refusals
 
-abbrev pub item_refused : List Section → List Item → List Bytes → Item → Option ℕ
+abbrev pub item_refused : List Section → List Item → List Bytes → Item → Option Kind
 item_refused ss before around i =
-    if not (is_item i) then Some bad_value
-    else if bytes_eq (name_of i) top || is_among around (name_of i) then Some component_cycle
-    else if is_among (map name_of before) (name_of i) then Some duplicate_component
-    else if is_atomic i && nat_le 4096 (length (filter is_atomic before)) then Some too_large
-    else if not (is_atomic i) && not (is_some (section_of ss i)) then Some unknown_component
+    if not (is_item i) then Some BadValue
+    else if bytes_eq (name_of i) top || is_among around (name_of i) then Some ComponentCycle
+    else if is_among (map name_of before) (name_of i) then Some DuplicateComponent
+    else if is_atomic i && nat_le 4096 (length (filter is_atomic before)) then Some TooLarge
+    else if not (is_atomic i) && not (is_some (section_of ss i)) then Some UnknownComponent
     else None
 
 abbrev pub type_refused : Section → Option Entry → Option Refusal
 type_refused s None = None
-type_refused s (Some e) = if is_wrong_type s e then Some (refusal e.line bad_value) else None
+type_refused s (Some e) = if is_wrong_type s e then Some (refusal e.line BadValue) else None
 
 abbrev pub section_refused : ℕ → Bool → Section → Option Refusal
 section_refused line is_too_deep s =
-    if is_too_deep then Some (refusal line too_large)
+    if is_too_deep then Some (refusal line TooLarge)
     else option_or (type_refused s (first_entry (codes "type") s))
-    (if not (is_group s) && is_empty (children_of s) then Some (refusal s.line missing_key) else None)
+    (if not (is_group s) && is_empty (children_of s) then Some (refusal s.line MissingKey) else None)
 
 abbrev pub step_refused : List Section → List Item → Step → Option Refusal
 step_refused ss before (at_section line deep s) = section_refused line deep s
@@ -122,7 +125,7 @@ first_step_refused ss before (step ∷ steps) =
     option_or (step_refused ss before step) (first_step_refused ss (before ++ items_in (step ∷ [])) steps)
 
 abbrev pub top_refused : List Section → Option Refusal
-top_refused ss = if is_some (section_named ss top) then None else Some (refusal 0 no_top)
+top_refused ss = if is_some (section_named ss top) then None else Some (refusal 0 NoTop)
 
 abbrev pub tree_refused : List Section → Option Refusal
 tree_refused ss = first_step_refused ss [] (walk ss)

@@ -1,3 +1,5 @@
 pub mod Roots
 pub mod DigitLemmas
 pub mod TimeLemmas
+pub mod Lengths
+pub mod LiteralLemmas

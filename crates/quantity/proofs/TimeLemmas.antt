@@ -1,17 +1,32 @@
 -- Written times, cut at their first three marks.
-use Rattle.std.proofs.Common.{◌≡◌, ℕ, ◌<◌, ◌&&◌, Bool, true, false, Option, Some, None, ◌⊎◌, List, [], ◌∷◌, refl, sym, ap, ◌∙◌, arith, inl, inr, length, get_or}
+use Rattle.std.proofs.Common.{◌≡◌, ◌==◌, ℕ, ◌<◌, ◌&&◌, Bool, true, false, cond, Option, Some, None, ◌⊎◌, List, [], ◌∷◌, refl, sym, ap, ◌∙◌, arith, inl, inr, length, get_or}
 use Rattle.std.proofs.Math.ListN.{drop_of_length-le}
 use Rattle.std.proofs.lemmas.Bool.{cases_lt}
 use Rattle.std.proofs.lemmas.Bool.Decides.{nat_tests}
 use Rattle.std.proofs.lemmas.List.Splits.{slice_split_first, slice_split_none, length-slice_split}
 use Rattle.std.proofs.lemmas.List.Sums.{fails_before_first, passes_at_first}
 use Rattle.std.specs.Bool.{then_some}
-use Rattle.std.specs.List.{slice_split, before_first, after_first, position_or_len}
+use Rattle.std.specs.List.{slice_split, onto_first, before_first, after_first, position_or_len}
 use Rattle.std.specs.Str.{all_ascii_digits}
 use Rattle.quantity.specs.Bytes.{Bytes, is_byte, in_front}
 use Rattle.quantity.specs.Digits.{has_length, number_in, whole_number}
 use Rattle.quantity.specs.Times.{numbers_in, parsed_parts}
 use Rattle.quantity.proofs.DigitLemmas.{digit_at}
+
+same_test : (c d : ℕ) → (d == c) ≡ is_byte c d
+same_test c d = by (d == c) (c == d) refl refl
+  where
+    by : (a b : Bool) → (d == c) ≡ a → (c == d) ≡ b → (d == c) ≡ (c == d)
+    by true true e f = e ∙ sym f
+    by false false e f = e ∙ sym f
+    by true false e f = absurd (let g : ⊥ = grind (arith, nat_tests) in g)
+    by false true e f = absurd (let g : ⊥ = grind (arith, nat_tests) in g)
+
+same_split : (c : ℕ) (text : Bytes) → slice_split (λ d. d == c) text ≡ slice_split (is_byte c) text
+same_split c [] = refl
+same_split c (d ∷ ds) =
+    ap (λ b. cond b ([] ∷ slice_split (λ d. d == c) ds) (onto_first d (slice_split (λ d. d == c) ds))) (same_test c d)
+    ∙ ap (λ ps. cond (is_byte c d) ([] ∷ ps) (onto_first d ps)) (same_split c ds)
 
 in_front-none : (o : Option ℕ) → in_front o None ≡ None
 in_front-none None = refl
@@ -103,7 +118,7 @@ all_parts most text =
 
 pub parsed_parts-cut : (most : ℕ) (text r1 r2 h m s ms : Bytes) → h ≡ before_first (is_byte 58) text → r1 ≡ after_first (is_byte 58) text
     → m ≡ before_first (is_byte 58) r1 → r2 ≡ after_first (is_byte 58) r1 → s ≡ before_first (is_byte 58) r2 → ms ≡ after_first (is_byte 58) r2
-    → parsed_parts most (slice_split (is_byte 58) text) ≡ numbers_in most h m s ms
+    → parsed_parts most (slice_split (λ c. c == 58) text) ≡ numbers_in most h m s ms
 parsed_parts-cut most text r1 r2 h m s ms e1 e2 e3 e4 e5 e6 =
     let rest = after_first (is_byte 58) text in
     let rest_2 = after_first (is_byte 58) rest in
@@ -111,7 +126,8 @@ parsed_parts-cut most text r1 r2 h m s ms e1 e2 e3 e4 e5 e6 =
     let minutes = before_first (is_byte 58) rest in
     let seconds = before_first (is_byte 58) rest_2 in
     let same_2 : r2 ≡ rest_2 = e4 ∙ ap (after_first (is_byte 58)) e2 in
-    all_parts most text
+    ap (parsed_parts most) (same_split 58 text)
+    ∙ all_parts most text
     ∙ sym (ap (λ x. numbers_in most x m s ms) e1
     ∙ ap (λ x. numbers_in most hours x s ms) (e3 ∙ ap (before_first (is_byte 58)) e2)
     ∙ ap (λ x. numbers_in most hours minutes x ms) (e5 ∙ ap (before_first (is_byte 58)) same_2)

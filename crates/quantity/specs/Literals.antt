@@ -15,15 +15,26 @@ whole_digits text = before_first (is_byte 46) text
 abbrev pub decimals : Bytes → Bytes
 decimals text = after_first (is_byte 46) text
 
--- 1 to 10 digits with an optional point and any digits, or a point and at least one digit
+-- 1 to so many digits with an optional point and any digits, or a point and at least one digit
+abbrev pub is_number_of : ℕ → Bytes → Bytes → Bool
+is_number_of most whole decimals = all_ascii_digits decimals && (are_digits 1 most whole || (is_empty whole && not (is_empty decimals)))
+
+abbrev pub is_number_text : ℕ → Bytes → Bool
+is_number_text most text = is_number_of most (whole_digits text) (decimals text)
+
 abbrev pub is_unsigned_literal : Bytes → Bool
-is_unsigned_literal text =
-    all_ascii_digits (decimals text)
-    && (are_digits 1 10 (whole_digits text) || (is_empty (whole_digits text) && not (is_empty (decimals text))))
+is_unsigned_literal text = is_number_text 10 text
 
 -- in hundred-thousandths: decimals after the fifth are cut
 abbrev pub raw_in : Bytes → ℕ
 raw_in text = number_in (whole_digits text) * 100000 + number_in (take 5 (decimals text ++ replicate 5 48))
+
+abbrev pub unsigned_raw : ℕ → Bytes → Option ℕ
+unsigned_raw most text = then_some (is_number_text most text) (raw_in text)
+
+-- the same after an optional sign
+abbrev pub signed_raw : ℕ → Bytes → Option ℤ
+signed_raw most text = option_map (λ n. with_sign_of text (pos n)) (unsigned_raw most (without_sign text))
 
 abbrev pub unsigned_literal : Bytes → Option ℤ
 unsigned_literal text = then_some (is_unsigned_literal text) (pos (raw_in text))

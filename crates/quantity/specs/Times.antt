@@ -1,9 +1,9 @@
 -- Times as texts: as people write them, and as logs have them.
-use Rattle.std.specs.Prelude.{ℕ, ◌+◌, ◌*◌, ◌/◌, ◌%◌, ◌&&◌, nat_lt, Option, None, List, [], ◌∷◌, if◌then◌else◌, decimal}
+use Rattle.std.specs.Prelude.{ℕ, ◌+◌, ◌*◌, ◌/◌, ◌%◌, ◌&&◌, ◌==◌, nat_lt, Option, None, List, [], ◌∷◌, if◌then◌else◌, decimal}
 use Rattle.std.specs.List.{slice_split, join_with_byte}
 use Rattle.std.specs.Bool.{then_some}
 use Rattle.std.specs.Option.{option_and_then}
-use Rattle.quantity.specs.Bytes.{Bytes, is_byte, all_there}
+use Rattle.quantity.specs.Bytes.{Bytes, all_there}
 use Rattle.quantity.specs.Digits.{whole_number, last_digits}
 use Rattle.quantity.specs.Written.{if_written, number_at_most}
 
@@ -21,7 +21,7 @@ parsed_parts most texts = None
 
 -- the same, with : between
 abbrev pub milliseconds_in : ℕ → Bytes → Option ℕ
-milliseconds_in most text = option_and_then milliseconds_of (parsed_parts most (slice_split (is_byte 58) text))
+milliseconds_in most text = option_and_then milliseconds_of (parsed_parts most (slice_split (λ c. c == 58) text))
 
 -- a time as people write it: hours below 100
 abbrev pub time_in : Bytes → Option ℕ
@@ -39,9 +39,9 @@ abbrev pub time_text : ℕ → Bytes
 time_text ms = join_with_byte 58 (time_parts ms)
 
 -- a time that the program writes: it is at most this
-abbrev pub guessed_time : Bytes → Option ℕ
-guessed_time text = option_and_then (number_at_most 719999998) (milliseconds_in 3 text)
+abbrev pub time_of : List Bytes → Option ℕ
+time_of parts = option_and_then (number_at_most 719999998) (option_and_then milliseconds_of (parsed_parts 3 parts))
 
 -- a time as it is written, and as nothing else is
 abbrev pub read_time : Bytes → Option ℕ
-read_time text = if_written time_text text (guessed_time text)
+read_time text = if_written time_text text (time_of (slice_split (λ c. c == 58) text))

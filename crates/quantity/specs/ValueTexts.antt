@@ -1,9 +1,12 @@
 -- Values as texts, and the texts read back.
 use Rattle.std.specs.Prelude.{ℕ, zero, suc, ◌-◌, ◌/◌, ◌^◌, Bool, true, false, ◌&&◌, ◌==◌, nat_lt, Option, Some, None, [], ◌∷◌, ◌++◌, length, replicate, ℤ, pos, negsuc, neg_ℤ, unsigned_abs, if◌then◌else◌, codes, decimal}
+use Rattle.std.specs.Option.{option_and_then}
 use Rattle.std.specs.Str.{bytes_eq}
 use Rattle.quantity.specs.declared.value.Value.{Value}
 use Rattle.quantity.specs.declared.value.Value.TheVariants.{Undefined, Num}
+use Rattle.quantity.specs.Arithmetic.{bounded}
 use Rattle.quantity.specs.Bytes.{Bytes}
+use Rattle.quantity.specs.Literals.{signed_raw}
 use Rattle.quantity.specs.Digits.{last_digits}
 use Rattle.quantity.specs.Written.{if_written, number_in}
 
@@ -42,10 +45,6 @@ value_text decimals width v = in_width width (decimals_text decimals v)
 abbrev pub text5 : Value → Bytes
 text5 v = decimals_text 5 v
 
-abbrev pub without_point : Bytes → Bytes
-without_point [] = []
-without_point (c ∷ cs) = if c == 46 then without_point cs else c ∷ without_point cs
-
 abbrev pub positive : Option ℕ → Option ℤ
 positive None = None
 positive (Some n) = Some (pos n)
@@ -54,16 +53,15 @@ abbrev pub negative : Option ℕ → Option ℤ
 negative None = None
 negative (Some n) = Some (neg_ℤ (pos n))
 
+-- a whole number with an optional -, whose size is at most this
 abbrev pub signed_in : ℕ → Bytes → Option ℤ
 signed_in most [] = None
 signed_in most (c ∷ cs) = if c == 45 then negative (number_in most cs) else positive (number_in most (c ∷ cs))
 
-abbrev pub as_value : Option ℤ → Option Value
-as_value None = None
-as_value (Some x) = Some (Num x)
-
+-- a value that the program writes: a number has at most 11 digits before its point
 abbrev pub guessed_value : Bytes → Option Value
-guessed_value text = if bytes_eq text (codes "?") then Some Undefined else as_value (signed_in (10 ^ 15) (without_point text))
+guessed_value text = if bytes_eq text (codes "?") then Some Undefined else option_and_then bounded (signed_raw 11 text)
 
+-- a value as it is written with five decimals, and as nothing else is
 abbrev pub read_text5 : Bytes → Option Value
 read_text5 text = if_written text5 text (guessed_value text)

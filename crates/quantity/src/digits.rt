@@ -26,7 +26,13 @@ pub(crate) fn are_digits(least: usize, most: usize, text: &[u8]) -> bool
     least <= text.len() && text.len() <= most && all_are_digits(text)
 }
 
-fn all_are_digits(text: &[u8]) -> bool
+pub(crate) fn all_are_digits(text: &[u8]) -> bool
+    ensures { result ≡ all_ascii_digits text.now }
+{
+    each_is_digit(text)
+}
+
+fn each_is_digit(text: &[u8]) -> bool
     ensures { result ≡ list_all is_ascii_digit text.now }
 {
     text.iter().all(|c| c.is_ascii_digit())

@@ -2,6 +2,7 @@
 #![tactic(auto)]
 
 pub mod digits;
+mod literal;
 pub mod memory;
 pub mod name;
 pub mod place;

@@ -44,7 +44,8 @@ impl ShortText {
     /// Puts the last digits of the number in front, so many of them.
     pub(crate) fn put_digits(&mut self, count: usize, number: u64)
         requires { length self.old + count ≤ 24 }
-        ensures { self.new ≡ last_digits count number ++ self.old }
+        ensures value { self.new ≡ last_digits count number ++ self.old }
+        ensures length { length self.new ≡ count + length self.old }
     {
         let mut left = number;
         for _digit in 0..count {

@@ -1,9 +1,13 @@
--- A map from names to bytes, as a folder.
-use Rattle.std.specs.Prelude.{ℕ, List, Vec, String}
+-- A map from names to bytes, as a folder, and a list of names.
+use Rattle.std.specs.Prelude.{ℕ, List, map, Vec, String}
 use Rattle.std.specs.declared.alloc.Global.{Global}
 use Rattle.std.specs.Option.{option_map}
+use Rattle.std.specs.String.{string_bytes}
 use Rattle.std.specs.BTreeMap.{BTreeMap, get_by_text}
 use Rattle.room_edge.specs.Outside.{Folder}
 
 abbrev pub folder_of : BTreeMap (String Global) (Vec ℕ Global) → Folder
 folder_of files = λ name. option_map (λ v. v.items) (get_by_text files name)
+
+abbrev pub names_of : Vec (String Global) Global → List (List ℕ)
+names_of names = map string_bytes names.items

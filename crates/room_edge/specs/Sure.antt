@@ -1,15 +1,10 @@
 -- What a room in memory tells: all of it. No call of its fails.
-use Rattle.std.specs.Prelude.{ℕ, List, map, drop, Option, Some, Vec, String}
+use Rattle.std.specs.Prelude.{ℕ, List, [], map, drop, false, Option, Some, None, Vec, String}
 use Rattle.std.specs.declared.alloc.Global.{Global}
-use Rattle.std.specs.Option.{option_map}
 use Rattle.std.specs.String.{string_bytes}
-use Rattle.std.specs.BTreeMap.{BTreeMap, get_by_text}
 use Rattle.room_edge.specs.Outside.{Outside}
-use Rattle.room_edge.specs.Folder.{folder_of}
+use Rattle.room_edge.specs.Folder.{folder_of, names_of}
 use Rattle.room_edge.specs.declared.sure.SureRoom.{SureRoom}
-
-abbrev pub names_of : Vec (String Global) Global → List (List ℕ)
-names_of names = map string_bytes names.items
 
 abbrev pub sure_outside : SureRoom → Outside
 sure_outside r = record {
@@ -26,3 +21,7 @@ sure_outside r = record {
   created = names_of r.created;
   opened = r.opened;
 }
+
+-- how many bytes a call of the room takes or gives at most
+abbrev pub sure_piece : SureRoom → ℕ
+sure_piece r = r.piece

@@ -1,7 +1,8 @@
 -- What the helpers give.
-use Rattle.std.specs.Prelude.{◌≡◌, ℕ, ◌<◌, ◌≤◌, List, [], ◌∷◌, ◌++◌, ◌⊎◌, length, Option, Some, None, Result, Ok, Err, Vec, ⊤}
+use Rattle.std.specs.Prelude.{◌≡◌, ℕ, ◌<◌, ◌≤◌, List, [], ◌∷◌, ◌++◌, ◌⊎◌, length, drop, Option, Some, None, Result, Ok, Err, Vec, IsTrue, ⊤}
 use Rattle.std.specs.declared.alloc.Global.{Global}
-use Rattle.room_edge.specs.Outside.{Folder}
+use Rattle.room_edge.specs.Outside.{Outside, Folder}
+use Rattle.room_edge.specs.Faults.{Rose}
 use Rattle.room_edge.specs.declared.whole.ReadWhole.{ReadWhole}
 use Rattle.room_edge.specs.declared.whole.ReadWhole.TheVariants as read
 use Rattle.room_edge.specs.declared.whole.WriteAll.{WriteAll}
@@ -14,6 +15,22 @@ IsReadOf files name limit (Err read.Missing) = files name ≡ None
 IsReadOf files name limit (Err (read.TooLong n)) = (bytes : List ℕ) × (files name ≡ Some bytes) × (limit < n) × (n ≤ length bytes)
 IsReadOf files name limit (Err read.ReadFault) = ⊤
 IsReadOf files name limit (Err read.Memory) = ⊤
+
+-- what is left of the input: nothing after a whole file, and all but n bytes of one that is too long
+abbrev pub IsLeftOf : {T : Type 0} → Folder → List ℕ → Result T ReadWhole → Option (List ℕ) → Type 0
+IsLeftOf files name (Ok _) rest = rest ≡ Some []
+IsLeftOf files name (Err (read.TooLong n)) rest = (bytes : List ℕ) × (files name ≡ Some bytes) × (rest ≡ Some (drop n bytes))
+IsLeftOf files name (Err read.Missing) rest = ⊤
+IsLeftOf files name (Err read.ReadFault) rest = ⊤
+IsLeftOf files name (Err read.Memory) rest = ⊤
+
+-- whether an input is open afterwards: one that was open stays so
+abbrev pub KeepsOpen : {T : Type 0} → Result T ReadWhole → Outside → Outside → Type 0
+KeepsOpen (Ok _) old new = IsTrue new.opened
+KeepsOpen (Err (read.TooLong _)) old new = IsTrue new.opened
+KeepsOpen (Err read.Missing) old new = (new.opened ≡ old.opened) × (new.rest ≡ old.rest)
+KeepsOpen (Err read.ReadFault) old new = IsTrue old.opened → IsTrue new.opened
+KeepsOpen (Err read.Memory) old new = IsTrue old.opened → IsTrue new.opened
 
 -- how many bytes were written
 abbrev pub written : {T : Type 0} → Result T WriteAll → ℕ → ℕ
@@ -28,3 +45,25 @@ Tries (Err read.Missing) name old new = new ≡ old ++ name ∷ []
 Tries (Err read.ReadFault) name old new = new ≡ old ++ name ∷ []
 Tries (Err (read.TooLong _)) name old new = new ≡ old ++ name ∷ []
 Tries (Err read.Memory) name old new = (new ≡ old) ⊎ (new ≡ old ++ name ∷ [])
+
+-- the misses rise just where the file is missing
+abbrev pub CountsMisses : {T : Type 0} → Result T ReadWhole → ℕ → ℕ → Type 0
+CountsMisses (Ok _) old new = new ≡ old
+CountsMisses (Err read.Missing) old new = Rose old new
+CountsMisses (Err read.ReadFault) old new = new ≡ old
+CountsMisses (Err (read.TooLong _)) old new = new ≡ old
+CountsMisses (Err read.Memory) old new = new ≡ old
+
+-- the faults of reading rise just where the answer is one
+abbrev pub CountsReadFaults : {T : Type 0} → Result T ReadWhole → ℕ → ℕ → Type 0
+CountsReadFaults (Ok _) old new = new ≡ old
+CountsReadFaults (Err read.Missing) old new = new ≡ old
+CountsReadFaults (Err read.ReadFault) old new = Rose old new
+CountsReadFaults (Err (read.TooLong _)) old new = new ≡ old
+CountsReadFaults (Err read.Memory) old new = new ≡ old
+
+-- the faults of writing rise just where the answer is one
+abbrev pub CountsWriteFaults : {T : Type 0} → Result T WriteAll → ℕ → ℕ → Type 0
+CountsWriteFaults (Ok _) old new = new ≡ old
+CountsWriteFaults (Err (write.WriteFault _)) old new = Rose old new
+CountsWriteFaults (Err (write.Memory _)) old new = new ≡ old

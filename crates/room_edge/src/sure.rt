@@ -1,13 +1,18 @@
-// A room in memory, whose calls take and give at most so many bytes at once. None of them fails.
-ghost use Rattle.std.specs.Prelude.{◌≡◌, ℕ, ◌<◌, ◌≤◌, List, [], ◌∷◌, ◌++◌, length, OnOk, OnErr, IfOk, IsErr, IfSome, Some, None};
+//! A room in memory, whose calls take and give at most so many bytes at once. None of them fails.
+ghost use Rattle.std.specs.Prelude.{◌≡◌, ℕ, ◌<◌, ◌≤◌, List, [], ◌∷◌, ◌++◌, length, min, Contains, IsTrue, OnOk, OnErr, IfOk, IsOk, IsErrOf, IfSome};
 ghost use Rattle.std.specs.Option.{option_copied};
 ghost use Rattle.room_edge.specs.Outside.{Outside, with_file, with_more, puts};
-ghost use Rattle.room_edge.specs.Folder.{folder_of};
+ghost use Rattle.room_edge.specs.Folder.{folder_of, names_of};
+ghost use Rattle.room_edge.specs.Fresh.{nothing_there};
+ghost use Rattle.room_edge.specs.Calls.{Opens, Reads, Creates, Appends, Shows, Complains};
 
 use crate::{OpenError, ReadFailed, Room, WriteError};
+use quantity::OutOfMemory;
 use std::alloc::{AllocError, Global};
 use std::collections::BTreeMap;
 
+/// A room that holds its files and streams in memory and tells all of them. A call takes or gives
+/// at most one piece, and no call fails.
 #[derive(Drop)]
 pub struct SureRoom {
     alloc: Global,
@@ -55,14 +60,24 @@ fn grow(files: &mut BTreeMap<String, Vec<u8>>, name: &str, bytes: &[u8]) -> Resu
     Ok(())
 }
 
-impl SureRoom {
-    ghost use Rattle.room_edge.specs.Sure.{sure_outside};
+// Adds a name to a list of them.
+fn add_name(alloc: Global, names: &mut Vec<String>, name: &str) -> Result<(), AllocError>
+    ensures ok { OnOk result (names_of names.new ≡ names_of names.old ++ name.now ∷ []) }
+    ensures err { OnErr result (names_of names.new ≡ names_of names.old) }
+{
+    let copy = String::from_str(alloc, name)?;
+    names.push(copy)?;
+    Ok(())
+}
 
+impl SureRoom {
+    ghost use Rattle.room_edge.specs.Sure.{sure_outside, sure_piece};
+
+    /// An empty room. No call of it takes or gives more than `piece` bytes.
     pub fn new(alloc: Global, piece: usize) -> Self
         requires { 0 < piece }
-        ensures files { IfSome (sure_outside result).files (λ files. (name : List ℕ) → files name ≡ None) }
-        ensures tried { (sure_outside result).tried ≡ [] }
-        ensures created { (sure_outside result).created ≡ [] }
+        ensures outside { sure_outside result ≡ nothing_there }
+        ensures piece { sure_piece result ≡ piece }
     {
         SureRoom {
             alloc,
@@ -80,24 +95,29 @@ impl SureRoom {
         }
     }
 
+    /// Puts a file into the folder, in the place of one of that name.
     #[tactic(auto, unfolding(crate::specs::Outside::puts))]
-    pub fn put_file(&mut self, name: &str, bytes: &[u8]) -> Result<(), AllocError>
-        ensures ok { OnOk result ((sure_outside self.new).files ≡ puts (sure_outside self.old).files name.now bytes.now) }
-        ensures err { OnErr result ((sure_outside self.new).files ≡ (sure_outside self.old).files) }
+    pub fn put_file(&mut self, name: &str, bytes: &[u8]) -> Result<(), OutOfMemory>
+        ensures ok { OnOk result (sure_outside self.new ≡ record (sure_outside self.old) { files = puts (sure_outside self.old).files name.now bytes.now }) }
+        ensures err { OnErr result (sure_outside self.new ≡ sure_outside self.old) }
+        ensures piece { sure_piece self.new ≡ sure_piece self.old }
     {
-        put(self.alloc, &mut self.files, name, bytes)
+        match put(self.alloc, &mut self.files, name, bytes) {
+            Ok(()) => Ok(()),
+            Err(_) => Err(OutOfMemory),
+        }
     }
 
     // Adds a name to those that were asked for.
     pub(crate) fn try_name(&mut self, name: &str) -> Result<(), AllocError>
         ensures ok { OnOk result (sure_outside self.new ≡ record (sure_outside self.old) { tried = (sure_outside self.old).tried ++ name.now ∷ [] }) }
         ensures err { OnErr result (sure_outside self.new ≡ sure_outside self.old) }
+        ensures piece { sure_piece self.new ≡ sure_piece self.old }
     {
-        let copy = String::from_str(self.alloc, name)?;
-        self.tried.push(copy)?;
-        Ok(())
+        add_name(self.alloc, &mut self.tried, name)
     }
 
+    /// The bytes of a file that was made in the room.
     pub fn made(&self, name: &str) -> Option<&[u8]>
         ensures { IfSome (sure_outside self.now).made (λ made. option_copied result ≡ made name.now) }
     {
@@ -107,12 +127,14 @@ impl SureRoom {
         }
     }
 
+    /// The bytes on the first stream.
     pub fn shown(&self) -> &[u8]
         ensures { (sure_outside self.now).shown ≡ Some result.now }
     {
         &self.shown
     }
 
+    /// The bytes on the second stream.
     pub fn complained(&self) -> &[u8]
         ensures { (sure_outside self.now).complained ≡ Some result.now }
     {
@@ -121,14 +143,14 @@ impl SureRoom {
 }
 
 impl Room for SureRoom {
-    ghost use Rattle.room_edge.specs.Sure.{sure_outside};
+    ghost use Rattle.room_edge.specs.Sure.{sure_outside, sure_piece};
 
     ghost outside = { sure_outside };
 
-    fn open_input(&mut self, name: &str) -> Result<(), OpenError> {
-        let Ok(copy) = String::from_str(self.alloc, name) else {
-            return Err(OpenError::Memory);
-        };
+    fn open_input(&mut self, name: &str) -> Result<(), OpenError>
+        ensures room { Opens result name.now (sure_outside self.old) (sure_outside self.new) }
+        ensures piece { sure_piece self.new ≡ sure_piece self.old }
+    {
         let found = match self.files.get(name) {
             None => None,
             Some(bytes) => match bytes.to_vec(self.alloc) {
@@ -136,9 +158,9 @@ impl Room for SureRoom {
                 Err(_) => return Err(OpenError::Memory),
             },
         };
-        if self.tried.push(copy).is_err() {
+        let Ok(()) = add_name(self.alloc, &mut self.tried, name) else {
             return Err(OpenError::Memory);
-        }
+        };
         match found {
             None => {
                 self.misses = self.misses.saturating_add(1);
@@ -153,7 +175,14 @@ impl Room for SureRoom {
         }
     }
 
-    fn read_input(&mut self, into: &mut [u8]) -> Result<usize, ReadFailed> {
+    fn read_input(&mut self, into: &mut [u8]) -> Result<usize, ReadFailed>
+        requires opened { IsTrue (sure_outside self.old).opened }
+        requires room { 0 < length into.old }
+        ensures room { Reads result into.new (sure_outside self.old) (sure_outside self.new) }
+        ensures sure { IsOk result }
+        ensures most { IfSome (sure_outside self.old).rest (λ rest. IfOk result (λ n. n ≡ min (min (length rest) (length into.old)) (sure_piece self.old))) }
+        ensures piece { sure_piece self.new ≡ sure_piece self.old }
+    {
         let left = self.input.len() - self.taken;
         let n = left.min(into.len()).min(self.piece);
         into[..n].copy_from_slice(&self.input[self.taken..self.taken + n]);
@@ -161,16 +190,16 @@ impl Room for SureRoom {
         Ok(n)
     }
 
-    fn create(&mut self, name: &str) -> Result<(), WriteError> {
-        let Ok(copy) = String::from_str(self.alloc, name) else {
-            return Err(WriteError::Memory);
-        };
+    fn create(&mut self, name: &str) -> Result<(), WriteError>
+        ensures room { Creates result name.now (sure_outside self.old) (sure_outside self.new) }
+        ensures piece { sure_piece self.new ≡ sure_piece self.old }
+    {
         let Ok(key) = String::from_str(self.alloc, name) else {
             return Err(WriteError::Memory);
         };
-        if self.created.push(copy).is_err() {
+        let Ok(()) = add_name(self.alloc, &mut self.created, name) else {
             return Err(WriteError::Memory);
-        }
+        };
         let Ok(_) = self.made.insert(key, Vec::new(self.alloc)) else {
             let _ = self.created.pop();
             return Err(WriteError::Memory);
@@ -178,7 +207,12 @@ impl Room for SureRoom {
         Ok(())
     }
 
-    fn append(&mut self, name: &str, bytes: &[u8]) -> Result<usize, WriteError> {
+    fn append(&mut self, name: &str, bytes: &[u8]) -> Result<usize, WriteError>
+        requires { Contains (sure_outside self.old).created name.now }
+        ensures room { Appends result name.now bytes.now (sure_outside self.old) (sure_outside self.new) }
+        ensures most { IfOk result (λ n. n ≡ min (length bytes.now) (sure_piece self.old)) }
+        ensures piece { sure_piece self.new ≡ sure_piece self.old }
+    {
         let n = bytes.len().min(self.piece);
         let Ok(()) = grow(&mut self.made, name, &bytes[..n]) else {
             return Err(WriteError::Memory);
@@ -187,7 +221,11 @@ impl Room for SureRoom {
     }
 
     #[tactic(auto, unfolding(crate::specs::Outside::streams))]
-    fn show(&mut self, bytes: &[u8]) -> Result<usize, WriteError> {
+    fn show(&mut self, bytes: &[u8]) -> Result<usize, WriteError>
+        ensures room { Shows result bytes.now (sure_outside self.old) (sure_outside self.new) }
+        ensures most { IfOk result (λ n. n ≡ min (length bytes.now) (sure_piece self.old)) }
+        ensures piece { sure_piece self.new ≡ sure_piece self.old }
+    {
         let n = bytes.len().min(self.piece);
         if self.shown.extend_from_slice(&bytes[..n]).is_err() {
             return Err(WriteError::Memory);
@@ -196,7 +234,11 @@ impl Room for SureRoom {
     }
 
     #[tactic(auto, unfolding(crate::specs::Outside::streams))]
-    fn complain(&mut self, bytes: &[u8]) -> Result<usize, WriteError> {
+    fn complain(&mut self, bytes: &[u8]) -> Result<usize, WriteError>
+        ensures room { Complains result bytes.now (sure_outside self.old) (sure_outside self.new) }
+        ensures most { IfOk result (λ n. n ≡ min (length bytes.now) (sure_piece self.old)) }
+        ensures piece { sure_piece self.new ≡ sure_piece self.old }
+    {
         let n = bytes.len().min(self.piece);
         if self.complained.extend_from_slice(&bytes[..n]).is_err() {
             return Err(WriteError::Memory);

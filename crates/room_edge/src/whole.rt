@@ -1,27 +1,51 @@
-// Whole files and whole pieces, over any room.
+//! Whole files and whole pieces, over any room.
 ghost use Rattle.std.specs.Prelude.{◌≡◌, ℕ, ◌<◌, ◌≤◌, List, [], ◌∷◌, ◌++◌, length, take, Contains, IfOk, IfErr, OnErr, IsErrOf, IfSome};
 ghost use Rattle.room_edge.specs.Outside.{OnlyInput, OnlyMade, OnlyShown, OnlyComplained, adds, streams};
 ghost use Rattle.room_edge.specs.Faults.{Rose};
-ghost use Rattle.room_edge.specs.Whole.{IsReadOf, Tries, written};
+ghost use Rattle.room_edge.specs.Whole.{IsReadOf, IsLeftOf, KeepsOpen, Tries, CountsMisses, CountsReadFaults, CountsWriteFaults, written};
 
-use crate::{OpenError, ReadFailed, Room, WriteError};
-use std::alloc::Global;
+use crate::{OpenError, Room, WriteError};
+use std::alloc::{AllocError, Global};
 
+/// Why a file was not read whole.
 #[derive(Clone, Copy, Debug, PartialEq, Eq)]
 pub enum ReadWhole {
+    /// There is no file of that name: a miss, which is counted.
     Missing,
+    /// The room failed to open or to read it: a fault of reading, which is counted.
     ReadFault,
+    /// It is longer than the limit: so many of its bytes were taken, more than the limit.
     TooLong(u64),
+    /// There is no memory for its bytes.
     Memory,
 }
 
+/// Why not all bytes were written. The number tells how many were.
 #[derive(Clone, Copy, Debug, PartialEq, Eq)]
 pub enum WriteAll {
+    /// The room failed to write the next: a fault of writing, which is counted.
     WriteFault(usize),
+    /// The room has no memory for the next.
     Memory(usize),
 }
 
-/// Reads a file of at most so many bytes.
+// How many bytes are asked for at once.
+const PIECE: usize = 65536;
+
+// A piece to read into, on the heap: a function pays at each call for an array of that size.
+fn zeros(alloc: Global, count: usize) -> Result<Vec<u8>, AllocError>
+    ensures { IfOk result (λ piece. length piece.items ≡ count) }
+{
+    vec![in alloc; 0u8; count]
+}
+
+/// Reads a file of at most `limit` bytes.
+///
+/// # Errors
+///
+/// `Missing` where there is no such file, `TooLong` where it has more bytes than the limit (no
+/// more is read then), `ReadFault` where the room failed, `Memory` where memory ran out, maybe
+/// before the file was looked for.
 pub fn read_whole<R: Room>(
     alloc: Global,
     room: &mut R,
@@ -29,15 +53,23 @@ pub fn read_whole<R: Room>(
     limit: u32,
 ) -> Result<Vec<u8>, ReadWhole>
     ensures bytes { IfSome (R.outside room.old).files (λ files. IsReadOf files name.now limit result) }
+    ensures left { IfSome (R.outside room.old).files (λ files. IsLeftOf files name.now result (R.outside room.new).rest) }
     ensures short { IfOk result (λ bytes. length bytes.items ≤ limit) }
     ensures missing { IsErrOf result ReadWhole.Missing → Rose (R.outside room.old).misses (R.outside room.new).misses }
     ensures fault { IsErrOf result ReadWhole.ReadFault → Rose (R.outside room.old).read_faults (R.outside room.new).read_faults }
     ensures long { (n : ℕ) → IsErrOf result (ReadWhole.TooLong n) → limit < n }
     ensures tried { Tries result name.now (R.outside room.old).tried (R.outside room.new).tried }
+    ensures opened { KeepsOpen result (R.outside room.old) (R.outside room.new) }
+
+    ensures counts_misses { CountsMisses result (R.outside room.old).misses (R.outside room.new).misses }
+    ensures counts_faults { CountsReadFaults result (R.outside room.old).read_faults (R.outside room.new).read_faults }
     ensures misses { (R.outside room.old).misses ≤ (R.outside room.new).misses }
     ensures faults { (R.outside room.old).read_faults ≤ (R.outside room.new).read_faults }
     ensures only { OnlyInput (R.outside room.old) (R.outside room.new) }
 {
+    let Ok(mut piece) = zeros(alloc, PIECE) else {
+        return Err(ReadWhole::Memory);
+    };
     match room.open_input(name) {
         Ok(()) => {}
         Err(OpenError::Missing) => return Err(ReadWhole::Missing),
@@ -45,7 +77,6 @@ pub fn read_whole<R: Room>(
         Err(OpenError::Memory) => return Err(ReadWhole::Memory),
     }
     let mut bytes: Vec<u8> = Vec::new(alloc);
-    let mut piece = [0u8; 4096];
     loop {
         let Ok(n) = room.read_input(&mut piece) else {
             return Err(ReadWhole::ReadFault);
@@ -62,13 +93,20 @@ pub fn read_whole<R: Room>(
     }
 }
 
-/// Adds all the bytes to a file.
+/// Adds all the bytes to a file that was created in the room.
+///
+/// # Errors
+///
+/// `WriteFault` where the room failed, `Memory` where it ran out of memory, each with the number of
+/// bytes that were added: the first ones, and not all.
 pub fn write_all<R: Room>(room: &mut R, name: &str, bytes: &[u8]) -> Result<(), WriteAll>
     requires { Contains (R.outside room.old).created name.now }
     ensures made { (R.outside room.new).made ≡ adds (R.outside room.old).made name.now (take (written result (length bytes.now)) bytes.now) }
     ensures bound { written result (length bytes.now) ≤ length bytes.now }
+    ensures short { OnErr result (written result (length bytes.now) < length bytes.now) }
     ensures fault { (n : ℕ) → IsErrOf result (WriteAll.WriteFault n) → (n < length bytes.now) × Rose (R.outside room.old).write_faults (R.outside room.new).write_faults }
     ensures created { (R.outside room.new).created ≡ (R.outside room.old).created }
+    ensures counts_faults { CountsWriteFaults result (R.outside room.old).write_faults (R.outside room.new).write_faults }
     ensures faults { (R.outside room.old).write_faults ≤ (R.outside room.new).write_faults }
     ensures only { OnlyMade (R.outside room.old) (R.outside room.new) }
 {
@@ -84,10 +122,17 @@ pub fn write_all<R: Room>(room: &mut R, name: &str, bytes: &[u8]) -> Result<(), 
 }
 
 /// Adds all the bytes to the first stream.
+///
+/// # Errors
+///
+/// `WriteFault` where the room failed, `Memory` where it ran out of memory, each with the number of
+/// bytes that were added: the first ones, and not all.
 pub fn show_all<R: Room>(room: &mut R, bytes: &[u8]) -> Result<(), WriteAll>
     ensures shown { (R.outside room.new).shown ≡ streams (R.outside room.old).shown (take (written result (length bytes.now)) bytes.now) }
     ensures bound { written result (length bytes.now) ≤ length bytes.now }
+    ensures short { OnErr result (written result (length bytes.now) < length bytes.now) }
     ensures fault { (n : ℕ) → IsErrOf result (WriteAll.WriteFault n) → (n < length bytes.now) × Rose (R.outside room.old).write_faults (R.outside room.new).write_faults }
+    ensures counts_faults { CountsWriteFaults result (R.outside room.old).write_faults (R.outside room.new).write_faults }
     ensures faults { (R.outside room.old).write_faults ≤ (R.outside room.new).write_faults }
     ensures only { OnlyShown (R.outside room.old) (R.outside room.new) }
 {
@@ -102,11 +147,19 @@ pub fn show_all<R: Room>(room: &mut R, bytes: &[u8]) -> Result<(), WriteAll>
     Ok(())
 }
 
-/// Adds all the bytes to the second stream.
+/// Adds all the bytes to the second stream. A fault counts as one of complaining too.
+///
+/// # Errors
+///
+/// `WriteFault` where the room failed, `Memory` where it ran out of memory, each with the number of
+/// bytes that were added: the first ones, and not all.
 pub fn complain_all<R: Room>(room: &mut R, bytes: &[u8]) -> Result<(), WriteAll>
     ensures complained { (R.outside room.new).complained ≡ streams (R.outside room.old).complained (take (written result (length bytes.now)) bytes.now) }
     ensures bound { written result (length bytes.now) ≤ length bytes.now }
+    ensures short { OnErr result (written result (length bytes.now) < length bytes.now) }
     ensures fault { (n : ℕ) → IsErrOf result (WriteAll.WriteFault n) → (n < length bytes.now) × Rose (R.outside room.old).write_faults (R.outside room.new).write_faults × Rose (R.outside room.old).complain_faults (R.outside room.new).complain_faults }
+    ensures counts_faults { CountsWriteFaults result (R.outside room.old).write_faults (R.outside room.new).write_faults }
+    ensures counts_complain_faults { CountsWriteFaults result (R.outside room.old).complain_faults (R.outside room.new).complain_faults }
     ensures faults { (R.outside room.old).write_faults ≤ (R.outside room.new).write_faults }
     ensures complain_faults { (R.outside room.old).complain_faults ≤ (R.outside room.new).complain_faults }
     ensures only { OnlyComplained (R.outside room.old) (R.outside room.new) }

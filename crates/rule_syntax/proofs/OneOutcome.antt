@@ -1,55 +1,58 @@
 -- The outcome that is found is the one of the grammar.
-use Rattle.std.proofs.Common.{◌≡◌, ℕ, Bool, true, false, Option, Some, None, List, refl, sym, subst, ◌∙◌}
+use Rattle.std.proofs.Common.{◌≡◌, Bool, true, false, Option, Some, None, List, refl, sym, subst, ◌∙◌}
 use Rattle.std.specs.declared.result.Result.{Result}
 use Rattle.rule_syntax.specs.Expression.{Rule}
 use Rattle.std.specs.Option.{ok_or}
 use Rattle.quantity.specs.Bytes.{Bytes}
-use Rattle.source_text.specs.Kinds.{bad_rule, too_large}
+use Rattle.rule_syntax.specs.declared.refusal.RuleRefusal.{RuleRefusal}
+use Rattle.rule_syntax.specs.declared.refusal.RuleRefusal.TheVariants.{BadRule, TooLarge}
 use Rattle.rule_syntax.specs.Tokens.{Token, tokens, words_in, is_large}
 use Rattle.rule_syntax.specs.Phrases.{Written}
 use Rattle.rule_syntax.specs.Grammar.{IsRule}
 use Rattle.rule_syntax.specs.Reading.{written_rule}
 use Rattle.rule_syntax.specs.Scope.{Names}
-use Rattle.rule_syntax.specs.RuleOf.{words_refused, unless, and_on, where_true, judged, rule_of, Readable, RuleIs, no_token, strange_word, large, no_rule, a_rule, IsTheGrammar, HasOneOutcome}
+use Rattle.rule_syntax.proofs.Rules.{rules_are_found}
+use Rattle.rule_syntax.proofs.RulesFound.{rule_found}
+use Rattle.rule_syntax.specs.RuleOf.{words_refused, unless, and_on, where_true, judged, rule_of, Readable, RuleIs, no_token, strange_word, large, no_rule, a_rule, HasOneOutcome}
 
 none_some : {A : Type 0} {x : A} → None ≡ Some x → ⊥
 none_some e = cc
 
-found : IsTheGrammar → (names : Names) (text : Bytes) → RuleIs names text (rule_of names text)
+found : (names : Names) (text : Bytes) → RuleIs names text (rule_of names text)
 unfolding rule_of
-found g names text = by_tokens (tokens text) refl
+found names text = by_tokens (tokens text) refl
   where
-    by_rule : (ts : List Token) → Readable text ts → (o : Option Written) → written_rule ts ≡ o → RuleIs names text (and_on (ok_or o bad_rule) (judged names))
-    by_rule ts h None e = no_rule ts h (λ r d. none_some (sym e ∙ (g ts r).1 d))
-    by_rule ts h (Some r) e = a_rule ts r h ((g ts r).0 e)
+    by_rule : (ts : List Token) → Readable text ts → (o : Option Written) → written_rule ts ≡ o → RuleIs names text (and_on (ok_or o BadRule) (judged names))
+    by_rule ts h None e = no_rule ts h (λ r d. none_some (sym e ∙ rule_found ts r d))
+    by_rule ts h (Some r) e = a_rule ts r h (rules_are_found ts r e)
 
-    by_size : (ts : List Token) → tokens text ≡ Some ts → words_refused (words_in ts) ≡ None → (b : Bool) → is_large ts ≡ b → RuleIs names text (unless (where_true b too_large) (and_on (ok_or (written_rule ts) bad_rule) (judged names)))
+    by_size : (ts : List Token) → tokens text ≡ Some ts → words_refused (words_in ts) ≡ None → (b : Bool) → is_large ts ≡ b → RuleIs names text (unless (where_true b TooLarge) (and_on (ok_or (written_rule ts) BadRule) (judged names)))
     by_size ts e w true s = large ts e w s
     by_size ts e w false s = by_rule ts (record { tokens = e; words = w; size = s }) (written_rule ts) refl
 
-    by_words : (ts : List Token) → tokens text ≡ Some ts → (o : Option ℕ) → words_refused (words_in ts) ≡ o → RuleIs names text (unless o (unless (where_true (is_large ts) too_large) (and_on (ok_or (written_rule ts) bad_rule) (judged names))))
+    by_words : (ts : List Token) → tokens text ≡ Some ts → (o : Option RuleRefusal) → words_refused (words_in ts) ≡ o → RuleIs names text (unless o (unless (where_true (is_large ts) TooLarge) (and_on (ok_or (written_rule ts) BadRule) (judged names))))
     by_words ts e (Some kind) w = strange_word ts kind e w
     by_words ts e None w = by_size ts e w (is_large ts) refl
 
-    by_tokens : (o : Option (List Token)) → tokens text ≡ o → RuleIs names text (and_on (ok_or o bad_rule) (λ ts. unless (words_refused (words_in ts)) (unless (where_true (is_large ts) too_large) (and_on (ok_or (written_rule ts) bad_rule) (judged names)))))
+    by_tokens : (o : Option (List Token)) → tokens text ≡ o → RuleIs names text (and_on (ok_or o BadRule) (λ ts. unless (words_refused (words_in ts)) (unless (where_true (is_large ts) TooLarge) (and_on (ok_or (written_rule ts) BadRule) (judged names)))))
     by_tokens None e = no_token e
     by_tokens (Some ts) e = by_words ts e (words_refused (words_in ts)) refl
 
-no_written : IsTheGrammar → (ts : List Token) → ((r : Written) → IsRule ts r → ⊥) → written_rule ts ≡ None
-no_written g ts h = go (written_rule ts) refl
+no_written : (ts : List Token) → ((r : Written) → IsRule ts r → ⊥) → written_rule ts ≡ None
+no_written ts h = go (written_rule ts) refl
   where
     go : (o : Option Written) → written_rule ts ≡ o → o ≡ None
     go None e = refl
-    go (Some r) e = absurd (h r ((g ts r).0 e))
+    go (Some r) e = absurd (h r (rules_are_found ts r e))
 
-only : IsTheGrammar → (names : Names) (text : Bytes) (a : Result Rule ℕ) → RuleIs names text a → rule_of names text ≡ a
+only : (names : Names) (text : Bytes) (a : Result Rule RuleRefusal) → RuleIs names text a → rule_of names text ≡ a
 unfolding rule_of
-only g names text _ (no_token e) = rw e refl
-only g names text _ (strange_word ts kind e w) = rw (e, w) refl
-only g names text _ (large ts e w s) = rw (e, w, s) refl
-only g names text _ (no_rule ts h n) = rw (h.tokens, h.words, h.size, no_written g ts n) refl
-only g names text _ (a_rule ts r h d) = rw (h.tokens, h.words, h.size, (g ts r).1 d) refl
+only names text _ (no_token e) = rw e refl
+only names text _ (strange_word ts kind e w) = rw (e, w) refl
+only names text _ (large ts e w s) = rw (e, w, s) refl
+only names text _ (no_rule ts h n) = rw (h.tokens, h.words, h.size, no_written ts n) refl
+only names text _ (a_rule ts r h d) = rw (h.tokens, h.words, h.size, rule_found ts r d) refl
 
 pub has_one_outcome : HasOneOutcome
-has_one_outcome g names text a =
-    (λ e. subst (λ x. RuleIs names text x) e (found g names text), only g names text a)
+has_one_outcome names text a =
+    (λ e. subst (λ x. RuleIs names text x) e (found names text), only names text a)

@@ -303,10 +303,10 @@ one_more k = omega arith
 two_more : (k : ℕ) → 1 + k + 1 ≡ suc (k + 1)
 two_more k = omega arith
 
-take_more : (k : ℕ) (u : Token) (us : List Token) → take (1 + k) (u ∷ us) ≡ u ∷ take k us
+pub take_more : (k : ℕ) (u : Token) (us : List Token) → take (1 + k) (u ∷ us) ≡ u ∷ take k us
 take_more k u us = rw (one_more k) refl
 
-drop_more : (k : ℕ) (u : Token) (us : List Token) → drop (1 + k + 1) (u ∷ us) ≡ drop (k + 1) us
+pub drop_more : (k : ℕ) (u : Token) (us : List Token) → drop (1 + k + 1) (u ∷ us) ≡ drop (k + 1) us
 drop_more k u us = rw (two_more k) refl
 
 -- a block ends at its first closing mark

@@ -11,13 +11,13 @@ use Rattle.quantity.specs.Digits.{whole_number}
 use Rattle.quantity.specs.Literals.{unsigned_literal}
 use Rattle.rule_syntax.specs.Tokens.{Token, word, number, mark}
 use Rattle.rule_syntax.specs.Phrases as P
-use Rattle.rule_syntax.specs.Phrases.{Cell, Phrase, Phrases, nil, cons, phrases, Assigned, Written, out, Level, expr, disj, conj, neg, comp, sum, prod, signed, primary, tighter, left_of, operators, counts, functions, looked_up, argument_count}
+use Rattle.rule_syntax.specs.Phrases.{Cell, Phrase, Phrases, nil, cons, phrases, Assigned, Written, out, Level, expr, disj, conj, neg, comp, sum, prod, signed, primary, tighter, left_of, operator_words, operator_marks, counts, functions, looked_up, argument_count}
 
 -- a token that joins two phrases of a level
 abbrev pub Joins : Level → Token → Binary → Type 0
-Joins l (word w) b = looked_up (operators l) w ≡ Some b
+Joins l (word w) b = looked_up (operator_words l) w ≡ Some b
 Joins l (number n) b = ⊥
-Joins l (mark m) b = looked_up (operators l) m ≡ Some b
+Joins l (mark m) b = looked_up (operator_marks l) m ≡ Some b
 
 pub data IsInt : List Token → ℤ → Type 0 where
   bare : {text : Bytes} {n : ℕ} → whole_number 10 text ≡ Some n → IsInt (number text ∷ []) (pos n)

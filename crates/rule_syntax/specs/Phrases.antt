@@ -94,18 +94,30 @@ left_of primary = primary
 
 -- ---- words and marks of operators, counts and functions
 
-abbrev pub operators : Level → List (Bytes × Binary)
-operators expr = (codes "imp", Imp) ∷ (codes "eqv", Eqv) ∷ []
-operators disj = (codes "or", Or) ∷ (codes "xor", Xor) ∷ []
-operators conj = (codes "and", And) ∷ []
-operators neg = []
-operators comp =
+-- the operators of a level that are words, and those that are marks
+abbrev pub operator_words : Level → List (Bytes × Binary)
+operator_words expr = (codes "imp", Imp) ∷ (codes "eqv", Eqv) ∷ []
+operator_words disj = (codes "or", Or) ∷ (codes "xor", Xor) ∷ []
+operator_words conj = (codes "and", And) ∷ []
+operator_words neg = []
+operator_words comp = []
+operator_words sum = []
+operator_words prod = []
+operator_words signed = []
+operator_words primary = []
+
+abbrev pub operator_marks : Level → List (Bytes × Binary)
+operator_marks expr = []
+operator_marks disj = []
+operator_marks conj = []
+operator_marks neg = []
+operator_marks comp =
     (codes "=", Cmp Equal) ∷ (codes "!=", Cmp Unequal) ∷ (codes "<", Cmp Less) ∷ (codes "<=", Cmp LessEqual) ∷ (codes ">", Cmp Greater)
     ∷ (codes ">=", Cmp GreaterEqual) ∷ []
-operators sum = (codes "+", Add) ∷ (codes "-", Sub) ∷ []
-operators prod = (codes "*", Mul) ∷ (codes "/", Div) ∷ []
-operators signed = []
-operators primary = []
+operator_marks sum = (codes "+", Add) ∷ (codes "-", Sub) ∷ []
+operator_marks prod = (codes "*", Mul) ∷ (codes "/", Div) ∷ []
+operator_marks signed = []
+operator_marks primary = []
 
 abbrev pub counts : List (Bytes × Count)
 counts = (codes "truecount", Ones) ∷ (codes "falsecount", Zeros) ∷ (codes "undefcount", Undefs) ∷ []

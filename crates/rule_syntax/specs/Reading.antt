@@ -15,7 +15,7 @@ use Rattle.quantity.specs.Digits.{whole_number, with_sign_of, has_length}
 use Rattle.quantity.specs.Literals.{unsigned_literal}
 use Rattle.rule_syntax.specs.Tokens.{Token, word, number, mark, is_mark, is_word, parentheses_after}
 use Rattle.rule_syntax.specs.Phrases as P
-use Rattle.rule_syntax.specs.Phrases.{Cell, Phrase, Phrases, phrases, Assigned, Written, out, Level, expr, disj, conj, neg, comp, sum, prod, signed, primary, tighter, left_of, operators, counts, functions, looked_up, argument_count}
+use Rattle.rule_syntax.specs.Phrases.{Cell, Phrase, Phrases, phrases, Assigned, Written, out, Level, expr, disj, conj, neg, comp, sum, prod, signed, primary, tighter, left_of, operator_words, operator_marks, counts, functions, looked_up, argument_count}
 use Rattle.rule_syntax.specs.Grammar.{at_out}
 
 -- ---- cuts
@@ -49,9 +49,9 @@ ends_operand None = false
 ends_operand (Some t) = ends t
 
 abbrev pub operator_in : Level → Token → Option Binary
-operator_in l (word w) = looked_up (operators l) w
+operator_in l (word w) = looked_up (operator_words l) w
 operator_in l (number n) = None
-operator_in l (mark m) = looked_up (operators l) m
+operator_in l (mark m) = looked_up (operator_marks l) m
 
 abbrev pub joins_at : Level → Cut → Bool
 joins_at l c = is_some (operator_in l c.at) && is_closed 0 c.before && ends_operand (last_or None c.before)

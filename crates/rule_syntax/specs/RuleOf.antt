@@ -1,5 +1,5 @@
--- The rule that a text is in a group, or the kind of its refusal: the first that applies.
-use Rattle.std.specs.Prelude.{◌≡◌, ℕ, Bool, true, false, not, Option, Some, None, List, [], ◌∷◌, ◌++◌, map, length, if◌then◌else◌, codes, ◌↔◌}
+-- The rule that a text is in a group, or its refusal: the first that applies.
+use Rattle.std.specs.Prelude.{◌≡◌, Bool, true, false, not, Option, Some, None, List, [], ◌∷◌, ◌++◌, map, length, if◌then◌else◌, codes, ◌↔◌}
 use Rattle.std.specs.declared.result.Result.{Result}
 use Rattle.std.specs.declared.result.Result.TheVariants.{Ok, Err}
 use Rattle.std.specs.List.{list_any, find}
@@ -7,12 +7,13 @@ use Rattle.std.specs.Option.{ok_or, option_and_then}
 use Rattle.std.specs.Bool.{then_some}
 use Rattle.rule_syntax.specs.Expression.{Rule}
 use Rattle.quantity.specs.Bytes.{Bytes, is_among, has_repeat}
-use Rattle.source_text.specs.Kinds.{bad_rule, bad_sort, random_refused, unknown_function, not_a_neighbour, too_large, unknown_variable, unknown_neighbour_port}
+use Rattle.rule_syntax.specs.declared.refusal.RuleRefusal.{RuleRefusal}
+use Rattle.rule_syntax.specs.declared.refusal.RuleRefusal.TheVariants.{BadRule, BadSort, RandomRefused, UnknownFunction, NotANeighbour, UnknownVariable, UnknownNeighbourPort, TooLarge}
 use Rattle.rule_syntax.specs.Tokens.{Token, tokens, words_in, is_large}
 use Rattle.rule_syntax.specs.Phrases.{Phrase, expr, Assigned, Written, counts, functions, first_texts}
 use Rattle.rule_syntax.specs.Grammar.{IsPhrase, IsRule}
 use Rattle.rule_syntax.specs.Reading.{phrase_of, written_rule}
-use Rattle.rule_syntax.specs.Scope.{Names, named_by, is_no_neighbour, is_no_variable, is_no_port, rule_in, has_right_sorts}
+use Rattle.rule_syntax.specs.Scope.{Names, named_by, is_no_neighbour, is_no_variable, is_no_port, rule_in, has_right_sorts, extent_of, is_sound}
 
 abbrev pub random_names : List Bytes
 random_names =
@@ -24,11 +25,11 @@ language =
     (codes "imp" ∷ codes "eqv" ∷ codes "or" ∷ codes "xor" ∷ codes "and" ∷ codes "not" ∷ codes "t" ∷ codes "f" ∷ codes "time"
     ∷ codes "portvalue" ∷ codes "thisport" ∷ []) ++ first_texts counts ++ first_texts functions
 
-abbrev pub word_refused : Bytes → Option ℕ
-word_refused w = if is_among random_names w then Some random_refused else if is_among language w then None else Some unknown_function
+abbrev pub word_refused : Bytes → Option RuleRefusal
+word_refused w = if is_among random_names w then Some RandomRefused else if is_among language w then None else Some UnknownFunction
 
 -- the first word that is no word of the language decides
-abbrev pub words_refused : List Bytes → Option ℕ
+abbrev pub words_refused : List Bytes → Option RuleRefusal
 words_refused ws = option_and_then word_refused (find (λ w. not (is_among language w)) ws)
 
 abbrev pub given_ports : Written → List Bytes
@@ -38,34 +39,34 @@ abbrev pub has_port_twice : Written → Bool
 has_port_twice r = has_repeat (given_ports r)
 
 -- goes on unless there is a refusal
-abbrev pub unless : {A : Type 0} → Option ℕ → Result A ℕ → Result A ℕ
+abbrev pub unless : {A : Type 0} → Option RuleRefusal → Result A RuleRefusal → Result A RuleRefusal
 unless None next = next
-unless (Some kind) next = Err kind
+unless (Some why) next = Err why
 
-abbrev pub and_on : {A B : Type 0} → Result A ℕ → (A → Result B ℕ) → Result B ℕ
+abbrev pub and_on : {A B : Type 0} → Result A RuleRefusal → (A → Result B RuleRefusal) → Result B RuleRefusal
 and_on (Ok x) go = go x
-and_on (Err kind) go = Err kind
+and_on (Err why) go = Err why
 
-abbrev pub where_true : Bool → ℕ → Option ℕ
-where_true b kind = then_some b kind
+abbrev pub where_true : Bool → RuleRefusal → Option RuleRefusal
+where_true b why = then_some b why
 
 -- a rule of the grammar, judged by what it names and by its sorts
-abbrev pub judged : Names → Written → Result Rule ℕ
+abbrev pub judged : Names → Written → Result Rule RuleRefusal
 judged names r =
-    unless (where_true (has_port_twice r) bad_rule)
-    (unless (where_true (list_any (is_no_neighbour names) (named_by r)) not_a_neighbour)
-    (unless (where_true (list_any (is_no_variable names) (named_by r)) unknown_variable)
-    (unless (where_true (list_any (is_no_port names) (named_by r)) unknown_neighbour_port)
-    (unless (where_true (not (has_right_sorts (length names.offsets) (rule_in names r))) bad_sort)
+    unless (where_true (has_port_twice r) BadRule)
+    (unless (where_true (list_any (is_no_neighbour names) (named_by r)) NotANeighbour)
+    (unless (where_true (list_any (is_no_variable names) (named_by r)) UnknownVariable)
+    (unless (where_true (list_any (is_no_port names) (named_by r)) UnknownNeighbourPort)
+    (unless (where_true (not (has_right_sorts (length names.offsets) (rule_in names r))) BadSort)
     (Ok (rule_in names r))))))
 
 -- the order of refusals
-unfoldable pub rule_of : Names → Bytes → Result Rule ℕ
+unfoldable pub rule_of : Names → Bytes → Result Rule RuleRefusal
 rule_of names text =
-    and_on (ok_or (tokens text) bad_rule) (λ ts.
+    and_on (ok_or (tokens text) BadRule) (λ ts.
     unless (words_refused (words_in ts))
-    (unless (where_true (is_large ts) too_large)
-    (and_on (ok_or (written_rule ts) bad_rule) (judged names))))
+    (unless (where_true (is_large ts) TooLarge)
+    (and_on (ok_or (written_rule ts) BadRule) (judged names))))
 
 -- ---- the same by the grammar alone
 
@@ -75,26 +76,27 @@ pub record Readable (text : Bytes) (ts : List Token) : Type 0 where
   pub words : words_refused (words_in ts) ≡ None
   pub size : is_large ts ≡ false
 
-pub data RuleIs (names : Names) (text : Bytes) : Result Rule ℕ → Type 0 where
-  no_token : tokens text ≡ None → RuleIs names text (Err bad_rule)
-  strange_word : (ts : List Token) (kind : ℕ) → tokens text ≡ Some ts → words_refused (words_in ts) ≡ Some kind → RuleIs names text (Err kind)
-  large : (ts : List Token) → tokens text ≡ Some ts → words_refused (words_in ts) ≡ None → is_large ts ≡ true → RuleIs names text (Err too_large)
-  no_rule : (ts : List Token) → Readable text ts → ((r : Written) → IsRule ts r → ⊥) → RuleIs names text (Err bad_rule)
+pub data RuleIs (names : Names) (text : Bytes) : Result Rule RuleRefusal → Type 0 where
+  no_token : tokens text ≡ None → RuleIs names text (Err BadRule)
+  strange_word : (ts : List Token) (why : RuleRefusal) → tokens text ≡ Some ts → words_refused (words_in ts) ≡ Some why → RuleIs names text (Err why)
+  large : (ts : List Token) → tokens text ≡ Some ts → words_refused (words_in ts) ≡ None → is_large ts ≡ true → RuleIs names text (Err TooLarge)
+  no_rule : (ts : List Token) → Readable text ts → ((r : Written) → IsRule ts r → ⊥) → RuleIs names text (Err BadRule)
   a_rule : (ts : List Token) (r : Written) → Readable text ts → IsRule ts r → RuleIs names text (judged names r)
 
--- the rule that is found is the one of the grammar, and where none is found there is none
-abbrev pub IsTheGrammar : Type 0
-IsTheGrammar = (ts : List Token) (r : Written) → (written_rule ts ≡ Some r) ↔ IsRule ts r
+-- what is found is what the grammar says, and all of it
+pub record FindsTheGrammar : Type 0 where
+  pub phrase : (ts : List Token) (x : Phrase) → (phrase_of ts ≡ Some x) ↔ IsPhrase expr ts x
+  pub rule : (ts : List Token) (r : Written) → (written_rule ts ≡ Some r) ↔ IsRule ts r
 
--- a phrase that is found is one of the grammar
-abbrev pub FindsPhrases : Type 0
-FindsPhrases = (ts : List Token) (x : Phrase) → phrase_of ts ≡ Some x → IsPhrase expr ts x
+-- tokens are one phrase at most, and one rule at most
+pub record ReadsOneWay : Type 0 where
+  pub phrase : (ts : List Token) (x y : Phrase) → IsPhrase expr ts x → IsPhrase expr ts y → x ≡ y
+  pub rule : (ts : List Token) (r s : Written) → IsRule ts r → IsRule ts s → r ≡ s
 
--- a rule that is found is one of the grammar
-abbrev pub FindsRules : Type 0
-FindsRules = (ts : List Token) (r : Written) → written_rule ts ≡ Some r → IsRule ts r
-
--- then a text has one outcome, and it is the one that is found
+-- a text has one outcome, and it is the one that is found
 abbrev pub HasOneOutcome : Type 0
-HasOneOutcome =
-    IsTheGrammar → (names : Names) (text : Bytes) (a : Result Rule ℕ) → (rule_of names text ≡ a) ↔ RuleIs names text a
+HasOneOutcome = (names : Names) (text : Bytes) (a : Result Rule RuleRefusal) → (rule_of names text ≡ a) ↔ RuleIs names text a
+
+-- what a text is read to is sound for the group whose names it was read with
+abbrev pub ReadsSoundRules : Type 0
+ReadsSoundRules = (names : Names) (text : Bytes) (r : Rule) → rule_of names text ≡ Ok r → is_sound (extent_of names) r ≡ true

@@ -12,7 +12,8 @@ use Rattle.rule_syntax.specs.declared.node.Function.TheVariants.{Min}
 use Rattle.rule_syntax.specs.Expression.{Expr, Rule, number, truth, neighbour, variable, now, counted, one, two, call, nil, cons}
 use Rattle.rule_syntax.specs.Meaning.{whole}
 use Rattle.quantity.specs.Bytes.{Bytes}
-use Rattle.source_text.specs.Kinds.{too_large, bad_rule, bad_sort, random_refused, unknown_function, not_a_neighbour, unknown_variable, unknown_neighbour_port}
+use Rattle.rule_syntax.specs.declared.refusal.RuleRefusal.{RuleRefusal}
+use Rattle.rule_syntax.specs.declared.refusal.RuleRefusal.TheVariants.{TooLarge, BadRule, BadSort, RandomRefused, UnknownFunction, NotANeighbour, UnknownVariable, UnknownNeighbourPort}
 use Rattle.rule_syntax.specs.Tokens.{word, number as number', mark, tokens}
 use Rattle.rule_syntax.specs.Scope.{Names}
 use Rattle.rule_syntax.specs.RuleOf.{rule_of}
@@ -30,7 +31,7 @@ with_names variables ports = record line { variables = variables; ports = ports 
 abbrev pub always : Expr → Rule
 always v = record { gives = (0, v) ∷ []; delay = number (whole 100); condition = truth True; sets = [] }
 
-abbrev pub refuses : Bytes → ℕ → Type 0
+abbrev pub refuses : Bytes → RuleRefusal → Type 0
 refuses text kind = rule_of line text ≡ Err kind
 
 -- 1 in so many parentheses
@@ -39,8 +40,8 @@ nested n = codes "{ " ++ replicate n 40 ++ codes "1" ++ replicate n 41 ++ codes 
 
 pub record DepthIsBounded : Type 0 where
   pub many : rule_of line (nested 12) ≡ Ok (always (number (whole 1)))
-  pub too_many : refuses (nested 65) too_large
-  pub most_and_no_rule : refuses (nested 64 ++ codes "1") bad_rule
+  pub too_many : refuses (nested 65) TooLarge
+  pub most_and_no_rule : refuses (nested 64 ++ codes "1") BadRule
 
 pub record RulesAreRead : Type 0 where
   pub pieces : tokens (codes "a1.5<=$b :=1.") ≡ Some (word (codes "a1") ∷ number' (codes ".5") ∷ mark (codes "<=") ∷ mark (codes "$") ∷ word (codes "b") ∷ mark (codes ":=") ∷ number' (codes "1.") ∷ [])
@@ -67,15 +68,15 @@ pub record RulesAreRead : Type 0 where
       Ok (record (always (two Add (variable 1) (variable 0))) { sets = (0, two Add (variable 0) (number (whole 1))) ∷ (1, variable 0) ∷ [] })
   pub gives : rule_of (with_names [] (codes "p" ∷ [])) (codes "{ ~p := (0,0)~p + 1; ~out := (0,0) + (0,0)~p; } 100 { t }") ≡
       Ok (record (always now) { gives = (1, two Add (neighbour 1 1) (number (whole 1))) ∷ (0, two Add (neighbour 1 0) (neighbour 1 1)) ∷ [] })
-  pub random : refuses (codes "{ uniform(0,1) } 100 { t }") random_refused
-  pub stranger : refuses (codes "{ (0,2) } 100 { t }") not_a_neighbour
-  pub deep : refuses (codes "{ (0,0,0) } 100 { t }") not_a_neighbour
-  pub sort : refuses (codes "{ (0,0) + t } 100 { t }") bad_sort
-  pub unknown : refuses (codes "{ power(2,3) } 100 { t }") unknown_function
-  pub short : refuses (codes "1 100") bad_rule
-  pub no_token : refuses (codes "{ power } 1a { t }") bad_rule
-  pub no_variable : refuses (codes "{ $z } 100 { t }") unknown_variable
-  pub no_port : refuses (codes "{ ~q := 1; } 100 { t }") unknown_neighbour_port
-  pub twice : refuses (codes "{ ~q := 1; ~q := 2; } 100 { t }") bad_rule
-  pub arguments : refuses (codes "{ abs(1,2) } 100 { t }") bad_rule
-  pub compared_twice : refuses (codes "1 100 { 1 < 2 < 3 }") bad_rule
+  pub random : refuses (codes "{ uniform(0,1) } 100 { t }") RandomRefused
+  pub stranger : refuses (codes "{ (0,2) } 100 { t }") NotANeighbour
+  pub deep : refuses (codes "{ (0,0,0) } 100 { t }") NotANeighbour
+  pub sort : refuses (codes "{ (0,0) + t } 100 { t }") BadSort
+  pub unknown : refuses (codes "{ power(2,3) } 100 { t }") UnknownFunction
+  pub short : refuses (codes "1 100") BadRule
+  pub no_token : refuses (codes "{ power } 1a { t }") BadRule
+  pub no_variable : refuses (codes "{ $z } 100 { t }") UnknownVariable
+  pub no_port : refuses (codes "{ ~q := 1; } 100 { t }") UnknownNeighbourPort
+  pub twice : refuses (codes "{ ~q := 1; ~q := 2; } 100 { t }") BadRule
+  pub arguments : refuses (codes "{ abs(1,2) } 100 { t }") BadRule
+  pub compared_twice : refuses (codes "1 100 { 1 < 2 < 3 }") BadRule

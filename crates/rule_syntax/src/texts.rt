@@ -1,28 +1,33 @@
 // Laws of rules as texts.
-ghost use Rattle.rule_syntax.specs.RuleOf.{FindsPhrases, FindsRules, HasOneOutcome};
+ghost use Rattle.rule_syntax.specs.RuleOf.{FindsTheGrammar, HasOneOutcome, ReadsOneWay, ReadsSoundRules};
 ghost use Rattle.rule_syntax.specs.TextExamples.{DepthIsBounded, RulesAreRead};
 
-/// The examples of the definitions.
+/// Texts of rules and what they are read to, or why they are refused.
 pub fn examples()
     ensures { RulesAreRead }
-{}
-
-/// Where the function finds what the grammar says, a text has one outcome.
-pub fn one_outcome()
-    ensures { HasOneOutcome }
-{}
-
-/// A phrase that is found is one of the grammar.
-pub fn finds_phrases()
-    ensures { FindsPhrases }
-{}
-
-/// A rule that is found is one of the grammar.
-pub fn finds_rules()
-    ensures { FindsRules }
 {}
 
 /// At most 64 parentheses are open at once.
 pub fn depth_is_bounded()
     ensures { DepthIsBounded }
+{}
+
+/// The grammar is exact: what the reading of tokens finds is a phrase or a rule of the grammar, and each of the grammar is found.
+pub fn the_grammar_is_found()
+    ensures { FindsTheGrammar }
+{}
+
+/// A list of tokens is at most one phrase and at most one rule, so precedence and grouping are theorems of the grammar.
+pub fn tokens_read_one_way()
+    ensures { ReadsOneWay }
+{}
+
+/// A text has one outcome, a rule or a refusal, and it is the one that the order of tests gives over the grammar alone.
+pub fn one_outcome()
+    ensures { HasOneOutcome }
+{}
+
+/// A rule that is read is sound for the offsets, variables and ports that it was read with.
+pub fn read_rules_are_sound()
+    ensures { ReadsSoundRules }
 {}

@@ -52,13 +52,13 @@ abbrev pub computed_of : LeafState → Option Value
 computed_of (box_state b) = None
 computed_of (cell_state c) = option_map (λ (p : PortState). p.computed) (slice_get c.ports 0)
 
+abbrev pub record_of_move : ℕ → Moved → Option StateRecord
+record_of_move leaf stayed = None
+record_of_move leaf (moved s) = Some (record { leaf = leaf; value = computed_of s; next = leaf_next s })
+record_of_move leaf (stopped stop) = None
+
 abbrev pub state_record : ℕ × Moved → Option StateRecord
-state_record m = at m.1
-  where
-    at : Moved → Option StateRecord
-    at stayed = None
-    at (moved s) = Some (record { leaf = m.0; value = computed_of s; next = leaf_next s })
-    at (stopped stop) = None
+state_record m = record_of_move m.0 m.1
 
 abbrev pub out_records : ℕ × List Value → List OutRecord
 out_records p = map (λ v. record { port = p.0; value = v }) p.1
@@ -75,6 +75,11 @@ pub record RunState : Type 0 where
 abbrev pub start : Tree → List Event → RunState
 start tree events = record { leaf_states = map initial_leaf (leaves tree); events = events; last = None; count = 0 }
 
+-- a saved state of this time, with the events after it
+abbrev pub resumed : ℕ → List LeafState → List Event → RunState
+resumed time states events =
+    record { leaf_states = states; events = filter (λ (e : Event). nat_lt time e.time) events; last = None; count = 0 }
+
 abbrev pub first_event : List Event → Option ℕ
 first_event [] = None
 first_event (e ∷ es) = least (Some e.time) (first_event es)
@@ -85,13 +90,13 @@ next_instant s = least (next_of_all s.leaf_states) (first_event s.events)
 abbrev pub event_at : ℕ → ℕ → Event → Option Value
 event_at t port e = if (e.time == t) && (e.port == port) then Some e.value else None
 
+abbrev pub events_at : ℕ → List Event → Option ℕ → List Value
+events_at t events None = []
+events_at t events (Some port) = filter_map (event_at t port) events
+
 -- what stands at an input of top in a cycle: its events of that time, in file order
 abbrev pub at_top : Tree → ℕ → List Event → Word → List Value
-at_top tree t events name = from (position (λ p. bytes_eq p name) (ins_of tree))
-  where
-    from : Option ℕ → List Value
-    from None = []
-    from (Some port) = filter_map (event_at t port) events
+at_top tree t events name = events_at t events (position (λ p. bytes_eq p name) (ins_of tree))
 
 abbrev pub cycle_of : Tree → ℕ → List Bag → (Word → List Value) → List Moved → Cycle
 cycle_of tree t gave top ms =
@@ -175,5 +180,9 @@ run_from (suc n) tree end limit s = and_on s (next_cycle tree end limit s) (run_
 abbrev pub most_cycles : ℕ → ℕ → ℕ
 most_cycles end limit = (end + 1) * limit
 
+-- from a state to the verdict
+abbrev pub run_to : Tree → ℕ → ℕ → RunState → Run
+run_to tree end limit s = run_from (most_cycles end limit) tree end limit s
+
 unfoldable pub run : Tree → List Event → ℕ → ℕ → Run
-run tree events end limit = run_from (most_cycles end limit) tree end limit (start tree events)
+run tree events end limit = run_to tree end limit (start tree events)

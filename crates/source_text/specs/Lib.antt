@@ -1,4 +1,3 @@
 pub mod Tuples
-pub mod Kinds
 pub mod Lines
 pub mod Examples

@@ -1,9 +1,9 @@
--- Tuples of whole numbers in texts.
-use Rattle.std.specs.Prelude.{Option, List, map, ℤ}
-use Rattle.std.specs.List.{slice_split}
+-- Tuples of whole numbers in texts, alone and behind names.
+use Rattle.std.specs.Prelude.{Option, None, List, [], ◌∷◌, ◌++◌, map, ℤ}
+use Rattle.std.specs.List.{slice_split, before_first, after_first}
 use Rattle.std.specs.Bool.{then_some}
-use Rattle.std.specs.Option.{option_and_then}
-use Rattle.quantity.specs.Bytes.{Bytes, is_byte, trimmed, inside, all_there}
+use Rattle.std.specs.Option.{option_map, option_and_then}
+use Rattle.quantity.specs.Bytes.{Bytes, is_byte, is_empty, trimmed, inside, all_there}
 use Rattle.quantity.specs.Digits.{has_length, signed_number}
 
 -- two or three whole numbers of at most 7 digits
@@ -12,3 +12,22 @@ tuple text =
     option_and_then (λ inner. option_and_then (λ numbers. then_some (has_length 2 3 numbers) numbers)
     (all_there (map (λ part. signed_number 7 (trimmed part)) (slice_split (is_byte 44) inner))))
     (inside 40 41 text)
+
+pub record NamedTuple : Type 0 where
+  pub name : Bytes
+  pub place : List ℤ
+
+-- a name, which may be empty, and behind it a tuple without its closing parenthesis
+abbrev pub named_tuple : Bytes → Option NamedTuple
+named_tuple text =
+    option_map (λ is. record { name = before_first (is_byte 40) text; place = is }) (tuple (40 ∷ after_first (is_byte 40) text ++ 41 ∷ []))
+
+-- all parts but the last, where that is blank
+abbrev pub closed_parts : List Bytes → Option (List Bytes)
+closed_parts [] = None
+closed_parts (p ∷ []) = then_some (is_empty (trimmed p)) []
+closed_parts (p ∷ q ∷ ps) = option_map (λ rest. p ∷ rest) (closed_parts (q ∷ ps))
+
+-- the parts that each end with a closing parenthesis, where nothing but blanks follows the last
+abbrev pub parts_of : Bytes → Option (List Bytes)
+parts_of text = closed_parts (slice_split (is_byte 41) text)

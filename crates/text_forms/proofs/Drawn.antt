@@ -89,7 +89,7 @@ kept_or_not : {A : Type 0} (q : A → Bool) (b : Bool) (x : A) (xs : List A) →
 kept_or_not q true x xs e h = and_true _ _ e h
 kept_or_not q false x xs e h = h
 
-all_kept : {A : Type 0} (q p : A → Bool) (xs : List A) → list_all q xs ≡ true → list_all q (filter p xs) ≡ true
+pub all_kept : {A : Type 0} (q p : A → Bool) (xs : List A) → list_all q xs ≡ true → list_all q (filter p xs) ≡ true
 all_kept q p [] h = refl
 all_kept q p (x ∷ xs) h =
     let k = both (q x) (list_all q xs) h in kept_or_not q (p x) x (filter p xs) k.0 (all_kept q p xs k.1)

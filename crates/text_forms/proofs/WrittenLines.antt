@@ -110,7 +110,7 @@ leaf_no c s l h =
     let k = leaf_parts l h in
     list_all-append (λ z. not (z == c)) l.name (at_text l.at) ∙ and_true _ _ (name_no c s.name l.name k.0) (at_no c s l.at k.1)
 
-kept_all : {A : Type 0} (p : A → Bool) (xs : List A) → list_all p xs ≡ true → filter p xs ≡ xs
+pub kept_all : {A : Type 0} (p : A → Bool) (xs : List A) → list_all p xs ≡ true → filter p xs ≡ xs
 kept_all p [] h = refl
 kept_all p (x ∷ xs) h =
     let k = both (p x) (list_all p xs) h in

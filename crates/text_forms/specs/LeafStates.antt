@@ -6,7 +6,7 @@ use Rattle.atomic_face.specs.Classes.{next_of}
 use Rattle.model_tree.specs.Tree.{Tree, Leaf, atomic_leaf, cell_leaf, leaves}
 use Rattle.run_model.specs.CellStep.{PortState}
 use Rattle.run_model.specs.Cycle.{LeafState, box_state, cell_state}
-use Rattle.text_forms.specs.BoxStates.{is_box_state}
+use Rattle.atomic_face.specs.BoxStates.{is_box_state}
 use Rattle.text_forms.specs.LogLine.{is_leaf, is_value}
 use Rattle.text_forms.specs.Lines.{leaf_name}
 

@@ -1,13 +1,13 @@
 pub mod LogLine
 pub mod Lines
 pub mod Frames
-pub mod BoxStates
 pub mod StateText
 pub mod LeafStates
 pub mod StateOf
 pub mod Models
 pub mod ReadBack
 pub mod DrawnLines
+pub mod TextsJoin
 pub mod Examples
 pub mod Rows
 pub mod SavedRows

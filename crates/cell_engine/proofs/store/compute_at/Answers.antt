@@ -2,7 +2,8 @@ use Rattle.std.proofs.Common.{get_or, map, length, sym, ◌∙◌, ap}
 use Rattle.std.proofs.lemmas.Result.{on_ok_weaker, on_err_weaker}
 use Rattle.cell_engine.specs.Beside.{ones_at, first_fit, with_rule}
 use Rattle.cell_engine.specs.Kept.{cell_from}
-use Rattle.cell_engine.proofs.Places.{cell_of_port, cell_written, cell_kept, three_counted, ones_are}
+use Rattle.cell_engine.specs.Store.{one_port}
+use Rattle.cell_engine.proofs.Places.{cell_written, cell_kept, three_counted, ones_are}
 use mir.Val.{bool_byte}
 use Rattle.cell_engine.proofs.store.compute_at.Goals as goal
 
@@ -21,7 +22,7 @@ returns-clause-ok c =
     let rule = sym (sym c.choose.ensures.value ∙ ap (first_fit rs) (counted ∙ ones)) in
     on_ok_weaker c.take.result
     (λ new. cell_written cells i mine c.take.new.self (λ cell. with_rule c.args.t (first_fit rs (ones_at (map cell_from cells) n i)) cell) c.requires.within (ap (λ x. get_or cells i x) c.index-cells-i-2.is)
-    (ap cell_of_port new ∙ ap (λ r. with_rule c.args.t r (cell_from mine)) (sym rule)))
+    (ap one_port new ∙ ap (λ r. with_rule c.args.t r (cell_from mine)) (sym rule)))
     c.take.ensures.ok
 
 pub returns-clause-err : goal.returns-clause-err

@@ -5,7 +5,7 @@ use Rattle.room_edge.proofs.Only.{OnlyComplained-refl, OnlyComplained-trans}
 use Rattle.room_edge.proofs.whole.complain_all.Goals as goal
 
 pub loop-done-init : goal.loop-done-init
-loop-done-init g c = record { within = omega arith; complained = sym (streams-nil _); faults = omega arith; complain_faults = omega arith; only = OnlyComplained-refl _ }
+loop-done-init g c = record { within = omega arith; complained = sym (streams-nil _); counts_faults = refl; counts_complain_faults = refl; only = OnlyComplained-refl _ }
 
 pub loop-done-preserved : goal.loop-done-preserved
 loop-done-preserved g c =
@@ -14,7 +14,7 @@ loop-done-preserved g c =
     record {
       within = search rules;
       complained = streams_piece _ _ _ _ _ _ was.complained step.complained;
-      faults = omega (arith, step.faults);
-      complain_faults = omega (arith, step.complain_faults);
+      counts_faults = step.failed ∙ was.counts_faults;
+      counts_complain_faults = step.complain_failed ∙ was.counts_complain_faults;
       only = OnlyComplained-trans _ _ _ was.only step.only;
     }

@@ -9,8 +9,8 @@ invariant-loop-done g l =
     record {
       within : l.done ≤ length l.bytes;
       complained : now.complained ≡ streams was.complained (take l.done l.bytes);
-      complain_faults : was.complain_faults ≤ now.complain_faults;
-      faults : was.write_faults ≤ now.write_faults;
+      counts_complain_faults : now.complain_faults ≡ was.complain_faults;
+      counts_faults : now.write_faults ≡ was.write_faults;
       only : OnlyComplained was now;
     }
 

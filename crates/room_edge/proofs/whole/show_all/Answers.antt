@@ -5,7 +5,7 @@ use Rattle.room_edge.proofs.Only.{OnlyShown-refl, OnlyShown-trans}
 use Rattle.room_edge.proofs.whole.show_all.Goals as goal
 
 pub loop-done-init : goal.loop-done-init
-loop-done-init g c = record { within = omega arith; shown = sym (streams-nil _); faults = omega arith; only = OnlyShown-refl _ }
+loop-done-init g c = record { within = omega arith; shown = sym (streams-nil _); counts_faults = refl; only = OnlyShown-refl _ }
 
 pub loop-done-preserved : goal.loop-done-preserved
 loop-done-preserved g c =
@@ -14,6 +14,6 @@ loop-done-preserved g c =
     record {
       within = search rules;
       shown = streams_piece _ _ _ _ _ _ was.shown step.shown;
-      faults = omega (arith, step.faults);
+      counts_faults = step.failed ∙ was.counts_faults;
       only = OnlyShown-trans _ _ _ was.only step.only;
     }

@@ -9,7 +9,7 @@ invariant-loop-done g l =
     record {
       within : l.done ≤ length l.bytes;
       shown : now.shown ≡ streams was.shown (take l.done l.bytes);
-      faults : was.write_faults ≤ now.write_faults;
+      counts_faults : now.write_faults ≡ was.write_faults;
       only : OnlyShown was now;
     }
 

@@ -5,7 +5,7 @@ use Rattle.room_edge.proofs.Only.{OnlyMade-refl, OnlyMade-trans}
 use Rattle.room_edge.proofs.whole.write_all.Goals as goal
 
 pub loop-done-init : goal.loop-done-init
-loop-done-init g c = record { within = omega arith; made = sym (adds-nil _ _); created = refl; faults = omega arith; only = OnlyMade-refl _ }
+loop-done-init g c = record { within = omega arith; made = sym (adds-nil _ _); created = refl; counts_faults = refl; only = OnlyMade-refl _ }
 
 pub loop-done-preserved : goal.loop-done-preserved
 loop-done-preserved g c =
@@ -15,6 +15,6 @@ loop-done-preserved g c =
       within = search rules;
       made = adds_piece _ _ _ _ _ _ _ was.made step.made;
       created = step.created ∙ was.created;
-      faults = omega (arith, step.faults);
+      counts_faults = step.failed ∙ was.counts_faults;
       only = OnlyMade-trans _ _ _ was.only step.only;
     }

@@ -10,7 +10,7 @@ invariant-loop-done g l =
       within : l.done ≤ length l.bytes;
       made : now.made ≡ adds was.made l.name (take l.done l.bytes);
       created : now.created ≡ was.created;
-      faults : was.write_faults ≤ now.write_faults;
+      counts_faults : now.write_faults ≡ was.write_faults;
       only : OnlyMade was now;
     }
 

@@ -1,0 +1,123 @@
+-- The settings of a state table: its states, what each state holds, and what it takes.
+use Rattle.std.specs.Prelude.{ℕ, ◌==◌, Bool, false, not, ◌&&◌, Option, Some, None, List, [], ◌∷◌, ◌++◌, map, length, take, drop, ℤ, pos, negsuc, if◌then◌else◌, codes}
+use Rattle.std.specs.List.{filter, filter_map, find, flat_map, list_all, list_any, position, range_with_len}
+use Rattle.std.specs.Option.{option_map, option_and_then, unwrap_or, is_some}
+use Rattle.std.specs.Bool.{then_some}
+use Rattle.std.specs.Str.{bytes_eq}
+use Rattle.quantity.specs.Bytes.{Bytes, words, has_repeat, is_among, all_there}
+use Rattle.quantity.specs.Names.{is_name}
+use Rattle.quantity.specs.Digits.{has_length}
+use Rattle.quantity.specs.Literals.{value_in}
+use Rattle.quantity.specs.Times.{time_in}
+use Rattle.atomic_face.specs.declared.class.Class.TheVariants.{Table}
+use Rattle.atomic_face.specs.declared.params.Param.{Param}
+use Rattle.atomic_face.specs.Words.{word_of}
+use Rattle.atomic_face.specs.Classes.{any_word}
+use Rattle.atomic_face.specs.ClassNames.{class_ports}
+
+abbrev pub with_key : Bytes → List Param → List Param
+with_key key es = filter (λ (e : Param). bytes_eq e.key key) es
+
+abbrev pub value_with : Bytes → List Param → Option Bytes
+value_with key es = option_map (λ (e : Param). e.value) (find (λ (e : Param). bytes_eq e.key key) es)
+
+-- ---- states
+
+abbrev pub are_states : List Bytes → Bool
+are_states names = has_length 1 64 names && list_all is_name names && not (has_repeat names)
+
+abbrev pub states_in : Option Bytes → Option (List Bytes)
+states_in None = Some (codes "idle" ∷ [])
+states_in (Some text) = then_some (are_states (words text)) (words text)
+
+abbrev pub states_of : List Param → Option (List Bytes)
+states_of es = states_in (value_with (codes "states") es)
+
+abbrev pub number_in : List Bytes → Bytes → Option ℕ
+number_in names text = position (bytes_eq text) names
+
+abbrev pub word_in : List Bytes → Bytes → Option ℤ
+word_in names text = option_map (λ n. pos n) (number_in names text)
+
+-- ---- hold and take
+
+-- a literal, ? or this word
+abbrev pub value_or : Bytes → Bytes → Option ℤ
+value_or special text = if bytes_eq text special then Some any_word else option_map word_of (value_in text)
+
+-- what a state holds: a time, the value that it then gives, and the state that follows
+pub record HoldWords : Type 0 where
+  pub state : ℕ
+  pub words : List ℤ
+
+abbrev pub hold_of : Option ℕ → Option (List ℤ) → Option HoldWords
+hold_of (Some state) (Some words) = Some (record { state = state; words = words })
+hold_of state words = None
+
+abbrev pub hold_of_words : List Bytes → List Bytes → Option HoldWords
+hold_of_words names (state ∷ time ∷ value ∷ next ∷ []) =
+    hold_of (number_in names state) (all_there (option_map (λ n. pos n) (time_in time) ∷ value_or (codes "last") value ∷ word_in names next ∷ []))
+hold_of_words names texts = None
+
+abbrev pub hold_in : List Bytes → Param → Option HoldWords
+hold_in names e = hold_of_words names (words e.value)
+
+-- a state, a port, the value that is taken there, and the state that follows
+abbrev pub take_of_words : List Bytes → List Bytes → Option (List ℤ)
+take_of_words names (state ∷ port ∷ value ∷ next ∷ []) =
+    all_there (word_in names state ∷ word_in (class_ports Table) port ∷ value_or (codes "any") value ∷ word_in names next ∷ [])
+take_of_words names texts = None
+
+abbrev pub take_in : List Bytes → Param → Option (List ℤ)
+take_in names e = take_of_words names (words e.value)
+
+-- ---- settings
+
+abbrev pub holds_of : List Bytes → List Param → List HoldWords
+holds_of names es = filter_map (hold_in names) (with_key (codes "hold") es)
+
+abbrev pub hold_words : List HoldWords → ℕ → List ℤ
+hold_words hs state = unwrap_or (option_map (λ (h : HoldWords). h.words) (find (λ (h : HoldWords). h.state == state) hs)) (negsuc 0 ∷ pos 0 ∷ pos 0 ∷ [])
+
+abbrev pub initial_word : List Bytes → List Param → ℤ
+initial_word names es = unwrap_or (option_and_then (word_in names) (value_with (codes "initial") es)) (pos 0)
+
+abbrev pub settings_with : List Bytes → List Param → List ℤ
+settings_with names es =
+    pos (length names) ∷ initial_word names es
+    ∷ (flat_map (hold_words (holds_of names es)) (range_with_len 0 (length names))
+    ++ flat_map (λ ws. ws) (filter_map (take_in names) (with_key (codes "take") es)))
+
+abbrev pub table_settings_of : List Param → List ℤ
+table_settings_of es = settings_with (unwrap_or (states_of es) []) es
+
+-- ---- lines that are off their form
+
+abbrev pub line_unless : Bool → Param → List ℕ
+line_unless is_right e = if is_right then [] else e.line ∷ []
+
+-- a hold of a state that none of those before has
+abbrev pub is_new_hold : List HoldWords → Option HoldWords → Bool
+is_new_hold before None = false
+is_new_hold before (Some h) = not (list_any (λ (k : HoldWords). k.state == h.state) before)
+
+abbrev pub holds_off : List Bytes → List HoldWords → List Param → List ℕ
+holds_off names before [] = []
+holds_off names before (e ∷ es) =
+    line_unless (is_new_hold before (hold_in names e)) e ++ holds_off names (before ++ filter_map (hold_in names) (e ∷ [])) es
+
+-- the 1025th of all holds and takes
+abbrev pub one_too_many : List Param → List ℕ
+one_too_many es =
+    map (λ (e : Param). e.line) (take 1 (drop 1024 (filter (λ (e : Param). is_among (codes "hold" ∷ codes "take" ∷ []) e.key) es)))
+
+-- where the states are off their form, theirs is the only line
+abbrev pub lines_off_with : Option (List Bytes) → List Param → List ℕ
+lines_off_with None es = map (λ (e : Param). e.line) (take 1 (with_key (codes "states") es))
+lines_off_with (Some names) es =
+    flat_map (λ (e : Param). line_unless (is_some (number_in names e.value)) e) (with_key (codes "initial") es)
+    ++ holds_off names [] (with_key (codes "hold") es)
+    ++ flat_map (λ (e : Param). line_unless (is_some (take_in names e)) e) (with_key (codes "take") es) ++ one_too_many es
+
+abbrev pub table_lines_off : List Param → List ℕ
+table_lines_off es = lines_off_with (states_of es) es

@@ -1,0 +1,34 @@
+// Parameters of atomic models, and why a model doesn't take what it is given.
+use quantity::Text;
+
+/// A key with its value, and the number of its line.
+#[derive(Drop)]
+pub struct Param {
+    pub line: u32,
+    pub key: Text,
+    pub value: Text,
+}
+
+/// The parameters of an atomic component, in the order of their lines.
+#[derive(Drop)]
+pub struct Params {
+    pub entries: Vec<Param>,
+}
+
+/// Why a model doesn't take parameters.
+#[derive(Clone, Copy, PartialEq, Eq, Debug)]
+pub enum SettleRefusal {
+    /// The value of a parameter is off its form: the least line of such.
+    BadParameter(u32),
+    /// There is no memory for the settings.
+    Memory,
+}
+
+/// Why a model doesn't take a state.
+#[derive(Clone, Copy, PartialEq, Eq, Debug)]
+pub enum RestoreRefusal {
+    /// The words aren't a state of the class with these settings.
+    BadState,
+    /// There is no memory for the state.
+    Memory,
+}

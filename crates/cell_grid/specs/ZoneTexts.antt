@@ -1,0 +1,63 @@
+-- Zones as texts: a name, and between braces the places and boxes of places that it holds.
+use Rattle.std.specs.Prelude.{Bool, ◌&&◌, nat_eq, nat_le, Option, Some, None, List, [], ◌∷◌, map, length, drop, if◌then◌else◌, codes}
+use Rattle.std.specs.List.{before_first, starts_with}
+use Rattle.std.specs.Option.{option_map, option_and_then}
+use Rattle.std.specs.Bool.{then_some}
+use Rattle.quantity.specs.declared.place.Place.{Place}
+use Rattle.quantity.specs.Bytes.{Bytes, is_byte, is_empty, inside, trimmed, all_there}
+use Rattle.quantity.specs.Names.{is_name}
+use Rattle.source_text.specs.Tuples.{named_tuple, parts_of}
+use Rattle.cell_grid.specs.Space.{Space}
+use Rattle.cell_grid.specs.Region.{Region}
+use Rattle.cell_grid.specs.Places.{place_in}
+
+-- ---- items: a tuple, or two with .. between them
+
+-- a tuple that begins an item, or one behind .. that ends it
+pub data Corner : Type 0 where
+  start : Place → Corner
+  up_to : Place → Corner
+
+abbrev pub bare_place : Space → Bytes → Option Place
+bare_place space part = option_and_then (λ t. option_and_then (place_in space) (then_some (is_empty t.name) t.place)) (named_tuple part)
+
+abbrev pub corner_in : Space → Bytes → Option Corner
+corner_in space part =
+    if starts_with nat_eq part (codes "..") then option_map up_to (bare_place space (drop 2 part))
+    else option_map start (bare_place space (trimmed part))
+
+-- no coordinate of the first passes that of the second
+abbrev pub is_ordered : Place → Place → Bool
+is_ordered p q = nat_le p.row q.row && nat_le p.column q.column && nat_le p.plane q.plane
+
+abbrev pub box : Place → Place → Option (List (Place × Place)) → Option (List (Place × Place))
+box p q rest = option_and_then (λ boxes. then_some (is_ordered p q) ((p, q) ∷ boxes)) rest
+
+abbrev pub boxes_of : List Corner → Option (List (Place × Place))
+boxes_of [] = Some []
+boxes_of (up_to q ∷ cs) = None
+boxes_of (start p ∷ []) = box p p (Some [])
+boxes_of (start p ∷ up_to q ∷ cs) = box p q (boxes_of cs)
+boxes_of (start p ∷ start q ∷ cs) = box p p (boxes_of (start q ∷ cs))
+
+-- at least one box
+abbrev pub some_boxes : List (Place × Place) → Option (List (Place × Place))
+some_boxes [] = None
+some_boxes (b ∷ bs) = Some (b ∷ bs)
+
+abbrev pub boxes_in : Space → Bytes → Option (List (Place × Place))
+boxes_in space text =
+    option_and_then some_boxes (option_and_then boxes_of (option_and_then (λ parts. all_there (map (corner_in space) parts)) (parts_of text)))
+
+-- ---- name { items }
+
+abbrev pub zone_name : Bytes → Bytes
+zone_name text = trimmed (before_first (is_byte 123) text)
+
+abbrev pub zone_items : Bytes → Option Bytes
+zone_items text = inside 123 125 (drop (length (before_first (is_byte 123) text)) text)
+
+abbrev pub zone_in : Space → Bytes → Option Region
+zone_in space text =
+    option_and_then (λ boxes. then_some (is_name (zone_name text)) (record { name = zone_name text; boxes = boxes }))
+    (option_and_then (boxes_in space) (zone_items text))

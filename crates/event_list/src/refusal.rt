@@ -1,0 +1,14 @@
+// Why an event file is refused.
+
+/// Why an event file is refused, with the number of the line.
+#[derive(Clone, Copy, PartialEq, Eq, Debug)]
+pub enum EventRefusal {
+    /// A line that isn't a time, a name and a value.
+    BadEventLine(u32),
+    /// A name that isn't an input of the whole model.
+    UnknownPort(u32),
+    /// The 1048577th event; or a file of more than 16777216 bytes, at line 0.
+    TooLarge(u32),
+    /// There is no memory for the events.
+    Memory,
+}

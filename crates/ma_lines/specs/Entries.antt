@@ -1,0 +1,62 @@
+-- Entries, and the lines that continue them: an entry goes on as long as its braces are open.
+use Rattle.std.specs.Prelude.{ℕ, zero, suc, Bool, List, [], ◌∷◌, ◌++◌, if◌then◌else◌, codes}
+use Rattle.std.specs.List.{fold, before_first, after_first}
+use Rattle.quantity.specs.Bytes.{Bytes, is_byte, begins_with, trimmed, is_among, open_after}
+use Rattle.source_text.specs.Lines.{Line, folded}
+use Rattle.ma_lines.specs.declared.section.Entry.{Entry}
+
+abbrev pub is_heading : Line → Bool
+is_heading l = begins_with 91 l.text
+
+-- ---- braces
+
+-- the braces open after a text, when so many are open before it
+abbrev pub braces_after : ℕ → Bytes → ℕ
+braces_after n text = fold (open_after (is_byte 123) (is_byte 125)) n text
+
+-- the braces open after a line: where none are open before it, an entry's are counted from the left of its value
+abbrev pub braces_after_line : ℕ → Line → ℕ
+braces_after_line zero l = if is_heading l then 0 else braces_after 0 (after_first (is_byte 58) l.text)
+braces_after_line (suc n) l = braces_after (suc n) l.text
+
+-- a line with the number of braces open before it: where some are, it continues the entry before it
+pub record Braced : Type 0 where
+  pub braces : ℕ
+  pub line : Line
+
+abbrev pub braced : ℕ → List Line → List Braced
+braced n [] = []
+braced n (l ∷ ls) = record { braces = n; line = l } ∷ braced (braces_after_line n l) ls
+
+-- ---- the text of the lines that continue an entry
+
+abbrev pub after_space : Bytes → Bytes
+after_space [] = []
+after_space (c ∷ cs) = 32 ∷ c ∷ cs
+
+-- what a line adds, with what the lines behind it add: nothing, where it begins anew
+abbrev pub added : ℕ → Line → Bytes → Bytes
+added zero l more = []
+added (suc n) l more = after_space l.text ++ more
+
+abbrev pub continuation : List Braced → Bytes
+continuation [] = []
+continuation (b ∷ bs) = added b.braces b.line (continuation bs)
+
+-- ---- keys and values
+
+-- the keys whose values keep their letters
+abbrev pub keeps_letters : Bytes → Bool
+keeps_letters key = is_among (codes "initialcellsvalue" ∷ codes "initialmapvalue" ∷ []) key
+
+abbrev pub key_in : Bytes → Bytes
+key_in text = folded (trimmed (before_first (is_byte 58) text))
+
+abbrev pub value_after : Bytes → Bytes
+value_after text = trimmed (after_first (is_byte 58) text)
+
+-- the entry that a line begins, with the text that continues it
+abbrev pub entry_of : Line → Bytes → Entry
+entry_of l more =
+    let value = value_after l.text ++ more in
+    record { line = l.number; key = key_in l.text; value = if keeps_letters (key_in l.text) then value else folded value }

@@ -1,0 +1,111 @@
+-- The sections of a file, or the first line that is refused.
+use Rattle.std.specs.Prelude.{ℕ, ◌==◌, Bool, not, ◌&&◌, ◌||◌, Option, Some, None, List, [], ◌∷◌, ◌++◌, if◌then◌else◌}
+use Rattle.std.specs.declared.result.Result.{Result}
+use Rattle.std.specs.declared.result.Result.TheVariants.{Ok, Err}
+use Rattle.std.specs.List.{list_any, list_all}
+use Rattle.std.specs.Option.{option_or, option_map, option_to_list, unwrap_or}
+use Rattle.quantity.specs.Bytes.{Bytes, is_empty, is_byte, trimmed, inside, is_among}
+use Rattle.quantity.specs.Digits.{is_between}
+use Rattle.source_text.specs.Lines.{Line, lines_of, folded}
+use Rattle.ma_lines.specs.declared.section.Entry.{Entry}
+use Rattle.ma_lines.specs.declared.section.Section.{Section as CodeSection}
+use Rattle.ma_lines.specs.declared.section.LineRefusal.{LineRefusal}
+use Rattle.ma_lines.specs.declared.section.LineRefusal.TheVariants.{BadLine, DuplicateSection}
+use Rattle.ma_lines.specs.Entries.{is_heading, Braced, braced, braces_after_line, continuation, key_in, entry_of}
+
+-- ---- sections
+
+pub record Section : Type 0 where
+  pub line : ℕ
+  pub name : Bytes
+  pub entries : List Entry
+
+-- the section that the code's stands for
+abbrev pub section_of : CodeSection → Section
+section_of s = record { line = s.line; name = s.name; entries = s.entries.items }
+
+abbrev pub has_brackets : Bytes → Bool
+has_brackets text = list_any (λ c. (c == 91) || (c == 93)) text
+
+-- the name between brackets, or none where there is no name
+abbrev pub name_in : Option Bytes → Option Bytes
+name_in None = None
+name_in (Some text) = if has_brackets text || is_empty (trimmed text) then None else Some (folded (trimmed text))
+
+abbrev pub section_name : Line → Option Bytes
+section_name l = name_in (inside 91 93 l.text)
+
+-- ---- pieces: a heading or an entry
+
+pub data Piece : Type 0 where
+  heading : (line : ℕ) (name : Bytes) → Piece
+  item : Entry → Piece
+
+abbrev pub piece_of : Line → Bytes → List Piece
+piece_of l more =
+    if is_empty l.text then []
+    else if is_heading l then heading l.number (unwrap_or (section_name l) []) ∷ []
+    else item (entry_of l more) ∷ []
+
+-- a piece for each line that doesn't continue an entry and isn't empty
+abbrev pub pieces : List Braced → List Piece
+pieces [] = []
+pieces (b ∷ bs) = (if b.braces == 0 then piece_of b.line (continuation bs) else []) ++ pieces bs
+
+-- the entries up to the next section
+abbrev pub first_entries : List Piece → List Entry
+first_entries [] = []
+first_entries (heading line name ∷ ps) = []
+first_entries (item e ∷ ps) = e ∷ first_entries ps
+
+abbrev pub sections_in : List Piece → List Section
+sections_in [] = []
+sections_in (heading line name ∷ ps) = record { line = line; name = name; entries = first_entries ps } ∷ sections_in ps
+sections_in (item e ∷ ps) = sections_in ps
+
+-- ---- refusals
+
+abbrev pub is_allowed : ℕ → Bool
+is_allowed c = (c == 9) || is_between 32 126 c
+
+abbrev pub is_entry : Line → Bool
+is_entry l = list_any (is_byte 58) l.text && not (is_empty (key_in l.text))
+
+-- the name of the section that a line begins
+abbrev pub begun : Braced → List Bytes
+begun b = if b.braces == 0 then option_to_list (section_name b.line) else []
+
+abbrev pub heading_refused : List Bytes → ℕ → Option Bytes → Option LineRefusal
+heading_refused before line None = Some (BadLine line)
+heading_refused before line (Some name) = if is_among before name then Some (DuplicateSection line) else None
+
+-- why a line is refused that stands after sections of these names
+abbrev pub line_refused : List Bytes → Braced → Option LineRefusal
+line_refused before b =
+    if not (list_all is_allowed b.line.text) then Some (BadLine b.line.number)
+    else if not (b.braces == 0) || is_empty b.line.text then None
+    else if is_heading b.line then heading_refused before b.line.number (section_name b.line)
+    else if is_entry b.line && not (is_empty before) then None
+    else Some (BadLine b.line.number)
+
+-- the first line that is refused, after sections of these names
+abbrev pub first_refused : List Bytes → List Braced → Option LineRefusal
+first_refused before [] = None
+first_refused before (b ∷ bs) = option_or (line_refused before b) (first_refused (before ++ begun b) bs)
+
+-- the first line of an entry that is open at the end
+abbrev pub left_open : Option ℕ → ℕ → List Line → Option ℕ
+left_open first n [] = if n == 0 then None else first
+left_open first n (l ∷ ls) = left_open (if n == 0 then Some l.number else first) (braces_after_line n l) ls
+
+abbrev pub lines_refused : List Line → Option LineRefusal
+lines_refused ls = option_or (first_refused [] (braced 0 ls)) (option_map (λ line. BadLine line) (left_open None 0 ls))
+
+-- ---- the whole file
+
+unfoldable pub sections_of : Bytes → Result (List Section) LineRefusal
+sections_of bytes = given (lines_refused (lines_of bytes))
+  where
+    given : Option LineRefusal → Result (List Section) LineRefusal
+    given None = Ok (sections_in (pieces (braced 0 (lines_of bytes))))
+    given (Some r) = Err r

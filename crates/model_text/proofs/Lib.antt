@@ -1,0 +1,8 @@
+mod Basics
+mod Phases
+mod Walked
+mod Linked
+mod Keys
+mod Offsets
+mod GroupOffsets
+mod Values

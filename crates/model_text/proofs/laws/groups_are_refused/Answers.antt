@@ -1,0 +1,23 @@
+use Rattle.std.proofs.Common.{refl}
+use Rattle.ma_lines.specs.Sections.{sections_of}
+use Rattle.rule_syntax.specs.Tokens.{tokens}
+use Rattle.rule_syntax.specs.Reading.{written_rule}
+use Rattle.rule_syntax.specs.RuleOf.{rule_of}
+use Rattle.model_text.specs.ModelOf.{model_of}
+use Rattle.model_text.proofs.laws.groups_are_refused.Goals as goal
+
+pub returns : goal.returns
+unfolding sections_of tokens written_rule rule_of model_of
+returns c =
+    record {
+      outside = refl;
+      other_group = refl;
+      three_ends = refl;
+      own_ends = refl;
+      itself = refl;
+      second_rule = refl;
+      no_blank = refl;
+      keys_before_spaces = refl;
+      spaces_before_rules = refl;
+      least_line = refl;
+    }

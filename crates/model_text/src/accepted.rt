@@ -1,0 +1,38 @@
+// Laws of the models that are accepted.
+ghost use Rattle.model_text.specs.Accepted.{FirstPhaseDecides, PassesEachPhase, ComponentsDiffer, AtomicsFit, LinksAreAccepted};
+ghost use Rattle.model_text.specs.GroupLaws.{OffsetsAreRight, ValuesFit};
+
+/// The first phase that refuses decides, in the order of the phases.
+pub fn first_phase_decides()
+    ensures { FirstPhaseDecides }
+{}
+
+/// A model that is accepted is refused by no phase, and is the tree of the file's sections.
+pub fn accepted_models_pass_each_phase()
+    ensures { PassesEachPhase }
+{}
+
+/// No two components of an accepted model have one name.
+pub fn accepted_components_differ()
+    ensures { ComponentsDiffer }
+{}
+
+/// An accepted model has at most 4096 atomic components.
+pub fn accepted_atomics_fit()
+    ensures { AtomicsFit }
+{}
+
+/// Each link of an accepted model is one that is accepted after those before it.
+pub fn accepted_links_are_accepted_in_order()
+    ensures { LinksAreAccepted }
+{}
+
+/// The groups of an accepted model have at most 128 offsets, each near, and all different.
+pub fn accepted_offsets_are_right()
+    ensures { OffsetsAreRight }
+{}
+
+/// A group has as many initial values as cells, whatever its rows and files.
+pub fn accepted_groups_have_a_value_for_each_cell()
+    ensures { ValuesFit }
+{}

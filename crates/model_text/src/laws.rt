@@ -1,0 +1,74 @@
+// Calls that name the definitions.
+ghost use Rattle.model_text.specs.Examples.{LineIsRead, TableIsRead, QueueIsRead, LifeIsRead, GroupsAreRead};
+ghost use Rattle.model_text.specs.RefusalExamples.{KindsHaveTexts, LineIsRefused, CellIsRefused, DepthIsBounded, ComponentsAreRefused, TablesAreRefused, GroupsAreRefused};
+ghost use Rattle.model_text.specs.FileExamples.{FilesAreLaidOn, FilesAreRefused};
+
+/// The line of three cells is read, in letters of either case.
+pub fn line_is_read()
+    ensures { LineIsRead }
+{}
+
+/// State tables and a queue are read.
+pub fn table_is_read()
+    ensures { TableIsRead }
+{}
+
+/// The queue and its generators are read, and sound.
+pub fn queue_is_read()
+    ensures { QueueIsRead }
+{}
+
+/// Life is read.
+pub fn life_is_read()
+    ensures { LifeIsRead }
+{}
+
+/// Groups with zones, ports and links are read.
+pub fn groups_are_read()
+    ensures { GroupsAreRead }
+{}
+
+/// A kind's text is its number and its name.
+pub fn kinds_have_texts()
+    ensures { KindsHaveTexts }
+{}
+
+/// Changes of the line are refused.
+pub fn line_is_refused()
+    ensures { LineIsRefused }
+{}
+
+/// Changes of one cell are refused.
+pub fn cell_is_refused()
+    ensures { CellIsRefused }
+{}
+
+/// Sections lie at most 16 below the top.
+pub fn depth_is_bounded()
+    ensures { DepthIsBounded }
+{}
+
+/// Components, their parameters and links are refused.
+pub fn components_are_refused()
+    ensures { ComponentsAreRefused }
+{}
+
+/// Tables are refused.
+pub fn tables_are_refused()
+    ensures { TablesAreRefused }
+{}
+
+/// Groups are refused, and the first phase counts.
+pub fn groups_are_refused()
+    ensures { GroupsAreRefused }
+{}
+
+/// Initial files are looked for in their order and laid on.
+pub fn files_are_laid_on()
+    ensures { FilesAreLaidOn }
+{}
+
+/// Initial files and drawings are refused.
+pub fn files_are_refused()
+    ensures { FilesAreRefused }
+{}

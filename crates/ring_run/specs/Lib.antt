@@ -1,0 +1,4 @@
+pub mod Holds
+pub mod RingCycle
+pub mod Standing
+pub mod Steps

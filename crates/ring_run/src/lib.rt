@@ -1,0 +1,10 @@
+//! The run of a ring of cells, where all cells are asked in each cycle.
+#![tactic(auto)]
+
+mod lines;
+pub mod run;
+#[cfg(test)]
+mod tests;
+
+pub use cell_engine::Steps;
+pub use run::{Progress, RingRun, Stop};

@@ -1,0 +1,203 @@
+-- What an expression with bounded numbers means over bounded values is bounded.
+use Rattle.std.proofs.Common.{ℕ, zero, suc, ◌/◌, ◌%◌, ◌≤◌, Bool, true, false, Option, Some, None, List, [], ◌∷◌, length, arith}
+use Rattle.std.specs.Prelude.{IfSome, ⊤, if◌then◌else◌, ◌&&◌, ◌==◌, nat_lt, pos, negsuc, slice_get, unwrap_or}
+use Rattle.std.specs.List.{All}
+use Rattle.std.proofs.lemmas.List.{length-map}
+use Rattle.std.proofs.lemmas.List.Elements.{All-nil, All-cons, All-head, All-tail}
+use Rattle.std.proofs.lemmas.List.Sums.{count_by-le-length}
+use Rattle.quantity.specs.declared.truth.Tri.{Tri}
+use Rattle.quantity.specs.declared.truth.Tri.TheVariants.{True, False, Undef}
+use Rattle.quantity.specs.declared.value.Value.{Value}
+use Rattle.quantity.specs.declared.value.Value.TheVariants.{Undefined, Num}
+use Rattle.quantity.specs.Arithmetic.{IsBounded, same_value}
+use Rattle.rule_syntax.specs.declared.outcome.Answer.{Answer}
+use Rattle.rule_syntax.specs.declared.outcome.Answer.TheVariants.{Num as Number', Logic}
+use Rattle.rule_syntax.specs.declared.node.Unary.{Unary}
+use Rattle.rule_syntax.specs.declared.node.Unary.TheVariants.{Plus, Minus, Not}
+use Rattle.rule_syntax.specs.declared.node.Binary.{Binary}
+use Rattle.rule_syntax.specs.declared.node.Binary.TheVariants.{Imp, Eqv, Or, Xor, And, Cmp, Add, Sub, Mul, Div}
+use Rattle.rule_syntax.specs.declared.node.Count.{Count}
+use Rattle.rule_syntax.specs.declared.node.Count.TheVariants.{Ones, Zeros, Undefs}
+use Rattle.rule_syntax.specs.declared.node.Function.{Function}
+use Rattle.rule_syntax.specs.declared.node.Function.TheVariants.{StateCount, CellPos, If, Ifu, Abs, Sign, Sqrt, Trunc, Round, Fractional, Min, Max, Remainder, Even, Odd, IsInt, IsUndefined}
+use Rattle.rule_syntax.specs.Expression as E
+use Rattle.rule_syntax.specs.Expression.{Expr, Exprs}
+use Rattle.rule_syntax.specs.Meaning.{Sight, value_at, outs, whole, number_in, truth_in, as_answer, how_many, counted, one_meaning, two_meaning, by_truth, state_count, coordinates, cell_position, call_meaning, with_answer, with_answers, in_front, meaning, meanings}
+use Rattle.run_model.specs.Bounds.{IsDelay, HasBoundedNumbers, HaveBoundedNumbers}
+use Rattle.run_model.proofs.BoundedValues.{sum-is, difference-is, product-is, quotient-is, remainder-is, least-is, greatest-is, negative-is, size-is, sign-is, whole_part-is, fraction-is, rounded-is, root-is}
+
+abbrev pub IsBoundedAnswer : Answer → Type 0
+IsBoundedAnswer (Number' v) = IsBounded v
+IsBoundedAnswer (Logic t) = ⊤
+
+-- what a cell sees, where all values that it sees are bounded
+pub record IsBoundedSight (s : Sight) : Type 0 where
+  pub time : IsDelay s.time
+  pub place : (k : ℕ) → unwrap_or (slice_get (coordinates s.place) k) 0 ≤ 1048576
+  pub neighbours : All (All IsBounded) s.neighbours
+  pub few : length s.neighbours ≤ 128
+  pub port : IsBounded s.port
+  pub variables : All IsBounded s.variables
+
+pub at_or : {X : Type 0} (P : X → Type 0) (xs : List X) (k : ℕ) (d : X) → P d → All P xs → P (unwrap_or (slice_get xs k) d)
+at_or P [] k d none h = none
+at_or P (x ∷ xs) zero d none h = All-head P x xs h
+at_or P (x ∷ xs) (suc k) d none h = at_or P xs k d none (All-tail P x xs h)
+
+whole-is : (n : ℕ) → n ≤ 10000000000 → IsBounded (whole n)
+whole-is n le = omega (arith, le)
+
+number-is : (a : Answer) → IsBoundedAnswer a → IsBounded (number_in a)
+number-is (Number' v) h = h
+number-is (Logic t) h = tt
+
+as_answer-is : (o : Option Value) → IfSome o IsBounded → IfSome (as_answer o) IsBoundedAnswer
+as_answer-is None h = tt
+as_answer-is (Some v) h = h
+
+how_many-is : (v : Value) (s : Sight) → IsBoundedSight s → IsBounded (whole (how_many v (outs s)))
+how_many-is v s see =
+    whole-is (how_many v (outs s)) (omega (arith, count_by-le-length (λ w. same_value v w) (outs s), length-map s.neighbours (λ vs. value_at vs 0), see.few))
+
+counted-is : (c : Count) (s : Sight) → IsBoundedSight s → IsBounded (whole (counted c (outs s)))
+counted-is Ones s see = how_many-is (whole 1) s see
+counted-is Zeros s see = how_many-is (whole 0) s see
+counted-is Undefs s see = how_many-is Undefined s see
+
+one-is : (u : Unary) (a : Answer) → IsBoundedAnswer a → IfSome (one_meaning u a) IsBoundedAnswer
+one-is Plus a h = number-is a h
+one-is Minus a h = negative-is (number_in a) (number-is a h)
+one-is Not a h = tt
+
+two-is : (b : Binary) (x y : Answer) → IfSome (two_meaning b x y) IsBoundedAnswer
+two-is Imp x y = tt
+two-is Eqv x y = tt
+two-is Or x y = tt
+two-is Xor x y = tt
+two-is And x y = tt
+two-is (Cmp how) x y = tt
+two-is Add x y = as_answer-is _ (sum-is (number_in x) (number_in y))
+two-is Sub x y = as_answer-is _ (difference-is (number_in x) (number_in y))
+two-is Mul x y = as_answer-is _ (product-is (number_in x) (number_in y))
+two-is Div x y = as_answer-is _ (quotient-is (number_in x) (number_in y))
+
+by_truth-is : (t : Tri) (a b u : Value) → IsBounded a → IsBounded b → IsBounded u → IsBounded (by_truth t a b u)
+by_truth-is True a b u h k l = h
+by_truth-is False a b u h k l = k
+by_truth-is Undef a b u h k l = l
+
+state_count-is : (v : Value) (s : Sight) → IsBoundedSight s → IsBounded (state_count v (outs s))
+state_count-is Undefined s see = tt
+state_count-is (Num x) s see = how_many-is (Num x) s see
+
+cell_position-is : (v : Value) (s : Sight) → IsBoundedSight s → IsBounded (cell_position v s)
+cell_position-is Undefined s see = tt
+cell_position-is (Num (pos n)) s see = test ((n % 100000 == 0) && nat_lt (n / 100000) s.dims)
+  where
+    test : (b : Bool) → IsBounded (if b then whole (unwrap_or (slice_get (coordinates s.place) (n / 100000)) 0) else Undefined)
+    test true = whole-is (unwrap_or (slice_get (coordinates s.place) (n / 100000)) 0) (omega (arith, see.place (n / 100000)))
+    test false = tt
+cell_position-is (Num (negsuc n)) s see = tt
+
+abbrev First : Answer → List Answer → Type 0
+First a xs = All IsBoundedAnswer (a ∷ xs)
+
+first-is : (a : Answer) (xs : List Answer) → First a xs → IsBounded (number_in a)
+first-is a xs h = number-is a (All-head IsBoundedAnswer a xs h)
+
+rest-are : (a : Answer) (xs : List Answer) → First a xs → All IsBoundedAnswer xs
+rest-are a xs h = All-tail IsBoundedAnswer a xs h
+
+call-is : (f : Function) (xs : List Answer) (s : Sight) → All IsBoundedAnswer xs → IsBoundedSight s → IfSome (call_meaning f xs s) IsBoundedAnswer
+call-is StateCount [] s h see = tt
+call-is StateCount (a ∷ []) s h see = state_count-is (number_in a) s see
+call-is StateCount (a ∷ b ∷ rest) s h see = tt
+call-is CellPos [] s h see = tt
+call-is CellPos (a ∷ []) s h see = cell_position-is (number_in a) s see
+call-is CellPos (a ∷ b ∷ rest) s h see = tt
+call-is If [] s h see = tt
+call-is If (a ∷ []) s h see = tt
+call-is If (a ∷ b ∷ []) s h see = tt
+call-is If (a ∷ b ∷ c ∷ []) s h see = let t = rest-are a (b ∷ c ∷ []) h in by_truth-is (truth_in a) (number_in b) (number_in c) (number_in c) (first-is b (c ∷ []) t) (first-is c [] (rest-are b (c ∷ []) t)) (first-is c [] (rest-are b (c ∷ []) t))
+call-is If (a ∷ b ∷ c ∷ d ∷ rest) s h see = tt
+call-is Ifu [] s h see = tt
+call-is Ifu (a ∷ []) s h see = tt
+call-is Ifu (a ∷ b ∷ []) s h see = tt
+call-is Ifu (a ∷ b ∷ c ∷ []) s h see = tt
+call-is Ifu (a ∷ b ∷ c ∷ d ∷ []) s h see = let t = rest-are a (b ∷ c ∷ d ∷ []) h in let u = rest-are b (c ∷ d ∷ []) t in by_truth-is (truth_in a) (number_in b) (number_in c) (number_in d) (first-is b (c ∷ d ∷ []) t) (first-is c (d ∷ []) u) (first-is d [] (rest-are c (d ∷ []) u))
+call-is Ifu (a ∷ b ∷ c ∷ d ∷ e ∷ rest) s h see = tt
+call-is Abs [] s h see = tt
+call-is Abs (a ∷ []) s h see = size-is (number_in a) (first-is a [] h)
+call-is Abs (a ∷ b ∷ rest) s h see = tt
+call-is Sign [] s h see = tt
+call-is Sign (a ∷ []) s h see = sign-is (number_in a) (first-is a [] h)
+call-is Sign (a ∷ b ∷ rest) s h see = tt
+call-is Sqrt [] s h see = tt
+call-is Sqrt (a ∷ []) s h see = root-is (number_in a) (first-is a [] h)
+call-is Sqrt (a ∷ b ∷ rest) s h see = tt
+call-is Trunc [] s h see = tt
+call-is Trunc (a ∷ []) s h see = whole_part-is (number_in a) (first-is a [] h)
+call-is Trunc (a ∷ b ∷ rest) s h see = tt
+call-is Round [] s h see = tt
+call-is Round (a ∷ []) s h see = rounded-is (number_in a) (first-is a [] h)
+call-is Round (a ∷ b ∷ rest) s h see = tt
+call-is Fractional [] s h see = tt
+call-is Fractional (a ∷ []) s h see = fraction-is (number_in a) (first-is a [] h)
+call-is Fractional (a ∷ b ∷ rest) s h see = tt
+call-is Min [] s h see = tt
+call-is Min (a ∷ []) s h see = tt
+call-is Min (a ∷ b ∷ []) s h see = least-is (number_in a) (number_in b) (first-is a (b ∷ []) h) (first-is b [] (rest-are a (b ∷ []) h))
+call-is Min (a ∷ b ∷ c ∷ rest) s h see = tt
+call-is Max [] s h see = tt
+call-is Max (a ∷ []) s h see = tt
+call-is Max (a ∷ b ∷ []) s h see = greatest-is (number_in a) (number_in b) (first-is a (b ∷ []) h) (first-is b [] (rest-are a (b ∷ []) h))
+call-is Max (a ∷ b ∷ c ∷ rest) s h see = tt
+call-is Remainder [] s h see = tt
+call-is Remainder (a ∷ []) s h see = tt
+call-is Remainder (a ∷ b ∷ []) s h see = remainder-is (number_in a) (number_in b) (first-is a (b ∷ []) h) (first-is b [] (rest-are a (b ∷ []) h))
+call-is Remainder (a ∷ b ∷ c ∷ rest) s h see = tt
+call-is Even [] s h see = tt
+call-is Even (a ∷ []) s h see = tt
+call-is Even (a ∷ b ∷ rest) s h see = tt
+call-is Odd [] s h see = tt
+call-is Odd (a ∷ []) s h see = tt
+call-is Odd (a ∷ b ∷ rest) s h see = tt
+call-is IsInt [] s h see = tt
+call-is IsInt (a ∷ []) s h see = tt
+call-is IsInt (a ∷ b ∷ rest) s h see = tt
+call-is IsUndefined [] s h see = tt
+call-is IsUndefined (a ∷ []) s h see = tt
+call-is IsUndefined (a ∷ b ∷ rest) s h see = tt
+
+with_answer-is : (o : Option Answer) (go : Answer → Option Answer) → IfSome o IsBoundedAnswer → ((a : Answer) → IsBoundedAnswer a → IfSome (go a) IsBoundedAnswer) → IfSome (with_answer o go) IsBoundedAnswer
+with_answer-is None go h goes = tt
+with_answer-is (Some a) go h goes = goes a h
+
+with_answers-is : (o : Option (List Answer)) (go : List Answer → Option Answer) → IfSome o (All IsBoundedAnswer) → ((xs : List Answer) → All IsBoundedAnswer xs → IfSome (go xs) IsBoundedAnswer) → IfSome (with_answers o go) IsBoundedAnswer
+with_answers-is None go h goes = tt
+with_answers-is (Some xs) go h goes = goes xs h
+
+in_front-is : (o : Option Answer) (rest : Option (List Answer)) → IfSome o IsBoundedAnswer → IfSome rest (All IsBoundedAnswer) → IfSome (with_answer o (λ x. in_front x rest)) (All IsBoundedAnswer)
+in_front-is None rest h k = tt
+in_front-is (Some a) None h k = tt
+in_front-is (Some a) (Some xs) h k = All-cons IsBoundedAnswer a xs h k
+
+mutual
+  pub meaning-is : (e : Expr) (s : Sight) → HasBoundedNumbers e → IsBoundedSight s → IfSome (meaning e s) IsBoundedAnswer
+  meaning-is (E.number v) s h see = h
+  meaning-is (E.truth t) s h see = tt
+  meaning-is (E.neighbour k p) s h see =
+      at_or IsBounded (unwrap_or (slice_get s.neighbours k) []) p Undefined tt (at_or (All IsBounded) s.neighbours k [] (All-nil IsBounded) see.neighbours)
+  meaning-is (E.variable k) s h see = at_or IsBounded s.variables k Undefined tt see.variables
+  meaning-is E.now s h see = whole-is s.time (omega (arith, see.time))
+  meaning-is E.port_value s h see = see.port
+  meaning-is (E.counted c) s h see = counted-is c s see
+  meaning-is (E.one u a) s h see = with_answer-is (meaning a s) (one_meaning u) (meaning-is a s h see) (one-is u)
+  meaning-is (E.two b a c) s h see =
+      with_answer-is (meaning a s) (λ x. with_answer (meaning c s) (two_meaning b x)) (meaning-is a s h.0 see)
+      (λ x k. with_answer-is (meaning c s) (two_meaning b x) (meaning-is c s h.1 see) (λ y l. two-is b x y))
+  meaning-is (E.call f args) s h see = with_answers-is (meanings args s) (λ xs. call_meaning f xs s) (meanings-are args s h see) (λ xs k. call-is f xs s k see)
+
+  meanings-are : (es : Exprs) (s : Sight) → HaveBoundedNumbers es → IsBoundedSight s → IfSome (meanings es s) (All IsBoundedAnswer)
+  meanings-are E.nil s h see = All-nil IsBoundedAnswer
+  meanings-are (E.cons a rest) s h see = in_front-is (meaning a s) (meanings rest s) (meaning-is a s h.0 see) (meanings-are rest s h.1 see)

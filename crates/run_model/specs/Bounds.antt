@@ -1,0 +1,154 @@
+-- The values of a run are bounded, and its times are small: so each record has a line of a log.
+use Rattle.std.specs.Prelude.{◌≡◌, ℕ, ◌≤◌, false, List, length, ℤ, IfSome, ⊤}
+use Rattle.std.specs.List.{All}
+use Rattle.quantity.specs.declared.value.Value.{Value}
+use Rattle.quantity.specs.Arithmetic.{IsBounded}
+use Rattle.rule_syntax.specs.Expression as E
+use Rattle.rule_syntax.specs.Expression.{Expr, Exprs, Rule}
+use Rattle.cell_grid.specs.Space.{cell_count}
+use Rattle.atomic_face.specs.declared.class.Class.{Class}
+use Rattle.atomic_face.specs.declared.class.Class.TheVariants.{Queue, Generator, Cpu, Counter, Table}
+use Rattle.atomic_face.specs.Words.{time_in, value_in, milliseconds}
+use Rattle.atomic_face.specs.Classes.{first_time, generator_settings, setting, Hold, table_settings, same_word, any_word, queue_state, generator_state, cpu_pairs, counter_state, table_state}
+use Rattle.model_tree.specs.Tree.{Group, Tree, Trees, coupled, cells, atomic, nil, cons}
+use Rattle.run_model.specs.CellStep.{PortState, CellState}
+use Rattle.run_model.specs.Cycle.{LeafState, box_state, cell_state}
+use Rattle.run_model.specs.Run.{Event, PortRecord, StateRecord, OutRecord, Cycle, RunState, Verdict, start}
+use Rattle.run_model.specs.Runs.{Runs}
+
+-- ---- models
+
+-- the most milliseconds of an end and of a delay: 99:59:59:999
+abbrev pub IsDelay : ℕ → Type 0
+IsDelay t = t ≤ 359999999
+
+-- an end and a delay after it
+abbrev pub IsTime : ℕ → Type 0
+IsTime t = t ≤ 719999998
+
+abbrev mutual
+  pub HasBoundedNumbers : Expr → Type 0
+  HasBoundedNumbers (E.number v) = IsBounded v
+  HasBoundedNumbers (E.truth t) = ⊤
+  HasBoundedNumbers (E.neighbour k p) = ⊤
+  HasBoundedNumbers (E.variable k) = ⊤
+  HasBoundedNumbers E.now = ⊤
+  HasBoundedNumbers E.port_value = ⊤
+  HasBoundedNumbers (E.counted c) = ⊤
+  HasBoundedNumbers (E.one u a) = HasBoundedNumbers a
+  HasBoundedNumbers (E.two b a c) = HasBoundedNumbers a × HasBoundedNumbers c
+  HasBoundedNumbers (E.call f args) = HaveBoundedNumbers args
+
+  pub HaveBoundedNumbers : Exprs → Type 0
+  HaveBoundedNumbers E.nil = ⊤
+  HaveBoundedNumbers (E.cons a rest) = HasBoundedNumbers a × HaveBoundedNumbers rest
+
+-- an expression for a port or a variable
+abbrev pub IsBoundedPart : ℕ × Expr → Type 0
+IsBoundedPart p = HasBoundedNumbers p.1
+
+pub record IsBoundedRule (r : Rule) : Type 0 where
+  pub gives : All IsBoundedPart r.gives
+  pub delay : HasBoundedNumbers r.delay
+  pub sets : All IsBoundedPart r.sets
+
+pub record IsBoundedGroup (g : Group) : Type 0 where
+  pub initial : All IsBounded g.initial
+  pub port_values : All IsBounded g.port_values
+  pub variable_values : All IsBounded g.variable_values
+  pub rules : All (All IsBoundedRule) g.rule_sets
+  pub default_delay : IsDelay g.default_delay
+  pub offsets : length g.offsets ≤ 128
+  pub size : cell_count g.space ≤ 1048576
+
+-- a word that stands for a bounded value
+abbrev pub IsValueWord : ℤ → Type 0
+IsValueWord w = IsBounded (value_in w)
+
+-- the value of a hold, unless it is the last value taken
+abbrev pub IsBoundedHold : Hold → Type 0
+IsBoundedHold h = IfSome (time_in h.time) IsDelay × (same_word h.value any_word ≡ false → IsValueWord h.value)
+
+abbrev pub AreBoundedSettings : Class → List ℤ → Type 0
+AreBoundedSettings Queue settings = IsDelay (first_time settings)
+AreBoundedSettings Generator settings =
+    IfSome (time_in (generator_settings settings).start) IsTime × IsDelay (milliseconds (generator_settings settings).period) × IsValueWord (generator_settings settings).value
+AreBoundedSettings Cpu settings = IsDelay (first_time settings)
+AreBoundedSettings Counter settings = IsDelay (milliseconds (setting settings 0)) × IsValueWord (setting settings 1)
+AreBoundedSettings Table settings = All IsBoundedHold (table_settings settings).holds
+
+abbrev mutual
+  pub HasBoundedValues : Tree → Type 0
+  HasBoundedValues (coupled name ins outs children links) = HaveBoundedValues children
+  HasBoundedValues (cells g) = IsBoundedGroup g
+  HasBoundedValues (atomic name class settings) = AreBoundedSettings class settings
+
+  pub HaveBoundedValues : Trees → Type 0
+  HaveBoundedValues nil = ⊤
+  HaveBoundedValues (cons t ts) = HasBoundedValues t × HaveBoundedValues ts
+
+abbrev pub IsBoundedEvent : Event → Type 0
+IsBoundedEvent e = IsBounded e.value
+
+-- ---- states
+
+abbrev pub IsBoundedPair : ℕ × Value → Type 0
+IsBoundedPair p = IsTime p.0 × IsBounded p.1
+
+pub record IsBoundedPort (p : PortState) : Type 0 where
+  pub emitted : IsBounded p.emitted
+  pub computed : IsBounded p.computed
+  pub pairs : All IsBoundedPair p.pairs
+
+pub record IsBoundedCell (c : CellState) : Type 0 where
+  pub ports : All IsBoundedPort c.ports
+  pub variables : All IsBounded c.variables
+
+-- a time and a value, both as words
+abbrev pub AreBoundedWords : ℤ × ℤ → Type 0
+AreBoundedWords p = IfSome (time_in p.0) IsTime × IsValueWord p.1
+
+abbrev pub IsBoundedBox : Class → List ℤ → Type 0
+IsBoundedBox Queue state = IfSome (time_in (queue_state state).due) IsTime × All IsValueWord (queue_state state).waiting
+IsBoundedBox Generator state = IfSome (time_in (generator_state state).next) IsTime × IsValueWord (generator_state state).value
+IsBoundedBox Cpu state = All AreBoundedWords (cpu_pairs state)
+IsBoundedBox Counter state = IfSome (time_in (counter_state state).due) IsTime × IsValueWord (counter_state state).total
+IsBoundedBox Table state = IfSome (time_in (table_state state).due) IsTime × IsValueWord (table_state state).last
+
+abbrev pub IsBoundedLeaf : LeafState → Type 0
+IsBoundedLeaf (box_state b) = AreBoundedSettings b.kind b.settings × IsBoundedBox b.kind b.state
+IsBoundedLeaf (cell_state c) = IsBoundedCell c
+
+pub record IsBoundedState (s : RunState) : Type 0 where
+  pub leaves : All IsBoundedLeaf s.leaf_states
+  pub events : All IsBoundedEvent s.events
+
+-- ---- cycles
+
+abbrev pub IsBoundedPortRecord : PortRecord → Type 0
+IsBoundedPortRecord r = IsBounded r.value
+
+abbrev pub IsBoundedStateRecord : StateRecord → Type 0
+IsBoundedStateRecord r = IfSome r.value IsBounded × IfSome r.next IsTime
+
+abbrev pub IsBoundedOutRecord : OutRecord → Type 0
+IsBoundedOutRecord r = IsBounded r.value
+
+pub record IsBoundedCycle (end : ℕ) (c : Cycle) : Type 0 where
+  pub time : c.time ≤ end
+  pub y : All IsBoundedPortRecord c.y
+  pub n : All IsBoundedPortRecord c.n
+  pub x : All IsBoundedPortRecord c.x
+  pub s : All IsBoundedStateRecord c.s
+  pub out : All IsBoundedOutRecord c.out
+
+-- ---- the laws
+
+abbrev pub StartIsBounded : Type 0
+StartIsBounded =
+    (tree : Tree) (events : List Event) → HasBoundedValues tree → All IsBoundedEvent events → IsBoundedState (start tree events)
+
+abbrev pub RunsAreBounded : Type 0
+RunsAreBounded =
+    (tree : Tree) (end limit : ℕ) (s l : RunState) (cs : List Cycle) (v : Verdict) → HasBoundedValues tree → IsDelay end → IsBoundedState s → Runs tree end limit s cs v l
+    → All (IsBoundedCycle end) cs × IsBoundedState l
