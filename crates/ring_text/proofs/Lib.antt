@@ -1,5 +1,6 @@
 pub mod Lines
 pub mod Rings
 pub mod Places
-pub mod Numbers
 pub mod Ends
+pub mod Written
+pub mod Steps

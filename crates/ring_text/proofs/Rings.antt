@@ -21,29 +21,33 @@ use Rattle.ring_text.proofs.Lines.{has_no, both, and_true, none_in_both, lines_o
 
 -- ---- what parts of a ring are
 
-record RuleFacts (r : RuleParts) : Type 0 where
-  value : is_bit r.value ≡ true
-  digits : all_ascii_digits r.delay ≡ true
-  ones : option_map_or is_count r.ones true ≡ true
+pub record RuleFacts (r : RuleParts) : Type 0 where
+  pub value : is_bit r.value ≡ true
+  pub digits : all_ascii_digits r.delay ≡ true
+  pub short : nat_le (number_in r.delay) 359999999 ≡ true
+  pub ones : option_map_or is_count r.ones true ≡ true
 
-rule_facts : (r : RuleParts) → is_rule r ≡ true → RuleFacts r
+pub rule_facts : (r : RuleParts) → is_rule r ≡ true → RuleFacts r
 rule_facts r h =
     let a = both (is_bit r.value && is_delay r.delay) (option_map_or is_count r.ones true) h in
     let b = both (is_bit r.value) (is_delay r.delay) a.0 in
     let d = both (has_length 1 9 r.delay && all_ascii_digits r.delay) (is_between 1 359999999 (number_in r.delay)) b.1 in
-    record { value = b.0; digits = (both (has_length 1 9 r.delay) (all_ascii_digits r.delay) d.0).1; ones = a.1 }
+    record { value = b.0; short = (both (nat_le 1 (number_in r.delay)) (nat_le (number_in r.delay) 359999999) d.1).1; digits = (both (has_length 1 9 r.delay) (all_ascii_digits r.delay) d.0).1; ones = a.1 }
 
-record RingFacts (p : RingParts) : Type 0 where
-  group : list_all is_of_name p.group ≡ true
-  rules_name : list_all is_of_name p.rules_name ≡ true
-  columns : nat_le (length p.cells) 1024 ≡ true
-  cells : list_all is_bit p.cells ≡ true
-  rules : list_all is_rule p.rules ≡ true
+pub record RingFacts (p : RingParts) : Type 0 where
+  pub group : list_all is_of_name p.group ≡ true
+  pub rules_name : list_all is_of_name p.rules_name ≡ true
+  pub some : nat_le 1 (length p.cells) ≡ true
+  pub columns : nat_le (length p.cells) 1024 ≡ true
+  pub cells : list_all is_bit p.cells ≡ true
+  pub rules : list_all is_rule p.rules ≡ true
+  pub few : nat_le (length p.rules) 1024 ≡ true
+  pub ends : ends_always p.rules ≡ true
 
 of_name : (w : Word) → is_free_name w ≡ true → list_all is_of_name w ≡ true
 of_name w h = (both (has_length 1 64 w) (list_all is_of_name w) (both (is_name w) (not (bytes_eq w (codes "top"))) h).0).1
 
-ring_facts : (p : RingParts) → is_ring p ≡ true → RingFacts p
+pub ring_facts : (p : RingParts) → is_ring p ≡ true → RingFacts p
 ring_facts p h =
     let a = both (is_free_name p.group && is_free_name p.rules_name && not (bytes_eq p.group p.rules_name) && are_cells p.cells) (are_rules p.rules) h in
     let b = both (is_free_name p.group && is_free_name p.rules_name && not (bytes_eq p.group p.rules_name)) (are_cells p.cells) a.0 in
@@ -54,9 +58,12 @@ ring_facts p h =
     record {
       group = of_name p.group e.0;
       rules_name = of_name p.rules_name e.1;
+      some = (both (nat_le 1 (length p.cells)) (nat_le (length p.cells) 1024) f.0).0;
       columns = (both (nat_le 1 (length p.cells)) (nat_le (length p.cells) 1024) f.0).1;
       cells = f.1;
+      ends = g.1;
       rules = (both (has_length 1 1024 p.rules) (list_all is_rule p.rules) g.0).1;
+      few = (both (nat_le 1 (length p.rules)) (nat_le (length p.rules) 1024) (both (has_length 1 1024 p.rules) (list_all is_rule p.rules) g.0).0).1;
     }
 
 -- ---- a rule's line
@@ -133,10 +140,13 @@ rules_again (r ∷ rs) h =
 parts_again : (p : RingParts) → RingFacts p → parts_in (ring_lines p ++ [] ∷ []) ≡ p
 parts_again p f = ap (λ (rs : List RuleParts). record { group = p.group; rules_name = p.rules_name; cells = p.cells; rules = rs }) (rules_again p.rules f.rules)
 
-guessed_again : (p : RingParts) → is_ring p ≡ true → guessed (ring_text p) ≡ Some p
+pub lines_of-text : (p : RingParts) → is_ring p ≡ true → slice_split is_line_feed (ring_text p) ≡ ring_lines p ++ [] ∷ []
 unfolding ring_text
+lines_of-text p h = lines_of-ended (ring_lines p) (lines_no p (ring_facts p h))
+
+guessed_again : (p : RingParts) → is_ring p ≡ true → guessed (ring_text p) ≡ Some p
 guessed_again p h =
-    ap (λ lines. if_ring (parts_in lines)) (lines_of-ended (ring_lines p) (lines_no p (ring_facts p h))) ∙ ap if_ring (parts_again p (ring_facts p h))
+    ap (λ lines. if_ring (parts_in lines)) (lines_of-text p h) ∙ ap if_ring (parts_again p (ring_facts p h))
     ∙ ap (λ b. then_some b p) h
 
 -- ---- the two laws

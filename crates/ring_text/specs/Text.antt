@@ -1,5 +1,5 @@
 -- The text of a ring model, line by line.
-use Rattle.std.specs.Prelude.{ℕ, Option, Some, None, List, ◌∷◌, ◌++◌, length, map, codes, decimal}
+use Rattle.std.specs.Prelude.{ℕ, Option, Some, None, List, [], ◌∷◌, ◌++◌, length, map, codes, decimal}
 use Rattle.std.specs.List.{flat_map}
 use Rattle.quantity.specs.Bytes.{Bytes}
 use Rattle.model_tree.specs.Tree.{Word}
@@ -21,8 +21,9 @@ rule_line r = codes "rule : " ++ r.value ∷ codes " " ++ r.delay ++ codes " " +
 abbrev pub neighbors : Word → Bytes
 neighbors g = codes "neighbors : " ++ g ++ codes "(0,-1) " ++ g ++ codes "(0,0) " ++ g ++ codes "(0,1)"
 
-abbrev pub ring_lines : RingParts → List Bytes
-ring_lines p =
+-- the lines before the rules
+abbrev pub head : RingParts → List Bytes
+head p =
     codes "[top]"
     ∷ (codes "components : " ++ p.group)
     ∷ section p.group
@@ -36,7 +37,10 @@ ring_lines p =
     ∷ (codes "initialrowvalue : 0 " ++ p.cells)
     ∷ (codes "localtransition : " ++ p.rules_name)
     ∷ section p.rules_name
-    ∷ map rule_line p.rules
+    ∷ []
+
+abbrev pub ring_lines : RingParts → List Bytes
+ring_lines p = head p ++ map rule_line p.rules
 
 unfoldable pub ring_text : RingParts → Bytes
 ring_text p = flat_map ended (ring_lines p)

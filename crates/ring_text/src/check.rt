@@ -11,30 +11,10 @@ ghost use Rattle.ring_text.specs.Parts as spec;
 ghost use Rattle.ring_text.specs.Shown.{ring_shown, rule_shown};
 
 use crate::parts::{RingParts, RuleParts};
-
-/// The longest delay of a rule, in milliseconds.
-const MOST_DELAY: u32 = 359_999_999;
+use quantity::digits::whole_number;
 
 /// The most cells of a ring, and the most rules.
 const MOST: usize = 1024;
-
-/// The number that digits stand for, if it is at most `MOST_DELAY`.
-fn number_of(digits: &[u8]) -> Option<u32>
-    ensures { result ≡ number_at_most 359999999 (number_in digits.now) }
-{
-    let mut number = 0u32;
-    for digit in digits {
-        if number > MOST_DELAY / 10 {
-            return None;
-        }
-        number = number * 10 + u32::from(digit.saturating_sub(b'0'));
-    }
-    if number <= MOST_DELAY {
-        Some(number)
-    } else {
-        None
-    }
-}
 
 /// Whether there is something, and at most so much.
 fn has_length(length: usize, most: usize) -> bool
@@ -43,21 +23,16 @@ fn has_length(length: usize, most: usize) -> bool
     1 <= length && length <= most
 }
 
-fn are_digits(text: &[u8]) -> bool
-    ensures { result ≡ list_all is_ascii_digit text.now }
-{
-    text.iter().all(|c| c.is_ascii_digit())
-}
-
 /// The milliseconds of a delay, or none where the text is no delay of a rule.
 pub fn delay_of(text: &[u8]) -> Option<u32>
     ensures { result ≡ then_some (spec.is_delay text.now) (number_in text.now) }
 {
-    if !has_length(text.len(), 9) || !are_digits(text) {
-        return None;
+    let number = whole_number(9, text)?;
+    if (1..=359_999_999).contains(&number) {
+        Some(number as u32)
+    } else {
+        None
     }
-    let number = number_of(text)?;
-    if number >= 1 { Some(number) } else { None }
 }
 
 fn is_of_name(c: u8) -> bool

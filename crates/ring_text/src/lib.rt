@@ -3,4 +3,10 @@
 
 mod check;
 pub mod laws;
+pub mod model;
 mod parts;
+pub mod reading;
+mod text;
+
+pub use model::PlainModel;
+pub use reading::read_ring;
