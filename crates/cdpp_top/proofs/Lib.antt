@@ -5,3 +5,4 @@ pub mod Logs
 pub mod Texts
 pub mod Outcomes
 pub mod Ends
+pub mod TimeBound

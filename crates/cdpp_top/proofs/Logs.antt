@@ -2,15 +2,11 @@
 use Rattle.std.proofs.Common.{◌≡◌, ℕ, List, [], ◌∷◌, ◌++◌, take, drop, Option, Some, None, refl, sym, ◌∙◌, ap, append_assoc, take-append-drop}
 use Rattle.std.specs.Borrow.{Bor}
 use Rattle.std.proofs.lemmas.List.{append-nil}
-use Rattle.std.proofs.lemmas.Grind.{flat_map-append}
-use Rattle.std.proofs.lemmas.List.Elements.{filter-append}
-use Rattle.std.specs.List.{filter, flat_map, list_any}
 use Rattle.quantity.specs.Bytes.{Bytes}
-use Rattle.model_tree.specs.Tree.{Word, Leaf, leaves}
+use Rattle.std.specs.Prelude.{codes}
+use Rattle.model_tree.specs.Tree.{Word}
+use Rattle.text_forms.proofs.Joins.{texts_join}
 use Rattle.run_model.specs.Run.{Cycle, Run, in_front}
-use Rattle.text_forms.specs.Lines.{cycle_lines, ended}
-use Rattle.text_forms.specs.LogLine.{LogLine, line_text, letter_of}
-use Rattle.std.specs.Prelude.{codes, ◌==◌, Bool}
 use Rattle.room_edge.specs.Outside.{Folder, adds, streams}
 use Rattle.room_edge.proofs.Adding.{adds-adds, adds-nil, streams-nil}
 use Rattle.answer_model.specs.Headline.{Begins}
@@ -19,18 +15,8 @@ use Rattle.cdpp_top.specs.AskedOf.{name_of}
 use Rattle.cdpp_top.specs.Logged.{logs}
 use Rattle.cdpp_top.specs.RunOf.{log_of}
 
-abbrev is_wanted : LogLine → Bool
-is_wanted l = list_any (λ c. c == letter_of l) (codes "Y")
-
-abbrev text_of : LogLine → Bytes
-text_of l = ended (line_text l)
-
 pub log_of-append : (ring : Ring) (xs ys : List Cycle) → log_of ring (xs ++ ys) ≡ log_of ring xs ++ log_of ring ys
-log_of-append ring xs ys =
-    let lines : List Cycle → List LogLine = flat_map (cycle_lines (leaves (ring_tree ring))) in
-    ap (λ ls. flat_map text_of (filter is_wanted ls)) (flat_map-append (cycle_lines (leaves (ring_tree ring))) xs ys)
-        ∙ ap (flat_map text_of) (filter-append is_wanted (lines xs) (lines ys))
-        ∙ flat_map-append text_of (filter is_wanted (lines xs)) (filter is_wanted (lines ys))
+log_of-append ring xs ys = texts_join.log (ring_tree ring) (codes "Y") xs ys
 
 -- the lines of the next cycle, and then those of the cycles after it
 pub lines_next : (ring here : Ring) (r later : Run) (c : Cycle) (text : Bytes) → here ≡ ring → r ≡ in_front c later → text ≡ log_of here (c ∷ []) → log_of ring r.cycles ≡ text ++ log_of ring later.cycles

@@ -4,8 +4,7 @@ use Rattle.model_tree.specs.Tree.{Tree}
 use Rattle.run_model.specs.Run.{Cycle, RunState, Verdict, too_many, Next, ended, cycled, next_cycle, run_from, and_on, at_last, in_front, start, run, most_cycles}
 use Rattle.cell_engine.specs.Ring.{Ring, ring_tree}
 use Rattle.ring_run.specs.Standing.{Standing, state_of, next_of}
-use Rattle.ring_run.specs.Standing.{SameSetting}
-use Rattle.ring_run.specs.Steps.{Steps}
+use Rattle.ring_run.specs.Steps.{Keeps, Steps}
 use Rattle.ring_run.specs.declared.run.Stop.{Stop}
 use Rattle.ring_run.specs.declared.run.Stop.TheVariants as stops
 use Rattle.cdpp_top.specs.declared.run.Trouble.TheVariants as troubles
@@ -36,7 +35,7 @@ pub run_stopped : (n : ℕ) (s m : Standing) (c : Cycle) → n ≡ 0 → next_of
 run_stopped n s m c none is = ap (λ k. run_of k s) none ∙ from_none (ring_tree s.ring) s.end s.limit (state_of s) (state_of m) c is
 
 -- the run goes on after a cycle
-pub run_more : (n : ℕ) (s m : Standing) (c : Cycle) → 0 < n → next_of s ≡ cycled c (state_of m) → SameSetting s m → run_of n s ≡ in_front c (run_of (n - 1) m)
+pub run_more : (n : ℕ) (s m : Standing) (c : Cycle) → 0 < n → next_of s ≡ cycled c (state_of m) → Keeps s m → run_of n s ≡ in_front c (run_of (n - 1) m)
 run_more n s m c some is keeps =
     let e : n ≡ suc (n - 1) = omega arith in
     ap (λ k. run_of k s) e ∙ from_cycled (n - 1) (ring_tree s.ring) s.end s.limit (state_of s) (state_of m) c is

@@ -136,7 +136,7 @@ pub fn run_model<R: Room, L: Ledger>(
     ensures only { OnlyOutput (R.outside room.old) (R.outside room.new) }
 {
     let PlainModel { name, group } = model;
-    match RingRun::new(alloc, name, &group, asked.end, LIMIT) {
+    match RingRun::new(alloc, name, group, asked.end, LIMIT) {
         Ok(mut run) => run_ring(alloc, room, asked, &mut run, steps),
         Err(_) => 12,
     }

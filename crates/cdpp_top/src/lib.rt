@@ -7,6 +7,11 @@ mod lines;
 mod log;
 mod program;
 mod run;
+mod sure;
 mod words;
 
 pub use program::cdpp;
+pub use sure::cdpp_surely;
+
+#[cfg(test)]
+mod tests;

@@ -1,6 +1,5 @@
 // The lines that are shown and complained.
-ghost use Rattle.std.specs.Prelude.{◌≡◌, ◌++◌, IfOk, OnOk};
-ghost use Rattle.quantity.specs.Times.{time_text};
+ghost use Rattle.std.specs.Prelude.{◌≡◌, ◌++◌, IfOk};
 ghost use Rattle.text_forms.specs.Lines.{ended};
 ghost use Rattle.cdpp_top.specs.Lines.{end_text};
 ghost use Rattle.answer_model.specs.RunEnd.{many_line};
@@ -23,7 +22,7 @@ pub fn end_line(alloc: Global, end: Time, cycles: u64) -> Result<Vec<u8>, OutOfM
     ensures { IfOk result (λ line. line.items ≡ ended (end_text end cycles)) }
 {
     let mut line = b"end ".to_vec(alloc)?;
-    push_time(end, &mut line)?;
+    end.text(&mut line)?;
     line.extend_from_slice(b" cycles ")?;
     line.extend_from_slice(cycles.to_string(alloc)?.as_bytes())?;
     line.extend_from_slice(b"\n")?;
@@ -37,16 +36,7 @@ pub fn many_cycles_line(alloc: Global, limit: u32, t: Time) -> Result<Vec<u8>, O
     let mut line = b"too many cycles: limit ".to_vec(alloc)?;
     line.extend_from_slice(limit.to_string(alloc)?.as_bytes())?;
     line.extend_from_slice(b" at ")?;
-    push_time(t, &mut line)?;
+    t.text(&mut line)?;
     line.extend_from_slice(b"\n")?;
     Ok(line)
-}
-
-// TEMPORARY
-fn push_time(t: Time, into: &mut Vec<u8>) -> Result<(), OutOfMemory>
-    ensures { OnOk result (into.new.items ≡ into.old.items ++ time_text t) }
-{
-    let _ = t;
-    let _ = into.len();
-    Err(OutOfMemory)
 }

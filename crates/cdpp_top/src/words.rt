@@ -62,13 +62,12 @@ fn matches<'a>(
     }
 }
 
-// TEMPORARY
-fn parse_time(text: &[u8]) -> Option<Time>
+// The end of a run, as it is written.
+fn end_of(text: &str) -> Option<Time>
     ensures value { result ≡ time_in text.now }
     ensures bounded { IfSome result (λ t. t ≤ 359999999) }
 {
-    let _ = text.len();
-    None
+    Time::parse(text.as_bytes())
 }
 
 fn is_named(log: Option<&str>, name: &str) -> bool
@@ -92,7 +91,7 @@ fn asked_in<'a>(matches: &ArgMatches<'a>) -> Option<Asked<'a>>
     let Some(end) = matches.get_str("t") else {
         return None;
     };
-    let Some(end) = parse_time(end.as_bytes()) else {
+    let Some(end) = end_of(end) else {
         return None;
     };
     let log = matches.get_str("l");

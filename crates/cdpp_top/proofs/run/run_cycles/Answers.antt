@@ -48,14 +48,14 @@ returns-then-left-eq0-clause-many g c = λ t e.
     let u = c.in-Cycled.t in
     let step = rw c.in-Cycled.is at c.in-Ok.ensures in
     let same : u ≡ t = cc in
-    let end = run_stopped c.cycles.left c.cycles.run c.cycle.new.self step.0 (omega arith) step.1.next in
-    sym c.cycles.invariant.verdict ∙ ap (λ (r : Run). r.verdict) end ∙ ap too_many (step.1.time ∙ same)
+    let end = run_stopped c.cycles.left c.cycles.run c.cycle.new.self step.cycle (omega arith) step.next in
+    sym c.cycles.invariant.verdict ∙ ap (λ (r : Run). r.verdict) end ∙ ap too_many (step.time ∙ same)
 
 pub returns-then-left-eq0-clause-log_many : goal.returns-then-left-eq0-clause-log_many
 returns-then-left-eq0-clause-log_many g c = λ t e.
     let log = c.cycles.invariant.log in
     let step = rw c.in-Cycled.is at c.in-Ok.ensures in
-    let end = run_stopped c.cycles.left c.cycles.run c.cycle.new.self step.0 (omega arith) step.1.next in
+    let end = run_stopped c.cycles.left c.cycles.run c.cycle.new.self step.cycle (omega arith) step.next in
     log_ended (name_of c.args.log) _ _ log.0 _ _ (ap (λ (r : Run). log_of c.args.run.now.ring r.cycles) end) log.1 log.2
 
 pub returns-in-Err-Failed-clause-part : goal.returns-in-Err-Failed-clause-part
@@ -64,9 +64,9 @@ returns-in-Err-Failed-clause-part g c =
     let m = c.cycle.new.self in
     let was = c.cycles.invariant in
     let step = rw c.in-Cycled.is at c.in-Ok.ensures in
-    let more = run_more c.cycles.left s m step.0 (omega arith) step.1.next step.1.setting in
-    let text_is = c.deref.ensures.value ∙ step.1.log ∙ ap (λ l. l ++ ring.log_of s.ring step.0) c.new-text.ensures.items in
-    let lines = lines_next c.args.run.now.ring s.ring _ (run_of (c.cycles.left - 1) m) step.0 c.deref.result.now was.ring more text_is in
+    let more = run_more c.cycles.left s m step.cycle (omega arith) step.next step.keeps in
+    let text_is = c.deref.ensures.value ∙ step.log ∙ ap (λ l. l ++ ring.log_of s.ring step.cycle) c.new-text.ensures.items in
+    let lines = lines_next c.args.run.now.ring s.ring _ (run_of (c.cycles.left - 1) m) step.cycle c.deref.result.now was.ring more text_is in
     let part = c.write_log.ensures.part in
     log_part (name_of c.args.log) _ _ _ was.log.0 _ _ _ _ part.0 lines was.log.1 was.log.2 part.1 part.2
 
@@ -76,9 +76,9 @@ returns-in-Err-Memory-clause-part g c =
     let m = c.cycle.new.self in
     let was = c.cycles.invariant in
     let step = rw c.in-Cycled.is at c.in-Ok.ensures in
-    let more = run_more c.cycles.left s m step.0 (omega arith) step.1.next step.1.setting in
-    let text_is = c.deref.ensures.value ∙ step.1.log ∙ ap (λ l. l ++ ring.log_of s.ring step.0) c.new-text.ensures.items in
-    let lines = lines_next c.args.run.now.ring s.ring _ (run_of (c.cycles.left - 1) m) step.0 c.deref.result.now was.ring more text_is in
+    let more = run_more c.cycles.left s m step.cycle (omega arith) step.next step.keeps in
+    let text_is = c.deref.ensures.value ∙ step.log ∙ ap (λ l. l ++ ring.log_of s.ring step.cycle) c.new-text.ensures.items in
+    let lines = lines_next c.args.run.now.ring s.ring _ (run_of (c.cycles.left - 1) m) step.cycle c.deref.result.now was.ring more text_is in
     let part = c.write_log.ensures.part in
     log_part (name_of c.args.log) _ _ _ was.log.0 _ _ _ _ part.0 lines was.log.1 was.log.2 part.1 part.2
 
@@ -88,16 +88,16 @@ cycles-preserved g c =
     let m = c.cycle.new.self in
     let was = c.cycles.invariant in
     let step = rw c.in-Cycled.is at c.in-Ok.ensures in
-    let more = run_more c.cycles.left s m step.0 (omega arith) step.1.next step.1.setting in
-    let text_is = c.deref.ensures.value ∙ step.1.log ∙ ap (λ l. l ++ ring.log_of s.ring step.0) c.new-text.ensures.items in
-    let lines = lines_next c.args.run.now.ring s.ring _ (run_of (c.cycles.left - 1) m) step.0 c.deref.result.now was.ring more text_is in
+    let more = run_more c.cycles.left s m step.cycle (omega arith) step.next step.keeps in
+    let text_is = c.deref.ensures.value ∙ step.log ∙ ap (λ l. l ++ ring.log_of s.ring step.cycle) c.new-text.ensures.items in
+    let lines = lines_next c.args.run.now.ring s.ring _ (run_of (c.cycles.left - 1) m) step.cycle c.deref.result.now was.ring more text_is in
     let write = c.write_log.ensures in
     record {
       number = omega arith;
       count = omega (arith, was.count, ap (λ (r : Run). length r.cycles) more);
       verdict = sym (ap (λ (r : Run). r.verdict) more) ∙ was.verdict;
       log = log_more (name_of c.args.log) _ _ _ was.log.0 _ _ _ _ lines was.log.1 was.log.2 c.in-Ok-write_log.ensures.made;
-      ring = step.1.setting.ring ∙ was.ring;
+      ring = step.keeps.ring ∙ was.ring;
       created = write.created ∙ was.created;
       faults = omega (arith, was.faults, write.faults);
       only = OnlyMade-trans _ _ _ was.only write.only;
