@@ -16,7 +16,7 @@ use Rattle.run_model.proofs.Steps.{moves_at, is_cycled}
 use Rattle.run_model.proofs.WaitingCycle.{start-stands}
 use Rattle.run_model.proofs.Ends.{instants-of-runs}
 use Rattle.text_forms.specs.DrawnLines.{AreDrawable, never_fall, have_leaves}
-use Rattle.text_forms.proofs.Written.{and_true}
+use Rattle.quantity.proofs.Written.{and_true}
 use Rattle.text_forms.proofs.Drawn.{all_kept, drawn_from_cycles}
 use Rattle.answer_model.specs.Cdpp.{run_on}
 use Rattle.answer_model.specs.DrawnRuns.{DrawnAgrees}

@@ -3,3 +3,5 @@ pub mod DigitLemmas
 pub mod TimeLemmas
 pub mod Lengths
 pub mod LiteralLemmas
+pub mod Written
+pub mod NothingElse

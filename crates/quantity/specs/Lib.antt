@@ -8,3 +8,5 @@ pub mod Literals
 pub mod Written
 pub mod ValueTexts
 pub mod Times
+pub mod ReadBack
+pub mod Tables

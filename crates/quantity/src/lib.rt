@@ -2,6 +2,7 @@
 #![tactic(auto)]
 
 pub mod digits;
+pub mod laws;
 mod literal;
 pub mod memory;
 pub mod name;

@@ -142,8 +142,6 @@ in_size tree end bytes s false h =
 pub nothing_else : ReadsNothingElse
 nothing_else =
     record {
-      value = λ text v h. (kept text5 text v (guessed_value text) h).1;
-      time = λ text t h. (kept time_text text t (time_of (slice_split (λ c. c == 58) text)) h).1;
       line = λ text l h. let k = kept line_text text l (if_line (line_in (parts_in text))) h in (k.1, line_kept (line_in (parts_in text)) l k.0);
       state = λ tree end bytes s h. in_size tree end bytes s (nat_lt 268435456 (length bytes)) h;
     }

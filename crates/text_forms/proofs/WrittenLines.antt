@@ -13,6 +13,7 @@ use Rattle.std.specs.Str.{bytes_eq}
 use Rattle.std.specs.Str.Parse.{digits_value}
 use Rattle.quantity.specs.declared.value.Value.{Value}
 use Rattle.quantity.specs.declared.value.Value.TheVariants.{Undefined, Num}
+use Rattle.quantity.specs.Arithmetic.{IsBounded}
 use Rattle.quantity.specs.Bytes.{Bytes}
 use Rattle.quantity.specs.Written.{is_digit}
 use Rattle.quantity.specs.Digits.{last_digits, has_length}
@@ -20,7 +21,14 @@ use Rattle.quantity.specs.Times.{hours_text, time_text}
 use Rattle.quantity.specs.ValueTexts.{text5, guessed_value}
 use Rattle.quantity.specs.Names.{is_of_name, is_name}
 use Rattle.text_forms.specs.LogLine.{LeafName, LogLine, given, moved, leaf_text, at_text, state_text, next_text, parts_of, with_strokes, line_text, is_leaf, is_value, is_time, is_letter, is_state, is_next, is_line, has_place, leaf_of, leaf_in, at_in, guessed_time, given_in, moved_in, line_in, if_line, parts_in, read_line}
-use Rattle.text_forms.proofs.Written.{has_no, none_at, both, and_true, split_joined, all_digits, no_digit, no_in_last, hours_digits, time_guess, value_guess, written, body, body_no, negative_text, div_one}
+use Rattle.quantity.proofs.Written.{has_no, none_at, both, and_true, split_joined, all_digits, no_digit, no_in_last, hours_digits, time_guess, value_guess, written, body, body_no, negative_text, div_one}
+
+in_range : (v : Value) → is_value v ≡ true → IsBounded v
+in_range Undefined h = tt
+in_range (Num x) h = grind (arith, nat_tests)
+
+pub value_back : (v : Value) → is_value v ≡ true → guessed_value (text5 v) ≡ Some v
+value_back v h = value_guess v (in_range v h)
 
 -- a byte that stands in no name, number, time or place
 pub record Sep (c : ℕ) : Type 0 where
@@ -202,7 +210,7 @@ given_guess letter t l port v f =
     ap (λ b. cond b (moved_in (guessed_time (time_text t)) (leaf_in (leaf_text l)) port (text5 v)) (given_in letter (guessed_time (time_text t)) (leaf_in (leaf_text l)) port (guessed_value (text5 v)))) (not_moved letter l f.letter_is)
     ∙ ap (λ o. given_in letter o (leaf_in (leaf_text l)) port (guessed_value (text5 v))) (time_guess t (in_time t f.time))
     ∙ ap (λ x. given_in letter (Some t) x port (guessed_value (text5 v))) (leaf_guess l.name l.at k.0 k.1)
-    ∙ ap (λ o. given_in letter (Some t) l port o) (value_guess v f.value)
+    ∙ ap (λ o. given_in letter (Some t) l port o) (value_back v f.value)
 
 pub record MovedFits (t : ℕ) (l : LeafName) (state : Option Value) (next : Option ℕ) : Type 0 where
   pub time : nat_le t 719999998 ≡ true
@@ -235,7 +243,7 @@ moved_no c s k t l state next f =
 
 state_guess : (l : LeafName) (state : Option Value) → is_state l state ≡ true → guessed_value (state_text state) ≡ state
 state_guess l None h = refl
-state_guess l (Some v) h = value_guess v (both (has_place l) (is_value v) h).1
+state_guess l (Some v) h = value_back v (both (has_place l) (is_value v) h).1
 
 next_guess : (next : Option ℕ) → is_next next ≡ true → guessed_time (next_text next) ≡ next
 next_guess None h = refl

@@ -24,8 +24,8 @@ use Rattle.text_forms.specs.Lines.{leaf_name, ended}
 use Rattle.text_forms.specs.StateText.{pair_words, port_words, leaf_words, leaf_line, at_line, leaf_lines, state_lines, text_of_state}
 use Rattle.text_forms.specs.LeafStates.{rises, is_port_state, is_leaf_state, has_values_in_range, is_word, IsStateOf, has_names}
 use Rattle.text_forms.specs.StateOf.{all_in, pairs_in, port_in, ports_in, leaf_state_in, if_leaf_state, words_in, read_leaf, Saved, next_line, just, leaves_in, read_at, state_at, state_of}
-use Rattle.text_forms.proofs.Written.{has_no, none_at, both, and_true, split_joined, all_digits, no_digit, written, at_most, signed_digits, time_read, value_guess}
-use Rattle.text_forms.proofs.WrittenLines.{Sep, blank, join_no, time_no, value_no, name_no, leaf_no}
+use Rattle.quantity.proofs.Written.{has_no, none_at, both, and_true, split_joined, all_digits, no_digit, written, at_most, time_read}
+use Rattle.text_forms.proofs.WrittenLines.{Sep, blank, join_no, time_no, value_no, name_no, leaf_no, value_back}
 use Rattle.text_forms.proofs.Drawn.{line_end}
 
 -- ---- numbers
@@ -43,6 +43,13 @@ number_back : (most n : ℕ) → n ≤ most → n < 10 ^ 64 → number_in most (
 number_back most n le lt =
     ap (λ b. cond b (number_at_most most (digits_value 10 (decimal n))) None) (and_true _ _ (decimal_digits n lt) (decimal_some n lt))
     ∙ ap (number_at_most most) (decimal_is_IsNumeral_wide n lt).1 ∙ at_most most n le
+
+no_minus : (c : ℕ) → is_digit c ≡ true → (c == 45) ≡ false
+no_minus c e = grind (arith, nat_tests)
+
+signed_digits : (most : ℕ) (ds : Bytes) → list_all is_digit ds ≡ true → nat_lt 0 (length ds) ≡ true → signed_in most ds ≡ positive (number_in most ds)
+signed_digits most [] h l = absurd cc
+signed_digits most (d ∷ ds) h l = ap (λ b. cond b (negative (number_in most ds)) (positive (number_in most (d ∷ ds)))) (no_minus d (both (is_digit d) (list_all is_digit ds) h).0)
 
 word_back : (w : ℤ) → is_word w ≡ true → signed_in (10 ^ 17) (signed_decimal w) ≡ Some w
 word_back (pos n) h =
@@ -78,7 +85,7 @@ pairs_back (p ∷ ps) rest h =
     let t = time_small p.0 f.0 in
     let words = flat_map pair_words ps ++ rest in
     ap (λ o. for_some o (λ t. for_some (guessed_value (text5 p.1)) (λ v. for_some (pairs_in (length ps) words) (λ (ps, rest). Some ((t, v) ∷ ps, rest))))) (number_back 719999998 p.0 t.0 t.1)
-    ∙ ap (λ o. for_some o (λ v. for_some (pairs_in (length ps) words) (λ (ps, rest). Some ((p.0, v) ∷ ps, rest)))) (value_guess p.1 f.1)
+    ∙ ap (λ o. for_some o (λ v. for_some (pairs_in (length ps) words) (λ (ps, rest). Some ((p.0, v) ∷ ps, rest)))) (value_back p.1 f.1)
     ∙ ap (λ o. for_some o (λ (ps, rest). Some (p ∷ ps, rest))) (pairs_back ps rest k.1)
 
 -- ---- ports
@@ -96,8 +103,8 @@ port_back p rest h =
     let c = both (is_value p.emitted) (is_value p.computed) b.0 in
     let n = count_small (length p.pairs) a.1 in
     let words = flat_map pair_words p.pairs ++ rest in
-    ap (λ o. for_some o (λ e. for_some (guessed_value (text5 p.computed)) (λ s. for_some (number_in (10 ^ 9) (decimal (length p.pairs))) (λ n. for_some (pairs_in n words) (λ (ps, rest). Some (record { emitted = e; computed = s; pairs = ps }, rest)))))) (value_guess p.emitted c.0)
-    ∙ ap (λ o. for_some o (λ s. for_some (number_in (10 ^ 9) (decimal (length p.pairs))) (λ n. for_some (pairs_in n words) (λ (ps, rest). Some (record { emitted = p.emitted; computed = s; pairs = ps }, rest))))) (value_guess p.computed c.1)
+    ap (λ o. for_some o (λ e. for_some (guessed_value (text5 p.computed)) (λ s. for_some (number_in (10 ^ 9) (decimal (length p.pairs))) (λ n. for_some (pairs_in n words) (λ (ps, rest). Some (record { emitted = e; computed = s; pairs = ps }, rest)))))) (value_back p.emitted c.0)
+    ∙ ap (λ o. for_some o (λ s. for_some (number_in (10 ^ 9) (decimal (length p.pairs))) (λ n. for_some (pairs_in n words) (λ (ps, rest). Some (record { emitted = p.emitted; computed = s; pairs = ps }, rest))))) (value_back p.computed c.1)
     ∙ ap (λ o. for_some o (λ n. for_some (pairs_in n words) (λ (ps, rest). Some (record { emitted = p.emitted; computed = p.computed; pairs = ps }, rest)))) (number_back (10 ^ 9) (length p.pairs) n.0 n.1)
     ∙ ap (λ o. for_some o (λ (ps, rest). Some (record { emitted = p.emitted; computed = p.computed; pairs = ps }, rest))) (pairs_back p.pairs rest b.1)
 
@@ -229,7 +236,7 @@ leaf_guess (cell_leaf g first cell) (cell_state c) f =
     let words = flat_map port_words c.ports ++ map text5 c.variables in
     ap (λ n. for_some (ports_in n words) (λ (ports, rest). for_some (all_in guessed_value rest) (λ xs. Some (cell_state (record { ports = ports; variables = xs }))))) (sym f.0)
     ∙ ap (λ o. for_some o (λ (ports, rest). for_some (all_in guessed_value rest) (λ xs. Some (cell_state (record { ports = ports; variables = xs }))))) (ports_back c.ports (map text5 c.variables) f.1)
-    ∙ ap (λ o. for_some o (λ xs. Some (cell_state (record { ports = c.ports; variables = xs })))) (all_back text5 guessed_value is_value value_guess c.variables f.2)
+    ∙ ap (λ o. for_some o (λ xs. Some (cell_state (record { ports = c.ports; variables = xs })))) (all_back text5 guessed_value is_value value_back c.variables f.2)
 
 words_back : (l : Leaf) (s : LeafState) → list_all (has_no 32) (leaf_words l s) ≡ true → words_in (leaf_line l s) ≡ leaf_words l s
 words_back l (box_state b) h = split_joined 32 (codes "box") (leaf_text (leaf_name l) ∷ map signed_decimal b.state) h

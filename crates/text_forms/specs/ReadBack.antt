@@ -1,27 +1,20 @@
 -- What is written is read back, and nothing else is read.
 use Rattle.std.specs.Prelude.{◌≡◌, ℕ, ◌≤◌, IsTrue, Some, List, length, Ok}
 use Rattle.std.specs.List.{AllZip}
-use Rattle.quantity.specs.declared.value.Value.{Value}
 use Rattle.model_tree.specs.Tree.{Tree, leaves}
 use Rattle.run_model.specs.Cycle.{LeafState}
 use Rattle.quantity.specs.Bytes.{Bytes}
-use Rattle.quantity.specs.ValueTexts.{text5, read_text5}
-use Rattle.quantity.specs.Times.{time_text, read_time}
-use Rattle.text_forms.specs.LogLine.{LogLine, is_line, is_value, line_text, read_line}
+use Rattle.text_forms.specs.LogLine.{LogLine, is_line, line_text, read_line}
 use Rattle.text_forms.specs.LeafStates.{IsStateOf, has_names}
 use Rattle.text_forms.specs.StateText.{text_of_state}
 use Rattle.text_forms.specs.StateOf.{Saved, state_of}
 
 pub record ReadsWhatIsWritten : Type 0 where
-  pub value : (v : Value) → IsTrue (is_value v) → read_text5 (text5 v) ≡ Some v
-  pub time : (t : ℕ) → t ≤ 719999998 → read_time (time_text t) ≡ Some t
   pub line : (l : LogLine) → IsTrue (is_line l) → read_line (line_text l) ≡ Some l
   pub state : (tree : Tree) (t end : ℕ) (states : List LeafState) → IsTrue (has_names tree) → t ≤ end → end ≤ 359999999
       → AllZip (IsStateOf t) (leaves tree) states → length (text_of_state tree t states) ≤ 268435456
       → state_of (text_of_state tree t states) tree end ≡ Ok (record { time = t; states = states })
 
 pub record ReadsNothingElse : Type 0 where
-  pub value : (text : Bytes) (v : Value) → read_text5 text ≡ Some v → text ≡ text5 v
-  pub time : (text : Bytes) (t : ℕ) → read_time text ≡ Some t → text ≡ time_text t
   pub line : (text : Bytes) (l : LogLine) → read_line text ≡ Some l → (text ≡ line_text l) × IsTrue (is_line l)
   pub state : (tree : Tree) (end : ℕ) (bytes : Bytes) (s : Saved) → state_of bytes tree end ≡ Ok s → bytes ≡ text_of_state tree s.time s.states
