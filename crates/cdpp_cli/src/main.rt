@@ -8,12 +8,22 @@ use cell_engine::Steps;
 use room_edge::FolderRoom;
 use std::alloc::Global;
 use std::env;
+use std::io::ErrorKind;
 use std::marker::Brand;
 use std::process::ExitCode;
 use std::sync::ledger::{Blank, Ledger};
 
 const USAGE: u8 = 2;
+const WRITE_FAULT: u8 = 5;
 const MEMORY: u8 = 12;
+
+// Words that are no text are refused as all others that the program doesn't take.
+fn refuse(rt: &impl Eprint) -> u8 {
+    match rt.eprintln("usage: cdpp -m MODEL -t END [-l LOG]") {
+        Ok(()) => USAGE,
+        Err(_) => WRITE_FAULT,
+    }
+}
 
 // Runs the program with a counter of its own.
 fn counted<L: Ledger>(
@@ -33,9 +43,12 @@ fn counted<L: Ledger>(
 fn main(rt: HostRuntime) -> ExitCode {
     let alloc = rt.alloc();
     let mut words: Vec<String> = Vec::new(alloc);
-    let Ok(args) = env::args(&rt) else {
-        let _ = rt.eprintln("usage: cdpp -m MODEL -t END [-l LOG]");
-        return ExitCode::from(USAGE);
+    let args = match env::args(&rt) {
+        Ok(args) => args,
+        Err(error) => match error.kind() {
+            ErrorKind::OutOfMemory => return ExitCode::from(MEMORY),
+            _ => return ExitCode::from(refuse(&rt)),
+        },
     };
     for word in args {
         let Ok(()) = words.push(word) else {
