@@ -81,8 +81,8 @@ fn complain_of<R: Room>(
 ) -> u8
     requires { trouble ≡ Trouble.WriteFault → IsSome log }
     ensures status { IsOr 11 result }
-    ensures many { result ≡ 11 → (t : ℕ) × (trouble.entry ≡ Trouble.TooManyCycles t) × ((R.outside room.new).complained ≡ streams (R.outside room.old).complained (ended (many_line limit t))) }
-    ensures fault { result ≡ 5 → (trouble.entry ≡ Trouble.WriteFault) ⊎ Rose (R.outside room.old).write_faults (R.outside room.new).write_faults }
+    ensures many { result ≡ 11 → (t : ℕ) × (trouble ≡ Trouble.TooManyCycles t) × ((R.outside room.new).complained ≡ streams (R.outside room.old).complained (ended (many_line limit t))) }
+    ensures fault { result ≡ 5 → (trouble ≡ Trouble.WriteFault) ⊎ Rose (R.outside room.old).write_faults (R.outside room.new).write_faults }
     ensures faults { (R.outside room.old).write_faults ≤ (R.outside room.new).write_faults }
     ensures only { OnlyComplained (R.outside room.old) (R.outside room.new) }
 {
@@ -129,8 +129,8 @@ pub fn run_model<R: Room, L: Ledger>(
 ) -> u8
     requires sound { CanRun (ring_of model) }
     requires end { asked.now.end ≤ 359999999 }
-    ensures own { OnFalse (is_free result) (Writes (answer_to_ring (asked_of asked.now) (Some (ring_of model.entry))) (R.outside room.old) (R.outside room.new) result) }
-    ensures part { WritesPart (answer_to_ring (asked_of asked.now) (Some (ring_of model.entry))) (R.outside room.old) (R.outside room.new) }
+    ensures own { OnFalse (is_free result) (Writes (answer_to_ring (asked_of asked.now) (Some (ring_of model))) (R.outside room.old) (R.outside room.new) result) }
+    ensures part { WritesPart (answer_to_ring (asked_of asked.now) (Some (ring_of model))) (R.outside room.old) (R.outside room.new) }
     ensures status { IsRunStatus result }
     ensures fault { result ≡ 5 → Rose (R.outside room.old).write_faults (R.outside room.new).write_faults }
     ensures only { OnlyOutput (R.outside room.old) (R.outside room.new) }

@@ -27,7 +27,6 @@ use std::sync::ledger::Ledger;
 const LONGEST: u32 = 16_777_216;
 
 // Tells that the file is no model that is built yet.
-#[tactic(auto, using(crate::proofs::Texts::refused_is))]
 fn refuse<R: Room>(room: &mut R) -> u8
     ensures status { IsOr 6 result }
     ensures complained { OnFalse (is_free result) ((R.outside room.new).complained ≡ streams (R.outside room.old).complained (ended (refused_text (codes "model") 0 (codes "4 NotBuilt")))) }

@@ -1,4 +1,4 @@
-use Rattle.std.proofs.Common.{◌≡◌, ℕ, Err, length, sym, ◌∙◌, ap}
+use Rattle.std.proofs.Common.{◌≡◌, ℕ, Err, length, sym, ◌∙◌, ap, inl, inr, arith}
 use Rattle.room_edge.specs.Outside.{streams}
 use Rattle.room_edge.proofs.Adding.{streams-nil}
 use Rattle.run_model.specs.Run.{Run, done, too_many, most_cycles}
@@ -106,3 +106,10 @@ returns-clause-part g c =
     part_run a tree r old mid new c.in-Ok.ensures.made c.in-Ok.ensures.created
     (e.part.0, (e.part.1.0, ap (λ (q : Run). log_of s.ring q.cycles) (sym same) ∙ e.part.1.1), w.made ∙ e.part.2) (w.created ∙ e.created)
     (shown_same (answer_to_run a tree r) old new (w.shown ∙ e.only.shown ∙ c.create_log.ensures.only.shown))
+
+pub returns-clause-fault : goal.returns-clause-fault
+returns-clause-fault g c = λ five.
+    elim c.complain_of.ensures.fault five [
+      | inl is ↦ omega (arith, c.in-Err.ensures.fault (ap Err is), c.create_log.ensures.faults, c.complain_of.ensures.faults)
+      | inr rose ↦ omega (arith, rose, c.create_log.ensures.faults, c.run_cycles.ensures.faults)
+    ]
