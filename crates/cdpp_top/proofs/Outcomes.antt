@@ -130,7 +130,7 @@ if_some_from (Some x) P Q step p = step x p
 
 -- the model is the one input
 inputs_ring : (a : Asked) (bytes : Bytes) → (answer_to_ring a (ring_of_file bytes)).inputs ≡ a.model ∷ []
-inputs_ring a bytes = elim ring_of_file bytes as (λ o. (answer_to_ring a o).inputs ≡ a.model ∷ []) [ None ↦ refl | Some ring ↦ refl ]
+inputs_ring a bytes = elim (ring_of_file bytes) as (λ o. (answer_to_ring a o).inputs ≡ a.model ∷ []) [ None ↦ refl | Some ring ↦ refl ]
 
 pub inputs_file : (a : Asked) (o : Option Bytes) → (answer_to_file a o).inputs ≡ a.model ∷ []
 inputs_file a None = refl

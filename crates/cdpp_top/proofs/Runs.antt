@@ -13,18 +13,18 @@ use Rattle.cdpp_top.specs.Answer.{limit, answer_to_run, answer_to_ring}
 use Rattle.cdpp_top.specs.RunOf.{run_of, answer_from}
 use Rattle.cdpp_top.specs.Trouble.{trouble_of}
 
-from_ended : (n : ℕ) (tree : Tree) (end limit : ℕ) (s : RunState) (v : Verdict) → next_cycle tree end limit s ≡ ended v → run_from n tree end limit s ≡ record { cycles = []; verdict = v; left = s }
+from_ended : (n : ℕ) (tree : Tree) (end most : ℕ) (s : RunState) (v : Verdict) → next_cycle tree end most s ≡ ended v → run_from n tree end most s ≡ record { cycles = []; verdict = v; left = s }
 unfolding run_from
-from_ended zero tree end limit s v is = ap (at_last s) is
-from_ended (suc n) tree end limit s v is = ap (λ x. and_on s x (run_from n tree end limit)) is
+from_ended zero tree end most s v is = ap (at_last s) is
+from_ended (suc n) tree end most s v is = ap (λ x. and_on s x (run_from n tree end most)) is
 
-from_cycled : (n : ℕ) (tree : Tree) (end limit : ℕ) (s m : RunState) (c : Cycle) → next_cycle tree end limit s ≡ cycled c m → run_from (suc n) tree end limit s ≡ in_front c (run_from n tree end limit m)
+from_cycled : (n : ℕ) (tree : Tree) (end most : ℕ) (s m : RunState) (c : Cycle) → next_cycle tree end most s ≡ cycled c m → run_from (suc n) tree end most s ≡ in_front c (run_from n tree end most m)
 unfolding run_from
-from_cycled n tree end limit s m c is = ap (λ x. and_on s x (run_from n tree end limit)) is
+from_cycled n tree end most s m c is = ap (λ x. and_on s x (run_from n tree end most)) is
 
-from_none : (tree : Tree) (end limit : ℕ) (s m : RunState) (c : Cycle) → next_cycle tree end limit s ≡ cycled c m → run_from 0 tree end limit s ≡ record { cycles = []; verdict = too_many c.time; left = s }
+from_none : (tree : Tree) (end most : ℕ) (s m : RunState) (c : Cycle) → next_cycle tree end most s ≡ cycled c m → run_from 0 tree end most s ≡ record { cycles = []; verdict = too_many c.time; left = s }
 unfolding run_from
-from_none tree end limit s m c is = ap (at_last s) is
+from_none tree end most s m c is = ap (at_last s) is
 
 -- the run ends here
 pub run_ended : (n : ℕ) (s : Standing) (v : Verdict) → next_of s ≡ ended v → run_of n s ≡ record { cycles = []; verdict = v; left = state_of s }

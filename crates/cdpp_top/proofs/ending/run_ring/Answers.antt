@@ -109,7 +109,7 @@ returns-clause-part g c =
 
 pub returns-clause-fault : goal.returns-clause-fault
 returns-clause-fault g c = λ five.
-    elim c.complain_of.ensures.fault five [
+    elim (c.complain_of.ensures.fault five) [
       | inl is ↦ omega (arith, c.in-Err.ensures.fault (ap Err is), c.create_log.ensures.faults, c.complain_of.ensures.faults)
       | inr rose ↦ omega (arith, rose, c.create_log.ensures.faults, c.run_cycles.ensures.faults)
     ]

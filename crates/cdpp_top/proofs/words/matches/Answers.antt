@@ -1,4 +1,4 @@
-use Rattle.std.proofs.Common.{◌≡◌, ◌∙◌, ap, sym, map}
+use Rattle.std.proofs.Common.{◌≡◌, ◌∙◌, ◌==◌, ap, sym, map, length}
 use Rattle.std.specs.String.{string_bytes}
 use Rattle.clap.specs.Words.{fault_of, matches_of, is_simple, is_simple_and_free}
 use Rattle.cdpp_top.proofs.Taken.{simple, simple_and_free, no_faults, some_fault}
@@ -15,3 +15,10 @@ returns-in-Ok-clause-rows c =
     let words = map string_bytes c.args.words.now in
     let is = c.in_ok-command.ensures in
     (c.in-Ok.ensures.matches (ap is_simple is ∙ simple)).0 ∙ ap (λ x. matches_of x words) is
+
+pub returns-clause-taken : goal.returns-clause-taken
+returns-clause-taken c =
+    let words = map string_bytes c.args.words.now in
+    let is = c.in_ok-command.ensures in
+    let has = c.in-Err.ensures.kinds (ap is_simple_and_free is ∙ simple_and_free) in
+    some_fault _ c.in-Err.error has (λ e. c.in_default.not-OutOfMemory (c.kind.ensures ∙ e)) ∙ ap (λ x. length (fault_of x words) == 0) is
