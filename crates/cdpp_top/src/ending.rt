@@ -64,6 +64,7 @@ fn complain_many<R: Room>(alloc: Global, room: &mut R, t: Time) -> u8
     ensures status { IsOr 11 result }
     ensures complained { result ≡ 11 → (R.outside room.new).complained ≡ streams (R.outside room.old).complained (ended (many_line limit t)) }
     ensures fault { result ≡ 5 → Rose (R.outside room.old).write_faults (R.outside room.new).write_faults }
+    ensures faults { (R.outside room.old).write_faults ≤ (R.outside room.new).write_faults }
     ensures only { OnlyComplained (R.outside room.old) (R.outside room.new) }
 {
     let Ok(line) = many_cycles_line(alloc, LIMIT, t) else {
@@ -137,7 +138,10 @@ pub fn run_model<R: Room, L: Ledger>(
 {
     let PlainModel { name, group } = model;
     match RingRun::new(alloc, name, group, asked.end, LIMIT) {
-        Ok(mut run) => run_ring(alloc, room, asked, &mut run, steps),
+        Ok(run) => {
+            let mut run = run;
+            run_ring(alloc, room, asked, &mut run, steps)
+        }
         Err(_) => 12,
     }
 }

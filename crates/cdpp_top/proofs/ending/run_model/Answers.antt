@@ -10,7 +10,7 @@ use Rattle.cdpp_top.proofs.Outcomes.{part_none}
 use Rattle.cdpp_top.proofs.ending.run_model.Goals as goal
 
 pub new-requires-clause-last : goal.new-requires-clause-last
-new-requires-clause-last g c = subst IsTrue (ends_same _) c.requires.sound.ends
+new-requires-clause-last g c = subst IsTrue (ends_same (ring_of c.args.model).rules) c.requires.sound.ends
 
 pub returns-in-Ok-clause-own : goal.returns-in-Ok-clause-own
 returns-in-Ok-clause-own g c =
@@ -28,5 +28,5 @@ returns-in-Ok-clause-part g c =
     let same = same_answer (asked_of c.args.asked.now) c.in-Ok.run (ring_of c.args.model) e.ring e.end e.limit e.state in
     subst (λ a. WritesPart a old new) same c.run_ring.ensures.part
 
-pub returns-clause-part : goal.returns-clause-part
-returns-clause-part g c = part_none _ _ _ refl refl refl
+pub returns-in-Err-clause-part : goal.returns-in-Err-clause-part
+returns-in-Err-clause-part g c = part_none _ _ _ refl refl refl

@@ -1,4 +1,4 @@
-use Rattle.std.proofs.Common.{◌≡◌, ℕ, Err, length, sym, ◌∙◌, ap, inl, inr, arith}
+use Rattle.std.proofs.Common.{◌≡◌, ℕ, Err, length, sym, ◌∙◌, ap}
 use Rattle.room_edge.specs.Outside.{streams}
 use Rattle.room_edge.proofs.Adding.{streams-nil}
 use Rattle.run_model.specs.Run.{Run, done, too_many, most_cycles}
@@ -39,7 +39,7 @@ returns-in-Ok-run_cycles-clause-own g c =
     let new = g.R.Room.outside c.show_end.new.room in
     let e = c.in-Ok-run_cycles.ensures in
     let w = c.show_end.ensures in
-    let same : run_of c.most_cycles.result s ≡ r = ap (λ n. run_of n s) c.most_cycles.ensures in
+    let same : run_of c.most_cycles-most.result s ≡ r = ap (λ n. run_of n s) c.most_cycles-most.ensures in
     let said = said_done a tree r (ap (λ (q : Run). q.verdict) (sym same) ∙ e.done) in
     let count : c.in-Ok-run_cycles.cycles ≡ length r.cycles = e.cycles ∙ ap (λ (q : Run). length q.cycles) same in
     own_at c.show_end.result 0 (λ given. Writes (answer_to_run a tree r) old new given) w.status (λ zero.
@@ -60,7 +60,7 @@ returns-in-Ok-run_cycles-clause-part g c =
     let new = g.R.Room.outside c.show_end.new.room in
     let e = c.in-Ok-run_cycles.ensures in
     let w = c.show_end.ensures in
-    let same : run_of c.most_cycles.result s ≡ r = ap (λ n. run_of n s) c.most_cycles.ensures in
+    let same : run_of c.most_cycles-most.result s ≡ r = ap (λ n. run_of n s) c.most_cycles-most.ensures in
     let said = said_done a tree r (ap (λ (q : Run). q.verdict) (sym same) ∙ e.done) in
     let count : c.in-Ok-run_cycles.cycles ≡ length r.cycles = e.cycles ∙ ap (λ (q : Run). length q.cycles) same in
     let line = ap (λ (x : Said). x.shown) said ∙ sym (ap (λ k. ended (end_text a.end k)) count) in
@@ -68,8 +68,8 @@ returns-in-Ok-run_cycles-clause-part g c =
     (e.part.0, (e.part.1.0, ap (λ (q : Run). log_of s.ring q.cycles) (sym same) ∙ e.part.1.1), w.made ∙ e.part.2) (w.created ∙ e.created)
     (w.part.0, (w.part.1.0, line ∙ w.part.1.1), w.part.2 ∙ ap (λ t. streams t w.part.0) (e.only.shown ∙ c.create_log.ensures.only.shown))
 
-pub returns-clause-own : goal.returns-clause-own
-returns-clause-own g c =
+pub returns-in-Err-clause-own : goal.returns-in-Err-clause-own
+returns-in-Err-clause-own g c =
     let a = asked_of c.args.asked.now in
     let s = c.args.run.now in
     let tree = ring_tree s.ring in
@@ -79,7 +79,7 @@ returns-clause-own g c =
     let new = g.R.Room.outside c.complain_of.new.room in
     let e = c.in-Err.ensures in
     let w = c.complain_of.ensures in
-    let same : run_of c.most_cycles.result s ≡ r = ap (λ n. run_of n s) c.most_cycles.ensures in
+    let same : run_of c.most_cycles-most.result s ≡ r = ap (λ n. run_of n s) c.most_cycles-most.ensures in
     own_at c.complain_of.result 11 (λ given. Writes (answer_to_run a tree r) old new given) w.status (λ own.
     let many = w.many own in
     let t = many.0 in
@@ -91,8 +91,8 @@ returns-clause-own g c =
     (w.only.shown ∙ e.only.shown ∙ c.create_log.ensures.only.shown ∙ sym (streams-nil old.shown) ∙ ap (λ (x : Said). streams old.shown x.shown) (sym said))
     (many.2 ∙ ap (λ l. streams l (ended (many_line limit t))) (e.only.complained ∙ c.create_log.ensures.only.complained) ∙ ap (λ (x : Said). streams old.complained x.complained) (sym said)))
 
-pub returns-clause-part : goal.returns-clause-part
-returns-clause-part g c =
+pub returns-in-Err-clause-part : goal.returns-in-Err-clause-part
+returns-in-Err-clause-part g c =
     let a = asked_of c.args.asked.now in
     let s = c.args.run.now in
     let tree = ring_tree s.ring in
@@ -102,14 +102,7 @@ returns-clause-part g c =
     let new = g.R.Room.outside c.complain_of.new.room in
     let e = c.run_cycles.ensures in
     let w = c.complain_of.ensures.only in
-    let same : run_of c.most_cycles.result s ≡ r = ap (λ n. run_of n s) c.most_cycles.ensures in
+    let same : run_of c.most_cycles-most.result s ≡ r = ap (λ n. run_of n s) c.most_cycles-most.ensures in
     part_run a tree r old mid new c.in-Ok.ensures.made c.in-Ok.ensures.created
     (e.part.0, (e.part.1.0, ap (λ (q : Run). log_of s.ring q.cycles) (sym same) ∙ e.part.1.1), w.made ∙ e.part.2) (w.created ∙ e.created)
     (shown_same (answer_to_run a tree r) old new (w.shown ∙ e.only.shown ∙ c.create_log.ensures.only.shown))
-
-pub returns-clause-fault : goal.returns-clause-fault
-returns-clause-fault g c = λ five.
-    elim (c.complain_of.ensures.fault five) [
-      | inl is ↦ omega (arith, c.in-Err.ensures.fault (ap Err is), c.create_log.ensures.faults, c.complain_of.ensures.faults)
-      | inr rose ↦ omega (arith, rose, c.create_log.ensures.faults, c.run_cycles.ensures.faults)
-    ]

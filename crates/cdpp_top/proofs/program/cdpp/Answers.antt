@@ -64,8 +64,8 @@ returns-in-Ok-None-clause-part g c =
     let w = c.complain.ensures.only in
     if_some_all old.files (λ files. WritesPart (answer words files) old new) (λ files. part_none (answer words files) old new w.made w.created w.shown)
 
-pub returns-clause-part : goal.returns-clause-part
-returns-clause-part g c =
+pub returns-in-Err-clause-part : goal.returns-in-Err-clause-part
+returns-in-Err-clause-part g c =
     let words = map string_bytes c.args.words.now in
     let old = g.R.Room.outside c.args.room.now in
     if_some_all old.files (λ files. WritesPart (answer words files) old old) (λ files. part_none (answer words files) old old refl refl refl)
