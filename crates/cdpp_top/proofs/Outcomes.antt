@@ -71,7 +71,9 @@ begins_all (Some name) part whole begins = (refl, begins, tt)
 
 -- the log is the one file
 made_run : (a : Asked) (tree : Tree) (r : Run) → (answer_to_run a tree r).made ≡ file_if a.log (log_bytes tree (codes "Y") r.cycles)
-made_run a tree r = append-nil (file_if a.log (log_bytes tree (codes "Y") r.cycles))
+made_run a tree r =
+    let log = file_if a.log (log_bytes tree (codes "Y") r.cycles) in
+    append-nil ((log ++ []) ++ []) ∙ append-nil (log ++ []) ∙ append-nil log
 
 -- a part of the log was written
 pub part_run : (a : Asked) (tree : Tree) (r : Run) (old mid new : Outside) → mid.made ≡ with_log a.log old.made → mid.created ≡ old.created ++ option_to_list a.log

@@ -17,7 +17,7 @@ returns-in-Ok-clause-own g c =
     let e = c.in-Ok.ensures in
     let old = g.R.Room.outside c.args.room.now in
     let new = g.R.Room.outside c.run_ring.new.room in
-    let same = same_answer (asked_of c.args.asked.now) c.in-Ok.run (ring_of c.args.model) e.ring e.end e.limit e.state in
+    let same = same_answer (asked_of c.args.asked.now) c.in-Ok.run' (ring_of c.args.model) e.ring e.end e.limit e.state in
     subst (λ a. OnFalse (is_free c.run_ring.result) (Writes a old new c.run_ring.result)) same c.run_ring.ensures.own
 
 pub returns-in-Ok-clause-part : goal.returns-in-Ok-clause-part
@@ -25,7 +25,7 @@ returns-in-Ok-clause-part g c =
     let e = c.in-Ok.ensures in
     let old = g.R.Room.outside c.args.room.now in
     let new = g.R.Room.outside c.run_ring.new.room in
-    let same = same_answer (asked_of c.args.asked.now) c.in-Ok.run (ring_of c.args.model) e.ring e.end e.limit e.state in
+    let same = same_answer (asked_of c.args.asked.now) c.in-Ok.run' (ring_of c.args.model) e.ring e.end e.limit e.state in
     subst (λ a. WritesPart a old new) same c.run_ring.ensures.part
 
 pub returns-in-Err-clause-part : goal.returns-in-Err-clause-part
