@@ -14,7 +14,9 @@ use std::process::ExitCode;
 use std::sync::ledger::{Blank, Ledger};
 
 const USAGE: u8 = 2;
+
 const WRITE_FAULT: u8 = 5;
+
 const MEMORY: u8 = 12;
 
 // Words that are no text are refused as all others that the program doesn't take.

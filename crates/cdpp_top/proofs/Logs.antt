@@ -22,7 +22,7 @@ log_of-append ring xs ys = texts_join.log (ring_tree ring) (codes "Y") xs ys
 pub lines_next : (ring here : Ring) (r later : Run) (c : Cycle) (text : Bytes) → here ≡ ring → r ≡ in_front c later → text ≡ log_of here (c ∷ []) → log_of ring r.cycles ≡ text ++ log_of ring later.cycles
 lines_next ring here r later c text here_is is text_is =
     ap (λ (q : Run). log_of ring q.cycles) is ∙ log_of-append ring (c ∷ []) later.cycles
-        ∙ ap (λ l. l ++ log_of ring later.cycles) (sym (text_is ∙ ap (λ q. log_of q (c ∷ [])) here_is))
+    ∙ ap (λ l. l ++ log_of ring later.cycles) (sym (text_is ∙ ap (λ q. log_of q (c ∷ [])) here_is))
 
 pub logs-nil : (log : Option Word) (made : Option Folder) → logs log made [] ≡ made
 logs-nil None made = refl

@@ -1,5 +1,5 @@
 -- What words ask for, by whether the command takes them.
-use Rattle.std.proofs.Common.{◌≡◌, ap, Bool, true, false, List, Option, None}
+use Rattle.std.proofs.Common.{◌≡◌, ap, Bool, true, false, List, None}
 use Rattle.std.specs.Prelude.{if◌then◌else◌}
 use Rattle.clap.specs.Words.{Text, matches_of, rows_of, first_of, first_value}
 use Rattle.clap.specs.declared.parser.matches.Found.{Found}

@@ -1,5 +1,5 @@
 -- The answer of a run, from what its calls did.
-use Rattle.std.proofs.Common.{◌≡◌, ◌⊎◌, inl, inr, ℕ, List, [], ◌∷◌, ◌++◌, length, Bool, true, false, Option, Some, None, refl, sym, ◌∙◌, ap, subst, arith}
+use Rattle.std.proofs.Common.{◌≡◌, inl, inr, ℕ, List, [], ◌∷◌, ◌++◌, length, Bool, true, false, Option, Some, None, refl, sym, ◌∙◌, ap, subst, arith}
 use Rattle.std.specs.Bool.{OnFalse}
 use Rattle.std.specs.Prelude.{Contains, IfSome, codes, nat_lt, ◌<◌, ◌≤◌, if◌then◌else◌}
 use Rattle.std.proofs.lemmas.Bool.{le-ltb}
@@ -10,13 +10,13 @@ use Rattle.std.specs.Option.{option_to_list}
 use Rattle.std.proofs.lemmas.List.{append-nil, length_push, get_or_push}
 use Rattle.quantity.specs.Bytes.{Bytes}
 use Rattle.model_tree.specs.Tree.{Word, Tree}
-use Rattle.run_model.specs.Run.{Cycle, Run, Verdict, done, too_many}
-use Rattle.text_forms.specs.Lines.{log_bytes, ended}
+use Rattle.run_model.specs.Run.{Run, done, too_many}
+use Rattle.text_forms.specs.Lines.{log_bytes}
 use Rattle.room_edge.specs.Outside.{Folder, Outside, OnlyInput, streams}
 use Rattle.room_edge.proofs.Adding.{adds-puts, streams-nil}
 use Rattle.answer_model.specs.Answer.{Answer, names}
 use Rattle.answer_model.specs.Headline.{Writes, WritesPart, is_free, puts_all, Begins, BeginFiles}
-use Rattle.answer_model.specs.RunEnd.{Said, said, shows, complains, many_line, end_line}
+use Rattle.answer_model.specs.RunEnd.{said, shows, complains, many_line}
 use Rattle.answer_model.specs.RunFiles.{file_if}
 use Rattle.cdpp_top.specs.Form.{Asked}
 use Rattle.cdpp_top.specs.Answer.{limit, with_defaults, answer_to_run, answer_to_file, answer_to_ring, ring_of_file}

@@ -1,7 +1,7 @@
 -- What is left of a run, before and after a cycle.
 use Rattle.std.proofs.Common.{◌≡◌, ℕ, zero, suc, ◌-◌, ◌<◌, List, [], Some, Err, sym, ◌∙◌, ap, arith}
 use Rattle.model_tree.specs.Tree.{Tree}
-use Rattle.run_model.specs.Run.{Cycle, RunState, Verdict, too_many, Next, ended, cycled, next_cycle, run_from, and_on, at_last, in_front, start, run, most_cycles}
+use Rattle.run_model.specs.Run.{Cycle, RunState, Verdict, too_many, ended, cycled, next_cycle, run_from, and_on, at_last, in_front, start, run, most_cycles}
 use Rattle.cell_engine.specs.Ring.{Ring, ring_tree}
 use Rattle.ring_run.specs.Standing.{Standing, state_of, next_of}
 use Rattle.ring_run.specs.Steps.{Keeps, Steps}
@@ -39,7 +39,7 @@ pub run_more : (n : ℕ) (s m : Standing) (c : Cycle) → 0 < n → next_of s �
 run_more n s m c some is keeps =
     let e : n ≡ suc (n - 1) = omega arith in
     ap (λ k. run_of k s) e ∙ from_cycled (n - 1) (ring_tree s.ring) s.end s.limit (state_of s) (state_of m) c is
-        ∙ (λ i. in_front c (run_from (n - 1) (ring_tree (sym keeps.ring i)) (sym keeps.end i) (sym keeps.limit i) (state_of m)))
+    ∙ (λ i. in_front c (run_from (n - 1) (ring_tree (sym keeps.ring i)) (sym keeps.end i) (sym keeps.limit i) (state_of m)))
 
 -- a run that stops has too many cycles where the trouble is that
 pub stops_at : (s : Standing) (text : List ℕ) (stop : Stop) (m : Standing) (more : List ℕ) (t : ℕ) → trouble_of stop ≡ troubles.TooManyCycles t → Steps s text (Err stop) m more → next_of s ≡ ended (too_many t)

@@ -1,5 +1,5 @@
 -- The log, where there is one.
-use Rattle.std.specs.Prelude.{Option, Some, None, List, [], ◌∷◌, ⊤, Contains}
+use Rattle.std.specs.Prelude.{Option, Some, None, List, [], ⊤, Contains}
 use Rattle.quantity.specs.Bytes.{Bytes}
 use Rattle.model_tree.specs.Tree.{Word}
 use Rattle.room_edge.specs.Outside.{Folder, puts, adds}

@@ -74,12 +74,7 @@ fn complain_many<R: Room>(alloc: Global, room: &mut R, t: Time) -> u8
 }
 
 // Tells why the run stopped early.
-fn complain_of<R: Room>(
-    alloc: Global,
-    room: &mut R,
-    log: Option<&str>,
-    trouble: Trouble,
-) -> u8
+fn complain_of<R: Room>(alloc: Global, room: &mut R, log: Option<&str>, trouble: Trouble) -> u8
     requires { trouble ≡ Trouble.WriteFault → IsSome log }
     ensures status { IsOr 11 result }
     ensures many { result ≡ 11 → (t : ℕ) × (trouble ≡ Trouble.TooManyCycles t) × ((R.outside room.new).complained ≡ streams (R.outside room.old).complained (ended (many_line limit t))) }

@@ -8,9 +8,11 @@ use std::marker::Brand;
 use std::sync::ledger::{Blank, Ledger};
 use std::test::Fail;
 
-const RING: &[u8] = b"[top]\ncomponents : line\n[line]\ntype : cell\ndim : (1,3)\ndelay : transport\ndefaultDelayTime : 100\nborder : wrapped\nneighbors : line(0,-1) line(0,0) line(0,1)\ninitialvalue : 0\ninitialrowvalue : 0 010\nlocaltransition : r\n[r]\nrule : 1 100 { truecount = 1 }\nrule : 0 100 { t }\n";
+const RING: &[u8] =
+    b"[top]\ncomponents : line\n[line]\ntype : cell\ndim : (1,3)\ndelay : transport\ndefaultDelayTime : 100\nborder : wrapped\nneighbors : line(0,-1) line(0,0) line(0,1)\ninitialvalue : 0\ninitialrowvalue : 0 010\nlocaltransition : r\n[r]\nrule : 1 100 { truecount = 1 }\nrule : 0 100 { t }\n";
 
-const LOG: &[u8] = b"Y / 00:00:00:000 / line(0,0) / out / 0.00000\nY / 00:00:00:000 / line(0,1) / out / 1.00000\nY / 00:00:00:000 / line(0,2) / out / 0.00000\nY / 00:00:00:100 / line(0,0) / out / 1.00000\nY / 00:00:00:100 / line(0,2) / out / 1.00000\n";
+const LOG: &[u8] =
+    b"Y / 00:00:00:000 / line(0,0) / out / 0.00000\nY / 00:00:00:000 / line(0,1) / out / 1.00000\nY / 00:00:00:000 / line(0,2) / out / 0.00000\nY / 00:00:00:100 / line(0,0) / out / 1.00000\nY / 00:00:00:100 / line(0,2) / out / 1.00000\n";
 
 const WORDS: &str = "cdpp -m row1.ma -t 00:00:00:100 -l log.txt";
 
@@ -50,7 +52,10 @@ fn a_ring_runs(rt: HostRuntime) -> Result<(), Fail> {
     assert_eq!(rt; room.shown(), b"end 00:00:00:100 cycles 2\n".as_slice());
     assert_eq!(rt; room.made("log.txt").ok_or("no log")?, LOG);
     let mut room = with_ring(alloc, 1)?;
-    assert_eq!(rt; run(alloc, "cdpp -mrow1.ma -l=log.txt -t0:0:0:100", &mut room)?, 0);
+    assert_eq!(rt;
+        run(alloc, "cdpp -mrow1.ma -l=log.txt -t0:0:0:100", &mut room)?,
+        0
+    );
     assert_eq!(rt; room.made("log.txt").ok_or("no log")?, LOG);
     Ok(())
 }
@@ -59,7 +64,10 @@ fn a_ring_runs(rt: HostRuntime) -> Result<(), Fail> {
 fn no_log_is_made_unasked(rt: HostRuntime) -> Result<(), Fail> {
     let alloc = rt.alloc();
     let mut room = with_ring(alloc, 4096)?;
-    assert_eq!(rt; run(alloc, "cdpp -t 00:00:00:100 -m row1.ma", &mut room)?, 0);
+    assert_eq!(rt;
+        run(alloc, "cdpp -t 00:00:00:100 -m row1.ma", &mut room)?,
+        0
+    );
     assert_eq!(rt; room.shown(), b"end 00:00:00:100 cycles 2\n".as_slice());
     assert_eq!(rt; room.made("log.txt"), None);
     Ok(())
@@ -90,7 +98,10 @@ fn faults_and_refusals_have_their_lines(rt: HostRuntime) -> Result<(), Fail> {
     let mut room = MemoryRoom::new(alloc, 4096);
     room.put_file("row1.ma", b"[top]\n")?;
     assert_eq!(rt; run(alloc, WORDS, &mut room)?, 6);
-    assert_eq!(rt; room.complained(), b"model refused: line 0: 4 NotBuilt\n".as_slice());
+    assert_eq!(rt;
+        room.complained(),
+        b"model refused: line 0: 4 NotBuilt\n".as_slice()
+    );
     Ok(())
 }
 

@@ -6,7 +6,6 @@ ghost use Rattle.clap.specs.Words.{app_of, rule_of, new_rule, with_rule, new_app
 ghost use Rattle.answer_model.specs.Asked.{option, is_taken};
 ghost use Rattle.cdpp_top.specs.Form as form;
 ghost use Rattle.cdpp_top.specs.AskedOf.{asked_of, name_of};
-
 ghost use Rattle.quantity.specs.Times.{time_in};
 ghost use Rattle.std.specs.Prelude.{◌≤◌};
 
@@ -45,10 +44,7 @@ fn command<'a>(alloc: Global) -> Result<Command<'a>, AllocError>
 }
 
 // The matches of the words, where the command takes them.
-fn matches<'a>(
-    alloc: Global,
-    words: &'a [String],
-) -> Result<Option<ArgMatches<'a>>, OutOfMemory>
+fn matches<'a>(alloc: Global, words: &'a [String]) -> Result<Option<ArgMatches<'a>>, OutOfMemory>
     ensures taken { IfOk result (λ m. is_some m ≡ is_taken form.form (map string_bytes words.entry.now)) }
     ensures rows { IfOk result (λ m. IfSome m (λ m. rows_of (found_of m) ≡ matches_of form.form (map string_bytes words.entry.now))) }
 {
@@ -102,10 +98,7 @@ fn asked_in<'a>(matches: &ArgMatches<'a>) -> Option<Asked<'a>>
 }
 
 /// What the words ask for, of which the first is the program's name; None where they are refused.
-pub fn read_words<'a>(
-    alloc: Global,
-    words: &'a [String],
-) -> Result<Option<Asked<'a>>, OutOfMemory>
+pub fn read_words<'a>(alloc: Global, words: &'a [String]) -> Result<Option<Asked<'a>>, OutOfMemory>
     ensures value { IfOk result (λ a. option_map asked_of a ≡ form.asked (map string_bytes words.entry.now)) }
     ensures bounded { IfOk result (λ a. IfSome a (λ a. a.end ≤ 359999999)) }
 {

@@ -1,4 +1,4 @@
-use Rattle.std.proofs.Common.{◌≡◌, List, [], ◌∷◌, map, Option, Some, None, refl, sym, ◌∙◌, ap, subst}
+use Rattle.std.proofs.Common.{◌≡◌, map, Some, None, refl, sym, ◌∙◌, ap, subst}
 use Rattle.std.specs.Bool.{OnFalse}
 use Rattle.std.specs.String.{string_bytes}
 use Rattle.room_edge.specs.Outside.{streams}

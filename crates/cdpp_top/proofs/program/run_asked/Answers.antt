@@ -1,4 +1,4 @@
-use Rattle.std.proofs.Common.{◌≡◌, ℕ, ◌<◌, ◌≤◌, List, [], ◌∷◌, length, Option, Some, None, refl, sym, ◌∙◌, ap, subst, arith}
+use Rattle.std.proofs.Common.{◌≡◌, Some, None, refl, sym, ◌∙◌, ap, subst, arith}
 use Rattle.std.specs.Bool.{OnFalse}
 use Rattle.room_edge.specs.Outside.{streams}
 use Rattle.answer_model.specs.Answer.{Answer}

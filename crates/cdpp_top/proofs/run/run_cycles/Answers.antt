@@ -1,4 +1,4 @@
-use Rattle.std.proofs.Common.{◌≡◌, ℕ, ◌+◌, ◌-◌, ◌<◌, [], ◌∷◌, ◌++◌, length, refl, sym, ◌∙◌, ap, arith}
+use Rattle.std.proofs.Common.{◌≡◌, ◌-◌, [], ◌++◌, length, refl, sym, ◌∙◌, ap, arith}
 use Rattle.room_edge.proofs.Only.{OnlyMade-refl, OnlyMade-trans}
 use Rattle.run_model.specs.Run.{Run, done, too_many}
 use Rattle.ring_run.specs.Steps as ring

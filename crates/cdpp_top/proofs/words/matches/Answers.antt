@@ -1,4 +1,4 @@
-use Rattle.std.proofs.Common.{◌≡◌, ◌∙◌, ◌==◌, ap, sym, map, length}
+use Rattle.std.proofs.Common.{◌∙◌, ◌==◌, ap, sym, map, length}
 use Rattle.std.specs.String.{string_bytes}
 use Rattle.clap.specs.Words.{fault_of, matches_of, is_simple, is_simple_and_free}
 use Rattle.cdpp_top.proofs.Taken.{simple, simple_and_free, no_faults, some_fault}

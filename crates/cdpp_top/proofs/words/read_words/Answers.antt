@@ -1,4 +1,4 @@
-use Rattle.std.proofs.Common.{◌≡◌, ◌∙◌, ap, sym, map, is_some}
+use Rattle.std.proofs.Common.{◌∙◌, ap, sym, map, is_some}
 use Rattle.std.specs.String.{string_bytes}
 use Rattle.cdpp_top.specs.Form.{asked_in}
 use Rattle.cdpp_top.proofs.Matched.{asked_off, asked_on}
