@@ -1,5 +1,5 @@
 -- What a cell of a ring sees: what the cells beside it and itself gave.
-use Rattle.std.proofs.Common.{◌≡◌, ◌≢◌, ⊎_elim, ℕ, ◌+◌, ◌-◌, ◌*◌, ◌/◌, ◌%◌, ◌<◌, ◌≤◌, zero, suc, zero-add, List, [], ◌∷◌, length, map, Option, Some, None, Ok, refl, sym, ◌∙◌, ap, arith, true}
+use Rattle.std.proofs.Common.{◌≡◌, ◌≢◌, ⊎_elim, ℕ, ◌+◌, ◌*◌, ◌/◌, ◌%◌, ◌<◌, zero, suc, zero-add, List, [], ◌∷◌, length, map, Option, Some, None, Ok, refl, sym, ◌∙◌, ap, arith, true}
 use Rattle.std.specs.Prelude.{IsTrue, ℤ, pos, negsuc, ◌+ℤ◌, unsigned_abs}
 use Rattle.std.specs.Int.{int_rem_euclid}
 use Rattle.std.specs.Option.{option_map}
@@ -7,17 +7,16 @@ use Rattle.std.proofs.Math.Nat.{div-one, mod-eq_of_lt, mod_self}
 use Rattle.std.proofs.lemmas.Bool.{cases_eq}
 use Rattle.std.proofs.lemmas.Bool.Decides.{nat_tests}
 use Rattle.std.proofs.lemmas.Int.{ints}
-use Rattle.quantity.specs.declared.value.Value.{Value}
 use Rattle.rule_syntax.specs.declared.node.Count.TheVariants.{Ones}
 use Rattle.rule_syntax.specs.Meaning.{Sight, outs, counted, value_at}
 use Rattle.cell_grid.specs.declared.grid.Border.TheVariants.{Wrapped}
 use Rattle.cell_grid.specs.Space.{Space, neighbour}
 use Rattle.model_tree.specs.declared.group.DelayKind.TheVariants.{Transport}
-use Rattle.run_model.specs.CellStep.{PortState, CellState, Stepped, and_then, and_took, all_treated, cell_moved}
-use Rattle.run_model.specs.Cycle.{cell_state, emitted_in, neighbour_leaf, sight_of}
+use Rattle.run_model.specs.CellStep.{PortState, CellState, and_then, and_took, all_treated, cell_moved}
+use Rattle.run_model.specs.Cycle.{cell_state, emitted_in, sight_of}
 use Rattle.cell_engine.specs.declared.plain.PlainRule.{PlainRule}
 use Rattle.cell_engine.specs.Ring.{Ring, beside, ring_group}
-use Rattle.cell_engine.specs.Beside.{left, right, emitted_of, around, ones_at, first_fit, took_rule, with_rule, computed_cell}
+use Rattle.cell_engine.specs.Beside.{left, right, emitted_of, around, ones_at, first_fit, with_rule, computed_cell}
 use Rattle.cell_engine.specs.Store.{are_short, ends_always, cell_of}
 use Rattle.cell_engine.proofs.Rules.{chosen_is, some_fits}
 

@@ -1,11 +1,11 @@
 -- The ports of cells, by place.
 use Rattle.std.proofs.Common.{◌≡◌, ℕ, ◌+◌, ◌<◌, List, [], ◌∷◌, length, get_or, set, map, refl, sym, ◌∙◌, ap, cond, Bool, true, false, zero, suc, arith}
-use Rattle.std.proofs.lemmas.List.{map-set, get_or-map, length-map, set-get_or}
+use Rattle.std.proofs.lemmas.List.{map-set, get_or-map, set-get_or}
 use Rattle.quantity.specs.Arithmetic.{same_value}
 use Rattle.quantity.specs.declared.value.Value.{Value}
 use Rattle.rule_syntax.specs.Meaning.{whole, how_many}
 use mir.Val.{bool_byte}
-use Rattle.run_model.specs.CellStep.{PortState, CellState, port_emitted, cell_emitted}
+use Rattle.run_model.specs.CellStep.{PortState, CellState}
 use Rattle.cell_engine.specs.declared.port.Port.{Port}
 use Rattle.cell_engine.specs.Beside.{left, right, emitted_of, ones_at}
 use Rattle.cell_engine.specs.Kept.{port_from, cell_from}

@@ -1,17 +1,14 @@
 -- The rules of a ring: one is always chosen, and none stops a run.
-use Rattle.std.proofs.Common.{◌≡◌, ℕ, ◌+◌, ◌*◌, ◌/◌, ◌%◌, ◌≤◌, zero, suc, List, [], ◌∷◌, map, Bool, true, false, Option, Some, None, Ok, refl, sym, ◌∙◌, ap, subst, arith, cond}
-use Rattle.std.specs.Prelude.{IsTrue, ◌==◌, nat_le, ◌&&◌, if◌then◌else◌, is_none, ℤ, pos, ◌-ℤ◌, unsigned_abs}
-use Rattle.std.proofs.Math.Nat.{mul-div_cancel, mul-mod_left}
+use Rattle.std.proofs.Common.{◌≡◌, ℕ, ◌*◌, ◌/◌, ◌%◌, ◌≤◌, List, [], ◌∷◌, map, Bool, true, false, Option, Some, None, Ok, refl, ◌∙◌, ap, arith}
+use Rattle.std.specs.Prelude.{IsTrue, ◌==◌, nat_le, ◌&&◌, if◌then◌else◌, is_none, pos, ◌-ℤ◌}
 use Rattle.std.proofs.lemmas.Bool.Decides.{nat_tests}
 use Rattle.std.proofs.lemmas.Int.{ints}
-use Rattle.quantity.specs.declared.value.Value.{Value}
 use Rattle.quantity.specs.Arithmetic.{is_zero}
 use Rattle.quantity.specs.Truth.{tri_of}
-use Rattle.rule_syntax.specs.declared.outcome.Answer.{Answer}
-use Rattle.rule_syntax.specs.declared.outcome.Answer.TheVariants.{Num, Logic}
+use Rattle.rule_syntax.specs.declared.outcome.Answer.TheVariants.{Logic}
 use Rattle.rule_syntax.specs.declared.node.Count.TheVariants.{Ones}
-use Rattle.rule_syntax.specs.Meaning.{Sight, outs, whole, counted, meaning, number_in, truth_in}
-use Rattle.rule_syntax.specs.Chosen.{Given, Chosen, chosen, given, delay_of, with_delay, if_true, unless_overflow}
+use Rattle.rule_syntax.specs.Meaning.{Sight, outs, whole, counted, meaning, truth_in}
+use Rattle.rule_syntax.specs.Chosen.{Given, chosen, given, delay_of, with_delay, if_true, unless_overflow}
 use Rattle.cell_engine.specs.declared.plain.PlainRule.{PlainRule}
 use Rattle.cell_engine.specs.Ring.{ones_condition, ring_rule}
 use Rattle.cell_engine.specs.Beside.{fits, first_fit}

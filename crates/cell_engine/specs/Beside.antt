@@ -1,5 +1,5 @@
 -- The ring in shorter words: the cells beside a cell, how many are 1, and the rule that is true.
-use Rattle.std.specs.Prelude.{ℕ, ◌+◌, ◌-◌, Bool, true, false, ◌==◌, Option, Some, None, List, [], ◌∷◌, map, if◌then◌else◌}
+use Rattle.std.specs.Prelude.{ℕ, ◌+◌, ◌-◌, Bool, true, ◌==◌, Option, Some, None, List, [], ◌∷◌, map, if◌then◌else◌}
 use Rattle.quantity.specs.declared.value.Value.{Value}
 use Rattle.rule_syntax.specs.Meaning.{whole, value_at, how_many}
 use Rattle.model_tree.specs.declared.group.DelayKind.TheVariants.{Transport}

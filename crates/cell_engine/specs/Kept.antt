@@ -1,5 +1,5 @@
 -- What the fields of a store stand for.
-use Rattle.std.specs.Prelude.{◌≡◌, ℕ, ◌≤◌, List, [], ◌∷◌, length, map, Vec, IsTrue}
+use Rattle.std.specs.Prelude.{◌≡◌, ◌≤◌, List, [], ◌∷◌, length, Vec, IsTrue}
 use Rattle.std.specs.declared.alloc.Global.{Global}
 use Rattle.quantity.specs.declared.value.Value.{Value}
 use Rattle.run_model.specs.CellStep.{PortState, CellState}

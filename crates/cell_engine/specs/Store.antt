@@ -1,5 +1,5 @@
 -- A store of cells: a ring, and where each of its cells stands.
-use Rattle.std.specs.Prelude.{◌≡◌, ℕ, ◌+◌, ◌<◌, ◌≤◌, Bool, true, false, ◌&&◌, nat_le, is_none, Option, Some, None, List, [], ◌∷◌, length, map, slice_set, slice_index_or, IsTrue}
+use Rattle.std.specs.Prelude.{◌≡◌, ℕ, ◌<◌, Bool, true, false, nat_le, is_none, Option, List, [], ◌∷◌, length, map, slice_set, slice_index_or, IsTrue}
 use Rattle.std.specs.List.{list_all}
 use Rattle.quantity.specs.declared.value.Value.{Value}
 use Rattle.model_tree.specs.Tree.{Group}

@@ -1,25 +1,20 @@
 -- A cycle of the reference run on the model of a ring.
-use Rattle.std.proofs.Common.{◌≡◌, ℕ, ◌+◌, ◌*◌, ◌<◌, ◌≤◌, zero, suc, zero-add, List, [], ◌∷◌, ◌++◌, length, get_or, map, Bool, true, false, Option, Some, None, Ok, refl, sym, ◌∙◌, ap, arith}
-use Rattle.std.specs.Prelude.{IsTrue, if◌then◌else◌, ◌||◌, slice_index_or, slice_get, unwrap_or, pos, negsuc}
-use Rattle.std.specs.List.{range_with_len, list_any}
+use Rattle.std.proofs.Common.{◌≡◌, ℕ, ◌+◌, ◌<◌, zero, suc, zero-add, List, [], ◌∷◌, ◌++◌, length, map, Bool, true, false, Option, Some, refl, sym, ◌∙◌, ap, arith}
+use Rattle.std.specs.Prelude.{IsTrue, if◌then◌else◌, ◌||◌, slice_index_or, pos, negsuc}
 use Rattle.std.specs.Option.{option_map}
 use Rattle.std.proofs.Math.Bool.{or-false}
-use Rattle.std.proofs.lemmas.List.{append-nil, get_or-map, length-map}
-use Rattle.std.proofs.lemmas.List.FromFn.{length-range_with_len}
-use Rattle.quantity.specs.declared.value.Value.{Value}
-use Rattle.quantity.specs.declared.value.Value.TheVariants.{Undefined}
-use Rattle.rule_syntax.specs.declared.outcome.RuleStop.{RuleStop}
-use Rattle.cell_grid.specs.Space.{cell_count, neighbour}
+use Rattle.std.proofs.lemmas.List.{get_or-map, length-map}
+use Rattle.cell_grid.specs.Space.{neighbour}
 use Rattle.atomic_face.specs.Classes.{Bag, is_at, out_port}
-use Rattle.model_tree.specs.Tree.{Group, Leaf, cell_leaf, leaves}
-use Rattle.run_model.specs.CellStep.{PortState, CellState, first_time, port_emitted, cell_next, cell_emitted, cell_output, initial_cell, Stepped, cell_moved}
+use Rattle.model_tree.specs.Tree.{cell_leaf}
+use Rattle.run_model.specs.CellStep.{PortState, CellState, first_time, port_emitted, cell_emitted, cell_output, Stepped, cell_moved}
 use Rattle.run_model.specs.Cycle.{LeafState, cell_state, initial_leaf, leaf_emitted, collected, gave_output, neighbour_leaf, bag_of, Moved, stayed, moved, stopped, cell_result, leaf_moved, has_values, asked, all_asked, first_stop, after, all_after}
 use Rattle.run_model.specs.Cycle as reference
 use Rattle.cell_engine.specs.Beside.{left, right, computed_cell}
-use Rattle.cell_engine.specs.Ring.{Ring, beside, ring_group, ring_tree}
+use Rattle.cell_engine.specs.Ring.{Ring, beside, ring_group}
 use Rattle.cell_engine.specs.Store.{are_short, ends_always, one_port, no_cell, cell_of, leaf_states}
 use Rattle.cell_engine.proofs.Around.{ring_space, left_is, here_is, right_is, left_within, right_within, ring_sight, computed_is}
-use Rattle.ring_run.specs.RingCycle.{is_due, is_woken, moved_cell}
+use Rattle.ring_run.specs.RingCycle.{is_due, is_woken}
 use Rattle.ring_run.proofs.Idle.{least_none, emitted_values, idle_emitted}
 
 -- what the cells of a ring are, for a cycle

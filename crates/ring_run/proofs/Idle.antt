@@ -1,12 +1,12 @@
 -- A cell that isn't due.
-use Rattle.std.proofs.Common.{◌≡◌, ℕ, List, [], ◌∷◌, ◌++◌, map, set, Bool, true, false, Option, Some, None, refl, sym, ◌∙◌, ap, cond}
+use Rattle.std.proofs.Common.{◌≡◌, ℕ, List, [], ◌∷◌, ◌++◌, map, false, Option, Some, None, refl, sym, ◌∙◌, ap}
 use Rattle.std.specs.Prelude.{if◌then◌else◌}
 use Rattle.std.specs.List.{flat_map, enumerate_from}
 use Rattle.std.proofs.lemmas.List.{append-nil, set-get_or}
 use Rattle.quantity.specs.declared.value.Value.{Value}
-use Rattle.atomic_face.specs.Classes.{Bag, is_at, out_port}
+use Rattle.atomic_face.specs.Classes.{is_at, out_port}
 use Rattle.atomic_face.specs.declared.class.PortNo.{PortNo}
-use Rattle.run_model.specs.CellStep.{PortState, CellState, first_time, first_emitted, least, next_of_ports, port_emitted, port_output, cell_next, cell_emitted, cell_output}
+use Rattle.run_model.specs.CellStep.{PortState, CellState, first_time, first_emitted, least, next_of_ports, port_emitted, port_output, cell_next, cell_emitted}
 use Rattle.cell_engine.specs.Store.{Store, no_cell, cell_at, with_cell, Tells}
 use Rattle.ring_run.specs.RingCycle.{given_line, cell_lines}
 

@@ -1,5 +1,5 @@
 -- The log of a cycle of a ring: a line for each value that a cell gives.
-use Rattle.std.proofs.Common.{◌≡◌, ℕ, ◌+◌, ◌/◌, ◌%◌, ◌<◌, zero-add, List, [], ◌∷◌, ◌++◌, length, take, map, Bool, true, false, Option, Some, None, refl, sym, ◌∙◌, ap, arith, cond}
+use Rattle.std.proofs.Common.{◌≡◌, ℕ, ◌+◌, ◌/◌, ◌%◌, ◌<◌, zero-add, List, [], ◌∷◌, ◌++◌, length, map, Bool, true, false, Option, Some, None, refl, sym, ◌∙◌, ap, arith, cond}
 use Rattle.std.specs.Prelude.{if◌then◌else◌, ◌==◌, slice_get, codes}
 use Rattle.std.specs.List.{range_with_len, flat_map, filter, filter_map, cons_option, enumerate_from, list_any}
 use Rattle.std.specs.Option.{option_map}
@@ -20,7 +20,7 @@ use Rattle.text_forms.specs.LogLine.{LogLine, given, line_text}
 use Rattle.text_forms.specs.Lines.{ended, leaf_name, out_port_name, in_port_name, moved_line, cycle_lines, letter_of}
 use Rattle.text_forms.specs.Lines as lines
 use Rattle.cell_engine.specs.Ring.{Ring, ring_group, ring_tree}
-use Rattle.cell_engine.specs.Store.{one_port, cell_of, leaf_states}
+use Rattle.cell_engine.specs.Store.{one_port, cell_of}
 use Rattle.ring_run.specs.RingCycle.{given_line, cell_lines, first_lines}
 use Rattle.ring_run.specs.Steps.{log_of}
 use Rattle.ring_run.proofs.Asked.{IsRingOf}

@@ -1,5 +1,5 @@
 -- The step of one cell of a store, in the ring's words.
-use Rattle.std.proofs.Common.{◌≡◌, ℕ, ◌<◌, length, set, true, Ok, refl, sym, ◌∙◌, ap}
+use Rattle.std.proofs.Common.{◌≡◌, ℕ, ◌<◌, length, true, Ok, refl, sym, ◌∙◌, ap}
 use Rattle.std.specs.Prelude.{if◌then◌else◌}
 use Rattle.std.specs.declared.result.Result.{Result}
 use Rattle.std.specs.declared.result.Result.TheVariants.{Ok as ok, Err as err}

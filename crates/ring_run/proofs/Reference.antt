@@ -1,23 +1,23 @@
 -- The next cycle of the reference run on a ring.
 use Rattle.std.proofs.Common.{◌≡◌, ℕ, ◌+◌, ◌*◌, ◌<◌, ◌≤◌, suc, zero-add, List, [], ◌∷◌, ◌++◌, length, map, Bool, true, false, Option, Some, None, refl, sym, ◌∙◌, ap, arith}
-use Rattle.std.specs.Prelude.{if◌then◌else◌, nat_lt, nat_le, slice_index_or}
+use Rattle.std.specs.Prelude.{if◌then◌else◌, nat_lt, nat_le}
 use Rattle.std.specs.List.{range_with_len}
-use Rattle.std.proofs.lemmas.List.{append-nil, get_or-map, length-map}
+use Rattle.std.proofs.lemmas.List.{append-nil, length-map}
 use Rattle.std.proofs.lemmas.Bool.Decides.{nat_tests}
 use Rattle.quantity.specs.declared.value.Value.{Value}
 use Rattle.atomic_face.specs.Classes.{Bag}
 use Rattle.model_tree.specs.Tree.{Word, Tree, cell_leaf, leaves}
 use Rattle.cell_grid.specs.Space.{cell_count}
-use Rattle.run_model.specs.CellStep.{PortState, CellState, cell_emitted}
-use Rattle.run_model.specs.Cycle.{LeafState, cell_state, leaf_emitted, collected, bag_of, bags, Moved, stayed, moved, moves, asked, all_asked, first_stop, after, all_after, next_of_all}
-use Rattle.run_model.specs.Run.{RunState, Cycle, Next, ended, cycled, done, too_many, unless_stop, cycle_of, cycles_at, state_after, at_top, cycled_at, next_at, next_cycle}
-use Rattle.cell_engine.specs.Beside.{left, right, computed_cell}
+use Rattle.run_model.specs.CellStep.{CellState, cell_emitted}
+use Rattle.run_model.specs.Cycle.{cell_state, leaf_emitted, collected, bag_of, bags, stayed, moved, moves, asked, all_asked, first_stop, after, all_after, next_of_all}
+use Rattle.run_model.specs.Run.{RunState, Cycle, ended, cycled, done, too_many, unless_stop, cycle_of, cycles_at, state_after, at_top, cycled_at, next_at, next_cycle}
+use Rattle.cell_engine.specs.Beside.{computed_cell}
 use Rattle.cell_engine.specs.Ring.{Ring, ring_group, ring_tree}
-use Rattle.cell_engine.specs.Store.{one_port, no_cell, cell_of, leaf_states}
+use Rattle.cell_engine.specs.Store.{cell_of, leaf_states}
 use Rattle.ring_run.specs.RingCycle.{is_due, is_woken, moved_cell, cells_after, within}
 use Rattle.ring_run.specs.Standing.{Standing, state_of, next_of}
-use Rattle.ring_run.proofs.Idle.{least_none, emitted_values, idle_emitted}
-use Rattle.ring_run.proofs.Asked.{IsRingOf, emitted_cells, emitted_here, answer, asked_is, quiet_cell}
+use Rattle.ring_run.proofs.Idle.{least_none}
+use Rattle.ring_run.proofs.Asked.{IsRingOf, emitted_cells, answer, asked_is, quiet_cell}
 
 -- a cell of a ring has no port for a link, and so no bag
 abbrev no_ports : ℕ → List (List Value)

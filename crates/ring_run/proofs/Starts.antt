@@ -1,13 +1,13 @@
 -- A ring before its first cycle.
-use Rattle.std.proofs.Common.{◌≡◌, ℕ, ◌+◌, ◌<◌, suc, zero-add, List, [], ◌∷◌, length, map, Option, Some, None, refl, sym, ◌∙◌, ap, arith}
+use Rattle.std.proofs.Common.{◌≡◌, ℕ, ◌+◌, ◌<◌, suc, zero-add, List, [], ◌∷◌, length, map, Some, None, refl, sym, ◌∙◌, ap, arith}
 use Rattle.std.specs.Prelude.{slice_get, unwrap_or}
 use Rattle.std.specs.List.{range_with_len}
 use Rattle.quantity.specs.declared.value.Value.{Value}
 use Rattle.quantity.specs.declared.value.Value.TheVariants.{Undefined}
-use Rattle.model_tree.specs.Tree.{Group, cell_leaf, leaves}
+use Rattle.model_tree.specs.Tree.{Group, cell_leaf}
 use Rattle.run_model.specs.CellStep.{CellState, initial_cell}
-use Rattle.run_model.specs.Cycle.{LeafState, cell_state, initial_leaf}
-use Rattle.run_model.specs.Run.{RunState, start}
+use Rattle.run_model.specs.Cycle.{cell_state, initial_leaf}
+use Rattle.run_model.specs.Run.{start}
 use Rattle.cell_engine.specs.Ring.{Ring, ring_group, ring_tree}
 use Rattle.ring_run.proofs.Reference.{leaves_are, count_is, run_state}
 

@@ -1,5 +1,5 @@
 -- One call of a run.
-use Rattle.std.specs.Prelude.{◌≡◌, ℕ, List, [], ◌∷◌, ◌++◌, Result, Ok, Err, codes}
+use Rattle.std.specs.Prelude.{◌≡◌, ℕ, [], ◌∷◌, ◌++◌, Result, Ok, Err, codes}
 use Rattle.quantity.specs.Bytes.{Bytes}
 use Rattle.run_model.specs.Run.{Cycle, cycled, ended, done, too_many}
 use Rattle.text_forms.specs.Lines.{log_bytes}

@@ -7,7 +7,7 @@ use Rattle.std.specs.List.{slice_split, list_all, filter, before_first, after_fi
 use Rattle.std.specs.Bool.{then_some}
 use Rattle.std.specs.Option.{option_map, option_map_or}
 use Rattle.std.specs.Str.{bytes_eq, all_ascii_digits}
-use Rattle.quantity.specs.Bytes.{Bytes, is_empty}
+use Rattle.quantity.specs.Bytes.{Bytes}
 use Rattle.quantity.specs.Digits.{is_between, has_length, number_in}
 use Rattle.quantity.specs.Names.{is_name, is_of_name}
 use Rattle.quantity.specs.Written.{if_written}

@@ -1,5 +1,5 @@
 -- What the steps of reading come to.
-use Rattle.std.proofs.Common.{◌≡◌, ℕ, suc, ◌+◌, ◌<◌, ◌≤◌, Bool, true, false, not, cond, Option, Some, None, List, [], ◌∷◌, ◌++◌, refl, sym, ap, ◌∙◌, arith, length, map, nat_le, IsTrue, length-append}
+use Rattle.std.proofs.Common.{◌≡◌, ℕ, suc, ◌+◌, ◌<◌, ◌≤◌, Bool, true, false, not, cond, Option, Some, None, List, [], ◌∷◌, ◌++◌, refl, sym, ap, ◌∙◌, arith, length, map, nat_le, length-append}
 use Rattle.std.proofs.lemmas.List.{length-map}
 use Rattle.std.proofs.lemmas.List.Splits.{length-slice_split}
 use Rattle.std.proofs.lemmas.Bool.Decides.{nat_tests}
@@ -16,7 +16,7 @@ use Rattle.ring_text.specs.Text.{rule_line, ring_lines, ring_text}
 use Rattle.ring_text.specs.Reading.{is_line_feed, parts_in, ring_in}
 use Rattle.ring_text.specs.Model.{CanRun, is_short, ends_always}
 use Rattle.ring_text.proofs.Lines.{both, and_true}
-use Rattle.ring_text.proofs.Rings.{RingFacts, ring_facts, rule_facts, lines_of-text, only_rings}
+use Rattle.ring_text.proofs.Rings.{ring_facts, rule_facts, lines_of-text, only_rings}
 
 -- ---- how many lines a ring's text has
 

@@ -1,5 +1,5 @@
 -- Parts as they are kept, seen as those of a text.
-use Rattle.std.specs.Prelude.{ℕ, List, map}
+use Rattle.std.specs.Prelude.{List, map}
 use Rattle.std.specs.Borrow.{Bor}
 use Rattle.quantity.specs.Bytes.{Bytes}
 use Rattle.ring_text.specs.declared.parts.RuleParts as kept_rule

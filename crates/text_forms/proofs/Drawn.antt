@@ -16,7 +16,8 @@ use Rattle.text_forms.specs.LogLine.{LogLine, given, moved, line_text, is_line, 
 use Rattle.text_forms.specs.Lines.{ended, leaf_name, given_line, moved_line, out_port_name, in_port_name, cycle_lines, letter_of, log_lines}
 use Rattle.text_forms.specs.Frames.{Shown, shown_of, shown_by, shown_in, line_time, not_before, and_shown, shown_at, cell_of, lines_from, drawn_lines}
 use Rattle.text_forms.specs.DrawnLines.{NamesCells, never_fall, have_leaves, DrawnFromCycles}
-use Rattle.quantity.proofs.Written.{has_no, none_at, both, and_true}
+use Rattle.quantity.proofs.DigitLemmas.{both}
+use Rattle.quantity.proofs.Written.{has_no, none_at, and_true}
 use Rattle.text_forms.proofs.WrittenLines.{Sep, join_no, given_fits, given_no, moved_fits, moved_no, line_read}
 
 -- ---- the log cut at its line ends

@@ -16,7 +16,8 @@ use Rattle.text_forms.specs.LogLine.{LogLine, line_text}
 use Rattle.text_forms.specs.Lines.{ended, cycle_lines, letter_of, out_line, log_bytes, out_bytes}
 use Rattle.text_forms.specs.Frames.{Shown, Picture, instants, value_until, value_at, frame_text, frames, shown_by, shown_in}
 use Rattle.text_forms.specs.TextsJoin.{FramesJoin, TextsJoin}
-use Rattle.quantity.proofs.Written.{both, and_true}
+use Rattle.quantity.proofs.DigitLemmas.{both}
+use Rattle.quantity.proofs.Written.{and_true}
 use Rattle.text_forms.proofs.WrittenLines.{kept_all}
 use Rattle.text_forms.proofs.Drawn.{all_kept}
 

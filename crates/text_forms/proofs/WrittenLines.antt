@@ -21,7 +21,8 @@ use Rattle.quantity.specs.Times.{hours_text, time_text}
 use Rattle.quantity.specs.ValueTexts.{text5, guessed_value}
 use Rattle.quantity.specs.Names.{is_of_name, is_name}
 use Rattle.text_forms.specs.LogLine.{LeafName, LogLine, given, moved, leaf_text, at_text, state_text, next_text, parts_of, with_strokes, line_text, is_leaf, is_value, is_time, is_letter, is_state, is_next, is_line, has_place, leaf_of, leaf_in, at_in, guessed_time, given_in, moved_in, line_in, if_line, parts_in, read_line}
-use Rattle.quantity.proofs.Written.{has_no, none_at, both, and_true, split_joined, all_digits, no_digit, no_in_last, hours_digits, time_guess, value_guess, written, body, body_no, negative_text, div_one}
+use Rattle.quantity.proofs.DigitLemmas.{both}
+use Rattle.quantity.proofs.Written.{has_no, none_at, and_true, split_joined, all_digits, no_digit, no_in_last, hours_digits, time_guess, value_guess, written, body, body_no, negative_text, div_one}
 
 in_range : (v : Value) → is_value v ≡ true → IsBounded v
 in_range Undefined h = tt

@@ -24,7 +24,8 @@ use Rattle.text_forms.specs.Lines.{leaf_name, ended}
 use Rattle.text_forms.specs.StateText.{pair_words, port_words, leaf_words, leaf_line, at_line, leaf_lines, state_lines, text_of_state}
 use Rattle.text_forms.specs.LeafStates.{rises, is_port_state, is_leaf_state, has_values_in_range, is_word, IsStateOf, has_names}
 use Rattle.text_forms.specs.StateOf.{all_in, pairs_in, port_in, ports_in, leaf_state_in, if_leaf_state, words_in, read_leaf, Saved, next_line, just, leaves_in, read_at, state_at, state_of}
-use Rattle.quantity.proofs.Written.{has_no, none_at, both, and_true, split_joined, all_digits, no_digit, written, at_most, time_read}
+use Rattle.quantity.proofs.DigitLemmas.{both}
+use Rattle.quantity.proofs.Written.{has_no, none_at, and_true, split_joined, all_digits, no_digit, written, at_most, time_read}
 use Rattle.text_forms.proofs.WrittenLines.{Sep, blank, join_no, time_no, value_no, name_no, leaf_no, value_back}
 use Rattle.text_forms.proofs.Drawn.{line_end}
 

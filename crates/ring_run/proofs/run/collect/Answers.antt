@@ -1,4 +1,4 @@
-use Rattle.std.proofs.Common.{◌<◌, [], ◌∷◌, ◌++◌, length, map, sym, ◌∙◌, ap, arith}
+use Rattle.std.proofs.Common.{◌<◌, [], ◌∷◌, ◌++◌, length, sym, ◌∙◌, ap, arith}
 use Rattle.std.proofs.lemmas.List.{map_more}
 use Rattle.run_model.specs.CellStep.{CellState, cell_emitted}
 use Rattle.cell_engine.specs.Store.{Store, cell_of, no_cell}

@@ -1,4 +1,4 @@
-use Rattle.std.proofs.Common.{◌≡◌, ◌++◌, length, map, take, drop}
+use Rattle.std.proofs.Common.{◌≡◌, ◌++◌, map, take, drop}
 use Rattle.run_model.specs.CellStep.{cell_emitted}
 use Rattle.ring_run.specs.RingCycle.{is_due, first_lines, KeepsRing}
 use Rattle.ring_run.proofs.run.collect.Given as goal

@@ -1,4 +1,4 @@
-use Rattle.std.proofs.Common.{◌<◌, length, set, ◌∙◌, ap, arith, rules}
+use Rattle.std.proofs.Common.{◌<◌, length, set, ◌∙◌, ap, arith}
 use Rattle.cell_engine.specs.Store.{Store}
 use Rattle.ring_run.specs.RingCycle.{moved_cell}
 use Rattle.ring_run.proofs.Looped.{move_here, move_cells, move_emitted, moved_same}

@@ -1,4 +1,4 @@
-use Rattle.std.proofs.Common.{◌≡◌, ℕ, ◌++◌, length, map, take, drop}
+use Rattle.std.proofs.Common.{◌≡◌, ℕ, ◌++◌, map, drop}
 use Rattle.std.specs.List.{range_with_len}
 use Rattle.cell_engine.specs.Beside.{emitted_of}
 use Rattle.cell_engine.specs.Store.{cell_of}

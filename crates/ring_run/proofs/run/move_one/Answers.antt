@@ -1,7 +1,4 @@
 use Rattle.std.proofs.Common.{◌∙◌, sym, ap}
-use Rattle.std.proofs.lemmas.Result.{on_ok_weaker}
-use Rattle.std.specs.Result.{OnOk}
-use Rattle.std.specs.Prelude.{◌≡◌, length}
 use Rattle.ring_run.specs.RingCycle.{is_woken}
 use Rattle.ring_run.proofs.Moves.{moved_if_woken_on}
 use Rattle.ring_run.proofs.run.move_one.Goals as goal

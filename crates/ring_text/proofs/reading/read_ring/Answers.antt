@@ -1,4 +1,4 @@
-use Rattle.std.proofs.Common.{◌<◌, arith, sym, ap, ◌∙◌, subst, not}
+use Rattle.std.proofs.Common.{◌<◌, sym, ap, ◌∙◌, subst}
 use Rattle.ring_text.specs.Model.{CanRun}
 use Rattle.ring_text.specs.Reading.{parts_in}
 use Rattle.ring_text.specs.Shown.{ring_shown, texts}

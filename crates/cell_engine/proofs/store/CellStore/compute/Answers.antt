@@ -1,11 +1,11 @@
-use Rattle.std.proofs.Common.{◌≡◌, ◌<◌, length, map, set, sym, ◌∙◌, ap, subst}
+use Rattle.std.proofs.Common.{◌<◌, length, map, set, sym, ◌∙◌, ap, subst}
 use Rattle.std.specs.Vec.{with_items}
 use Rattle.std.proofs.lemmas.List.{length-map, with_items_is}
 use Rattle.std.proofs.lemmas.Result.{on_ok_weaker}
 use Rattle.cell_engine.specs.Beside.{computed_cell}
 use Rattle.cell_engine.specs.Store.{Store}
 use Rattle.cell_engine.specs.Kept.{cell_from}
-use Rattle.cell_engine.proofs.Stepped.{stored, IsComputed, stepped, only_there}
+use Rattle.cell_engine.proofs.Stepped.{stepped, only_there}
 use Rattle.cell_engine.proofs.store.CellStore.compute.Goals as goal
 
 pub returns-clause-computed : goal.returns-clause-computed

@@ -1,9 +1,8 @@
-use Rattle.std.proofs.Common.{◌≡◌, ℕ, ◌+◌, ◌<◌, ◌≤◌, ◌++◌, length, Some, None, refl, sym, ◌∙◌, ap, subst, arith}
-use Rattle.run_model.specs.Run.{RunState, ended, done, too_many, cycled}
+use Rattle.std.proofs.Common.{◌≡◌, ◌+◌, ◌<◌, ◌≤◌, ◌++◌, Some, None, refl, sym, ◌∙◌, ap, subst}
+use Rattle.run_model.specs.Run.{ended, done, too_many, cycled}
 use Rattle.cell_engine.specs.Ring.{Ring}
-use Rattle.cell_engine.specs.Store.{IsRingStore}
-use Rattle.ring_run.specs.RingCycle.{within, cells_after}
-use Rattle.ring_run.specs.Standing.{Standing, state_of, next_of}
+use Rattle.ring_run.specs.RingCycle.{within}
+use Rattle.ring_run.specs.Standing.{Standing, next_of}
 use Rattle.ring_run.specs.Steps.{Cycles}
 use Rattle.ring_run.proofs.Asked.{IsRingOf}
 use Rattle.ring_run.proofs.Logs.{log_is}

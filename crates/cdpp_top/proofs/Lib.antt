@@ -1,0 +1,8 @@
+pub mod Matched
+pub mod Taken
+pub mod Runs
+pub mod Logs
+pub mod Texts
+pub mod Outcomes
+pub mod Ends
+pub mod TimeBound

@@ -1,0 +1,8 @@
+pub mod Form
+pub mod AskedOf
+pub mod Answer
+pub mod Statuses
+pub mod Logged
+pub mod RunOf
+pub mod Lines
+pub mod Trouble

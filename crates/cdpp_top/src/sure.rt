@@ -1,0 +1,24 @@
+// Over a room that never fails, what comes is the answer.
+ghost use Rattle.std.specs.Prelude.{◌≡◌, ◌⊎◌, map, IfSome};
+ghost use Rattle.std.specs.String.{string_bytes};
+ghost use Rattle.room_edge.specs.Sure.{sure_outside};
+ghost use Rattle.answer_model.specs.Headline.{Writes};
+ghost use Rattle.cdpp_top.specs.Answer.{answer};
+
+use crate::program::cdpp;
+use cell_engine::Steps;
+use room_edge::SureRoom;
+use std::alloc::Global;
+use std::sync::ledger::Ledger;
+
+/// Runs the program over a room that never fails: what comes is the answer, but for want of memory.
+pub fn cdpp_surely<L: Ledger>(
+    alloc: Global,
+    words: &[String],
+    room: &mut SureRoom,
+    steps: &mut Steps<L>,
+) -> u8
+    ensures { IfSome (sure_outside room.old).files (λ files. (result ≡ 12) ⊎ Writes (answer (map string_bytes words.now) files) (sure_outside room.old) (sure_outside room.new) result) }
+{
+    cdpp(alloc, words, room, steps)
+}
