@@ -1,15 +1,19 @@
--- The runs of accepted models: their values are bounded.
-use Rattle.std.specs.Prelude.{◌≡◌, Option, List}
-use Rattle.std.specs.List.{All}
+-- The runs of accepted models: their values are bounded, their leaves and ports have names, and what their logs say is drawn.
+use Rattle.std.specs.Prelude.{◌≡◌, true, Option, List}
+use Rattle.std.specs.List.{All, list_all}
 use Rattle.std.specs.declared.result.Result.TheVariants.{Ok}
 use Rattle.quantity.specs.Bytes.{Bytes}
+use Rattle.quantity.specs.Names.{is_name}
 use Rattle.source_text.specs.Lines.{Files}
 use Rattle.atomic_face.specs.declared.class.Class.{Class}
 use Rattle.event_list.specs.Events.{Event, events_of}
-use Rattle.model_tree.specs.Tree.{Tree}
+use Rattle.model_tree.specs.Tree.{Word, Tree, Leaf, atomic_leaf, cell_leaf, leaves}
+use Rattle.model_tree.specs.Pull.{class_ports, cell_ports}
 use Rattle.run_model.specs.Bounds.{IsDelay, IsBoundedEvent, HasBoundedValues}
 use Rattle.model_text.specs.Drawings.{Drawing}
 use Rattle.model_text.specs.ModelOf.{model, model_of}
+use Rattle.text_forms.specs.LogLine.{is_leaf}
+use Rattle.text_forms.specs.Lines.{leaf_name, further_ports}
 
 -- each value that a model file says, and each delay
 abbrev pub ModelsAreBounded : Type 0
@@ -24,3 +28,20 @@ IsEarly e = IsDelay e.time
 abbrev pub EventsAreBounded : Type 0
 EventsAreBounded =
     (bytes : Bytes) (ports : List Bytes) (events : List Event) → events_of bytes ports ≡ Ok events → All IsBoundedEvent events × All IsEarly events
+
+-- ---- names
+
+abbrev pub in_ports : Leaf → List Word
+in_ports (atomic_leaf name class settings) = class_ports class
+in_ports (cell_leaf g first cell) = cell_ports g cell
+
+-- a leaf's name and the names of its ports are such as lines of a log have
+pub record IsNamed (l : Leaf) : Type 0 where
+  pub leaf : is_leaf (leaf_name l) ≡ true
+  pub further : list_all is_name (further_ports l) ≡ true
+  pub ins : list_all is_name (in_ports l) ≡ true
+
+abbrev pub ModelsAreNamed : Type 0
+ModelsAreNamed =
+    (bytes : Bytes) (files : Files) (classes : List Class) (drawing : Option Drawing) (t : Tree)
+    → (model_of bytes files classes drawing).found ≡ model t → All IsNamed (leaves t)

@@ -1,5 +1,5 @@
 // Laws of the runs of accepted models.
-ghost use Rattle.answer_model.specs.AcceptedRuns.{EventsAreBounded, ModelsAreBounded};
+ghost use Rattle.answer_model.specs.AcceptedRuns.{EventsAreBounded, ModelsAreBounded, ModelsAreNamed};
 
 use model_text::accepted::{accepted_models_are_sound, accepted_models_pass_each_phase};
 use rule_syntax::texts::the_grammar_is_found;
@@ -16,4 +16,12 @@ pub fn accepted_models_have_bounded_values()
     the_grammar_is_found();
     accepted_models_pass_each_phase();
     accepted_models_are_sound();
+}
+
+/// The leaves of an accepted model, their further ports and their inputs have names.
+pub fn accepted_names_are_names()
+    ensures { ModelsAreNamed }
+{
+    accepted_models_have_bounded_values();
+    accepted_models_pass_each_phase();
 }
