@@ -1,5 +1,5 @@
 -- The runs of accepted models: their values are bounded, their leaves and ports have names, and what their logs say is drawn.
-use Rattle.std.specs.Prelude.{◌≡◌, true, Option, List}
+use Rattle.std.specs.Prelude.{ℕ, Some, ◌≡◌, true, Option, List}
 use Rattle.std.specs.List.{All, list_all}
 use Rattle.std.specs.declared.result.Result.TheVariants.{Ok}
 use Rattle.quantity.specs.Bytes.{Bytes}
@@ -7,13 +7,15 @@ use Rattle.quantity.specs.Names.{is_name}
 use Rattle.source_text.specs.Lines.{Files}
 use Rattle.atomic_face.specs.declared.class.Class.{Class}
 use Rattle.event_list.specs.Events.{Event, events_of}
-use Rattle.model_tree.specs.Tree.{Word, Tree, Leaf, atomic_leaf, cell_leaf, leaves}
+use Rattle.model_tree.specs.Tree.{Word, Group, Tree, Leaf, atomic_leaf, cell_leaf, leaves}
 use Rattle.model_tree.specs.Pull.{class_ports, cell_ports}
 use Rattle.run_model.specs.Bounds.{IsDelay, IsBoundedEvent, HasBoundedValues}
 use Rattle.model_text.specs.Drawings.{Drawing}
 use Rattle.model_text.specs.ModelOf.{model, model_of}
 use Rattle.text_forms.specs.LogLine.{is_leaf}
 use Rattle.text_forms.specs.Lines.{leaf_name, further_ports}
+use Rattle.answer_model.specs.RunFiles.{group_at}
+use Rattle.text_forms.specs.DrawnLines.{NamesCells}
 
 -- each value that a model file says, and each delay
 abbrev pub ModelsAreBounded : Type 0
@@ -45,3 +47,10 @@ abbrev pub ModelsAreNamed : Type 0
 ModelsAreNamed =
     (bytes : Bytes) (files : Files) (classes : List Class) (drawing : Option Drawing) (t : Tree)
     → (model_of bytes files classes drawing).found ≡ model t → All IsNamed (leaves t)
+
+-- the group's name is that of no other leaf
+abbrev pub GroupsAreNamed : Type 0
+GroupsAreNamed =
+    (bytes : Bytes) (files : Files) (classes : List Class) (drawing : Option Drawing) (t : Tree)
+    → (model_of bytes files classes drawing).found ≡ model t → (name : Word) (g : ℕ × Group)
+    → group_at name (leaves t) ≡ Some g → NamesCells g.1.space name g.0 (leaves t)

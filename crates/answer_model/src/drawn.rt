@@ -1,5 +1,5 @@
 // Laws of the runs of accepted models.
-ghost use Rattle.answer_model.specs.AcceptedRuns.{EventsAreBounded, ModelsAreBounded, ModelsAreNamed};
+ghost use Rattle.answer_model.specs.AcceptedRuns.{EventsAreBounded, GroupsAreNamed, ModelsAreBounded, ModelsAreNamed};
 
 use model_text::accepted::{accepted_models_are_sound, accepted_models_pass_each_phase};
 use rule_syntax::texts::the_grammar_is_found;
@@ -24,4 +24,11 @@ pub fn accepted_names_are_names()
 {
     accepted_models_have_bounded_values();
     accepted_models_pass_each_phase();
+}
+
+/// In an accepted model a leaf's name shows just where the leaf stands in a group.
+pub fn accepted_names_show_cells()
+    ensures { GroupsAreNamed }
+{
+    accepted_models_are_sound();
 }
