@@ -1,20 +1,22 @@
 -- The runs of accepted models: their values are bounded, their leaves and ports have names, and what their logs say is drawn.
-use Rattle.std.specs.Prelude.{ℕ, Some, ◌≡◌, true, Option, List}
-use Rattle.std.specs.List.{All, list_all}
+use Rattle.std.specs.Prelude.{◌≡◌, ℕ, ◌==◌, true, Option, Some, None, List}
+use Rattle.std.specs.List.{All, list_all, list_any}
 use Rattle.std.specs.declared.result.Result.TheVariants.{Ok}
 use Rattle.quantity.specs.Bytes.{Bytes}
 use Rattle.quantity.specs.Names.{is_name}
 use Rattle.source_text.specs.Lines.{Files}
 use Rattle.atomic_face.specs.declared.class.Class.{Class}
 use Rattle.event_list.specs.Events.{Event, events_of}
-use Rattle.model_tree.specs.Tree.{Word, Group, Tree, Leaf, atomic_leaf, cell_leaf, leaves}
+use Rattle.model_tree.specs.Tree.{Word, Group, Tree, Leaf, atomic_leaf, cell_leaf, leaves, ins_of}
 use Rattle.model_tree.specs.Pull.{class_ports, cell_ports}
 use Rattle.run_model.specs.Bounds.{IsDelay, IsBoundedEvent, HasBoundedValues}
 use Rattle.model_text.specs.Drawings.{Drawing}
 use Rattle.model_text.specs.ModelOf.{model, model_of}
 use Rattle.text_forms.specs.LogLine.{is_leaf}
-use Rattle.text_forms.specs.Lines.{leaf_name, further_ports}
-use Rattle.answer_model.specs.RunFiles.{group_at}
+use Rattle.text_forms.specs.Lines.{leaf_name, further_ports, log_bytes}
+use Rattle.text_forms.specs.Frames.{Picture, frames_of, drawn}
+use Rattle.answer_model.specs.RunFiles.{group_at, emitted_before}
+use Rattle.answer_model.specs.Cdpp.{run_on}
 use Rattle.text_forms.specs.DrawnLines.{NamesCells}
 
 -- each value that a model file says, and each delay
@@ -54,3 +56,23 @@ GroupsAreNamed =
     (bytes : Bytes) (files : Files) (classes : List Class) (drawing : Option Drawing) (t : Tree)
     → (model_of bytes files classes drawing).found ≡ model t → (name : Word) (g : ℕ × Group)
     → group_at name (leaves t) ≡ Some g → NamesCells g.1.space name g.0 (leaves t)
+
+-- ---- drawn runs
+
+-- the frames drawn from the log of a run are those of the run: of a model, events, an end and limit, letters with Y, and a group
+abbrev pub IsDrawn : Tree → List Event → ℕ → Type 0
+IsDrawn t events end =
+    (limit : ℕ) (letters : List ℕ) → list_any (λ c. c == 89) letters ≡ true → (name : Word) (g : ℕ × Group) → group_at name (leaves t) ≡ Some g → (p : Picture)
+    → p.space ≡ g.1.space → drawn p name (log_bytes t letters (run_on t events end limit None).cycles) ≡ Ok (frames_of p g.0 (emitted_before None g) (run_on t events end limit None).cycles)
+
+abbrev pub RunsAreDrawn : Type 0
+RunsAreDrawn =
+    (bytes : Bytes) (files : Files) (classes : List Class) (drawing : Option Drawing) (t : Tree)
+    → (model_of bytes files classes drawing).found ≡ model t → (events : List Event) → All IsBoundedEvent events → (end : ℕ) → IsDelay end → IsDrawn t events end
+
+-- the same of an accepted file of events
+abbrev pub FilesAreDrawn : Type 0
+FilesAreDrawn =
+    (bytes : Bytes) (files : Files) (classes : List Class) (drawing : Option Drawing) (t : Tree)
+    → (model_of bytes files classes drawing).found ≡ model t → (event_bytes : Bytes) (events : List Event) → events_of event_bytes (ins_of t) ≡ Ok events
+    → (end : ℕ) → IsDelay end → IsDrawn t events end

@@ -1,8 +1,10 @@
 // Laws of the runs of accepted models.
-ghost use Rattle.answer_model.specs.AcceptedRuns.{EventsAreBounded, GroupsAreNamed, ModelsAreBounded, ModelsAreNamed};
+ghost use Rattle.answer_model.specs.AcceptedRuns.{EventsAreBounded, FilesAreDrawn, GroupsAreNamed, ModelsAreBounded, ModelsAreNamed, RunsAreDrawn};
 
+use crate::laws::drawn_agrees;
 use model_text::accepted::{accepted_models_are_sound, accepted_models_pass_each_phase};
 use rule_syntax::texts::the_grammar_is_found;
+use run_model::laws::{records_name_what_there_is, values_are_bounded};
 
 /// The values of the events of an accepted file are bounded, and their times at most 99:59:59:999.
 pub fn accepted_events_are_bounded()
@@ -31,4 +33,20 @@ pub fn accepted_names_show_cells()
     ensures { GroupsAreNamed }
 {
     accepted_models_are_sound();
+}
+
+/// The frames drawn from the log of a run are those of the run, for each accepted model, its groups, and an end of at most 99:59:59:999:
+/// with any bounded events, and with those of an accepted file.
+pub fn drawn_agrees_for_accepted_models()
+    ensures runs { RunsAreDrawn }
+    ensures files { FilesAreDrawn }
+{
+    accepted_events_are_bounded();
+    accepted_models_have_bounded_values();
+    accepted_names_are_names();
+    accepted_names_show_cells();
+    accepted_models_are_sound();
+    values_are_bounded();
+    records_name_what_there_is();
+    drawn_agrees();
 }
