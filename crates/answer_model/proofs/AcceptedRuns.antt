@@ -1,5 +1,5 @@
 -- The records of a run of an accepted model have lines of a log's form, so its frames are drawn from its log.
-use Rattle.std.proofs.Common.{◌≡◌, ℕ, zero, suc, ◌+◌, ◌^◌, ◌≤◌, ◌<◌, Bool, true, false, Option, Some, None, List, [], ◌∷◌, ◌++◌, length, take, refl, sym, ◌∙◌, subst, arith, rules}
+use Rattle.std.proofs.Common.{◌≡◌, ℕ, zero, suc, ◌+◌, ◌^◌, ◌≤◌, ◌<◌, Bool, true, Option, Some, None, List, [], ◌∷◌, ◌++◌, length, take, refl, sym, ◌∙◌, subst, arith, rules}
 use Rattle.std.specs.Prelude.{⊤, ◌&&◌, ◌==◌, not, nat_le, nat_lt, slice_get, unsigned_abs, IfSome, IsSomeAnd, codes, map}
 use Rattle.std.specs.List.{All, list_all, filter_map, cons_option, flat_map, range_with_len}
 use Rattle.std.specs.Option.{option_map}
@@ -14,10 +14,10 @@ use Rattle.quantity.specs.Bytes.{has_repeat}
 use Rattle.quantity.specs.Names.{is_name}
 use Rattle.rule_syntax.specs.Phrases.{out}
 use Rattle.cell_grid.specs.Space.{cell_count, place_of}
-use Rattle.model_tree.specs.Tree.{Word, Group, Tree, Trees, coupled, cells, atomic, nil, cons, Leaf, atomic_leaf, cell_leaf, leaf_count, leaves_from, all_leaves_from, leaves, ins_of, outs_of}
+use Rattle.model_tree.specs.Tree.{Word, Group, Tree, Trees, coupled, cells, atomic, nil, cons, Leaf, atomic_leaf, cell_leaf, leaf_count, leaves_from, all_leaves_from, leaves, ins_of}
 use Rattle.model_tree.specs.Faces.{face_of_coupled, face_of_group}
 use Rattle.model_tree.specs.Pull.{class_ports, cell_ports}
-use Rattle.model_tree.specs.Sound.{is_near_offset, offsets_differ, has_right_names, has_right_rules, is_sound_group, are_accepted, has_child, is_sound_part, are_sound_parts, totals, is_within_limits, path_count, is_sound_model}
+use Rattle.model_tree.specs.Sound.{is_near_offset, offsets_differ, has_right_names, has_right_rules, is_sound_group, are_accepted, has_child, is_sound_part, are_sound_parts}
 use Rattle.run_model.specs.Run.{PortRecord, StateRecord, Cycle, start}
 use Rattle.run_model.specs.Bounds.{IsDelay, IsTime, IsBoundedPortRecord, IsBoundedStateRecord, IsBoundedCycle, StartIsBounded, RunsAreBounded}
 use Rattle.run_model.specs.Fitting.{IsFurtherPort, IsInPort, IsStateValue, OfLeaf, NamesItsParts, StartFits, RunsFit}
@@ -27,12 +27,9 @@ use Rattle.text_forms.specs.Lines.{leaf_name, name_at, out_port_name, in_port_na
 use Rattle.answer_model.specs.Cdpp.{run_on}
 use Rattle.answer_model.specs.AcceptedRuns.{IsNamed, EventsAreBounded, ModelsAreBounded, ModelsAreNamed, GroupsAreNamed, RunsAreDrawn, FilesAreDrawn}
 use Rattle.answer_model.specs.DrawnRuns.{DrawnAgrees}
-use Rattle.answer_model.proofs.LowerCase.{both_are}
-use Rattle.answer_model.proofs.BoundedTexts.{none_some, some_same}
 use Rattle.answer_model.proofs.Resumes.{is_run}
-
-true_false : true ≡ false → ⊥
-true_false e = cc
+use Rattle.answer_model.proofs.Basics.{true_false, none_some, some_same, both_are}
+use Rattle.answer_model.proofs.SoundParts.{sound_is}
 
 -- ---- each further port has a name and a value
 
@@ -221,14 +218,6 @@ cycles_fit t end (c ∷ cs) early known b n =
     ∙ both_are (list_all is_line (cycle_lines (leaves t) c)) (list_all is_line (flat_map (cycle_lines (leaves t)) cs)) (cycle_fits t end c early known (All-head (IsBoundedCycle end) c cs b) (All-head (NamesItsParts t) c cs n))
     (cycles_fit t end cs early known (All-tail (IsBoundedCycle end) c cs b) (All-tail (NamesItsParts t) c cs n))
 
-sound_part : (t : Tree) → is_sound_model t ≡ true → is_sound_part t ≡ true
-sound_part t h =
-    let n = totals t in
-    let p = and_parts (is_sound_part t && is_within_limits n && nat_le (length (ins_of t)) 65536 && nat_le (length (outs_of t)) 65536) (nat_le (path_count t) 65536) h in
-    let q = and_parts (is_sound_part t && is_within_limits n && nat_le (length (ins_of t)) 65536) (nat_le (length (outs_of t)) 65536) p.0 in
-    let r = and_parts (is_sound_part t && is_within_limits n) (nat_le (length (ins_of t)) 65536) q.0 in
-    (and_parts (is_sound_part t) (is_within_limits n) r.0).0
-
 -- the laws that the last one stands on
 pub record Laws : Type 0 where
   pub bounded : ModelsAreBounded
@@ -246,7 +235,7 @@ runs_are_drawn laws bytes files classes drawing t e events small end early limit
     let values = laws.bounded bytes files classes drawing t e in
     let r = run_on t events end limit None in
     let runs = is_run t events limit end None tt in
-    let known : AreKnown (leaves t) = record { named = laws.named bytes files classes drawing t e; ported = leaves_have t 0 (sound_part t (laws.sound bytes files classes drawing t e)) } in
+    let known : AreKnown (leaves t) = record { named = laws.named bytes files classes drawing t e; ported = leaves_have t 0 (sound_is t (laws.sound bytes files classes drawing t e)).parts } in
     let bounded = laws.runs_bounded t end limit (start t events) r.left r.cycles r.verdict values early (laws.start_bounded t events values small) runs in
     let fits = laws.runs_fit t end limit (start t events) r.left r.cycles r.verdict (laws.start_fits t events) runs in
     laws.drawn t events end limit letters name g p

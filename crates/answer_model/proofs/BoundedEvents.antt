@@ -18,7 +18,8 @@ use Rattle.event_list.specs.declared.refusal.EventRefusal.{EventRefusal}
 use Rattle.event_list.specs.Events.{Event, event_of, event_of_words, event_at, file_refused, put_event, by_time, events_of}
 use Rattle.run_model.specs.Bounds.{IsDelay}
 use Rattle.answer_model.specs.AcceptedRuns.{EventsAreBounded}
-use Rattle.answer_model.proofs.BoundedTexts.{none_some, some_same, value_bounded, time_early}
+use Rattle.answer_model.proofs.BoundedTexts.{value_bounded, time_early}
+use Rattle.answer_model.proofs.Basics.{none_some, some_same}
 
 abbrev Fits : Event → Type 0
 Fits e = IsBounded e.value × IsDelay e.time

@@ -9,7 +9,6 @@ use Rattle.std.specs.Bool.{then_some}
 use Rattle.std.specs.Result.{result_ok}
 use Rattle.std.specs.Str.{bytes_eq}
 use Rattle.std.proofs.lemmas.Bool.{and_parts}
-use Rattle.std.proofs.lemmas.Bool.Decides.{nat_tests}
 use Rattle.std.proofs.lemmas.List.Elements.{All-nil, All-cons, All-head, All-tail, All-append, All-take, All-drop, All-set, All-replicate}
 use Rattle.quantity.specs.declared.value.Value.{Value}
 use Rattle.quantity.specs.declared.value.Value.TheVariants.{Undefined}
@@ -29,9 +28,9 @@ use Rattle.rule_syntax.specs.RuleOf.{rule_of, FindsTheGrammar}
 use Rattle.cell_grid.specs.Space.{Space, cell_count}
 use Rattle.cell_grid.specs.Initial.{Row, is_row, row_of, digit_value, digits_row, values_row, row_digits, row_values, map_file, cell_value, cell_line, cells_file, filled, with_row, with_cell, with_rows, with_map, with_cells}
 use Rattle.atomic_face.specs.declared.class.Class.{Class}
-use Rattle.model_tree.specs.Tree.{Group, Tree, Trees, coupled, cells, atomic, nil, cons, ins_of, outs_of}
+use Rattle.model_tree.specs.Tree.{Group, Tree, Trees, coupled, cells, atomic, nil, cons}
 use Rattle.model_tree.specs.Faces.{face_of_coupled, face_of_group}
-use Rattle.model_tree.specs.Sound.{is_near_offset, offsets_differ, has_right_names, has_right_rules, is_sound_group, are_accepted, has_child, is_sound_part, are_sound_parts, totals, all_totals, is_within_limits, path_count, is_sound_model}
+use Rattle.model_tree.specs.Sound.{is_near_offset, offsets_differ, has_right_names, has_right_rules, is_sound_group, are_accepted, has_child, is_sound_part, are_sound_parts, totals, all_totals}
 use Rattle.model_text.specs.Keyed.{section_named, entries_of, value_of, texts_of, Item}
 use Rattle.model_text.specs.Walk.{top, is_group, children_of, section_of}
 use Rattle.model_text.specs.Spaces.{space_of, row_in, rows_of}
@@ -42,15 +41,13 @@ use Rattle.model_text.specs.Trees.{initial_value_of, map_of, cells_of, initial_o
 use Rattle.model_text.specs.Accepted.{PassesEachPhase, ReadsSoundModels}
 use Rattle.run_model.specs.Bounds.{IsBoundedRule, IsBoundedGroup, AreBoundedSettings, HasBoundedValues, HaveBoundedValues}
 use Rattle.answer_model.specs.AcceptedRuns.{ModelsAreBounded}
-use Rattle.answer_model.proofs.BoundedTexts.{none_some, some_same, then_there, on_there, value_bounded}
+use Rattle.answer_model.proofs.BoundedTexts.{value_bounded}
 use Rattle.answer_model.proofs.BoundedRules.{rule_bounded}
 use Rattle.answer_model.proofs.BoundedSettings.{settings_bounded}
+use Rattle.answer_model.proofs.Basics.{none_some, some_same, then_there, on_there, both_hold}
+use Rattle.answer_model.proofs.SoundParts.{at_most, sound_is}
 
 -- ---- what is found holds
-
-each_holds : {X : Type 0} (P : X → Type 0) → ((x : X) → P x) → (xs : List X) → All P xs
-each_holds P each [] = All-nil P
-each_holds P each (x ∷ xs) = All-cons P x xs (each x) (each_holds P each xs)
 
 mapped_hold : {X Y : Type 0} (P : Y → Type 0) (f : X → Y) → ((x : X) → P (f x)) → (xs : List X) → All P (map f xs)
 mapped_hold P f each [] = All-nil P
@@ -230,10 +227,6 @@ trees_say : (ts : List Tree) → AllByRecursion Says ts → AllSay (trees ts)
 trees_say [] h = tt
 trees_say (t ∷ ts) h = (h.0, trees_say ts h.1)
 
-both_hold : {X : Type 0} (P : X → Type 0) (xs ys : List X) → AllByRecursion P xs → AllByRecursion P ys → AllByRecursion P (xs ++ ys)
-both_hold P [] ys h k = k
-both_hold P (x ∷ xs) ys h k = (h.0, both_hold P xs ys h.1 k)
-
 each_says : {X : Type 0} (f : X → List Tree) → ((x : X) → AllByRecursion Says (f x)) → (xs : List X) → AllByRecursion Says (flat_map f xs)
 each_says f each [] = tt
 each_says f each (x ∷ xs) = both_hold Says (f x) (flat_map f xs) (each x) (each_says f each xs)
@@ -266,9 +259,6 @@ tree_says grammar files ss = go (section_named ss top)
     go (Some s) = first_says (component_of 17 files ss s) (component_says grammar 17 files ss s)
 
 -- ---- with what sound models keep
-
-at_most : (a b : ℕ) → nat_le a b ≡ true → a ≤ b
-at_most a b h = grind (arith, nat_tests)
 
 group_bounded : (g : Group) → SaysBounded g → is_sound_group g ≡ true → cell_count g.space ≤ 1048576 → IsBoundedGroup g
 group_bounded g h sound size =
@@ -315,20 +305,8 @@ mutual
       let p = and_parts (is_sound_part t) (are_sound_parts ts) sound in
       (values_kept t h.0 p.0 (first (totals t).cells (all_totals ts).cells few), all_kept ts h.1 p.1 (second (totals t).cells (all_totals ts).cells few))
 
-few_cells : (t : Tree) → is_sound_model t ≡ true → (is_sound_part t ≡ true) × ((totals t).cells ≤ 1048576)
-few_cells t h =
-    let n = totals t in
-    let p = and_parts (is_sound_part t && is_within_limits n && nat_le (length (ins_of t)) 65536 && nat_le (length (outs_of t)) 65536) (nat_le (path_count t) 65536) h in
-    let q = and_parts (is_sound_part t && is_within_limits n && nat_le (length (ins_of t)) 65536) (nat_le (length (outs_of t)) 65536) p.0 in
-    let r = and_parts (is_sound_part t && is_within_limits n) (nat_le (length (ins_of t)) 65536) q.0 in
-    let v = and_parts (is_sound_part t) (is_within_limits n) r.0 in
-    let a = and_parts (not (has_repeat n.names) && nat_le n.cells 1048576 && nat_le n.atomics 4096 && nat_le n.links 16384) (nat_le n.depth 17) v.1 in
-    let b = and_parts (not (has_repeat n.names) && nat_le n.cells 1048576 && nat_le n.atomics 4096) (nat_le n.links 16384) a.0 in
-    let c = and_parts (not (has_repeat n.names) && nat_le n.cells 1048576) (nat_le n.atomics 4096) b.0 in
-    (v.0, at_most n.cells 1048576 (and_parts (not (has_repeat n.names)) (nat_le n.cells 1048576) c.0).1)
-
 pub models_are_bounded : FindsTheGrammar → PassesEachPhase → ReadsSoundModels → ModelsAreBounded
 models_are_bounded grammar passes sound bytes files classes drawing t e =
     let a = passes bytes files classes drawing t e in
-    let s = few_cells t (sound bytes files classes drawing t e) in
-    values_kept t (subst Says (sym a.tree) (tree_says grammar files a.sections)) s.0 s.1
+    let s = sound_is t (sound bytes files classes drawing t e) in
+    values_kept t (subst Says (sym a.tree) (tree_says grammar files a.sections)) s.parts s.cells

@@ -21,7 +21,8 @@ use Rattle.atomic_face.specs.Classes.{holds_in, any_word, same_word, table_setti
 use Rattle.atomic_face.specs.Settings.{Parameter, parameter, time_word, period_word, positive, value_word, setting_of, settings_of}
 use Rattle.atomic_face.specs.TableSettings.{HoldWords, hold_of, hold_of_words, hold_in, holds_of, hold_words, with_key, value_or, word_in, number_in, take_in, states_of, settings_with}
 use Rattle.run_model.specs.Bounds.{IsDelay, IsTime, IsValueWord, IsBoundedHold, AreBoundedSettings}
-use Rattle.answer_model.proofs.BoundedTexts.{none_some, some_same, then_there, map_there, on_there, value_bounded, time_early}
+use Rattle.answer_model.proofs.BoundedTexts.{value_bounded, time_early}
+use Rattle.answer_model.proofs.Basics.{true_false, none_some, some_same, then_there, map_there, on_there}
 
 -- ---- words
 
@@ -97,10 +98,7 @@ last_or_value : (text : Bytes) (w : ℤ) → value_or (codes "last") text ≡ So
 last_or_value text w e h = go (bytes_eq text (codes "last")) e
   where
     go : (b : Bool) → cond b (Some any_word) (option_map word_of (value_in text)) ≡ Some w → IsValueWord w
-    go true f = absurd (never (subst (λ v. same_word v any_word ≡ false) (sym (some_same any_word w f)) h))
-      where
-        never : true ≡ false → ⊥
-        never k = cc
+    go true f = absurd (true_false (subst (λ v. same_word v any_word ≡ false) (sym (some_same any_word w f)) h))
     go false f = valued_is text w f
 
 three_are : (a b c : Option ℤ) (ws : List ℤ) → ((t : ℤ) → a ≡ Some t → IsTimeWord t) → ((v : ℤ) → b ≡ Some v → same_word v any_word ≡ false → IsValueWord v) → all_there (a ∷ b ∷ c ∷ []) ≡ Some ws → IsHold ws

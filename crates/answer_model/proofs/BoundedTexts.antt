@@ -1,12 +1,11 @@
 -- The numbers, values and times that texts stand for are bounded.
-use Rattle.std.proofs.Common.{◌≡◌, ℕ, zero, suc, ◌+◌, ◌-◌, ◌*◌, ◌^◌, ◌≤◌, ◌<◌, Bool, true, false, cond, Option, Some, None, List, [], ◌∷◌, ◌++◌, length, take, replicate, refl, sym, ap, ◌∙◌, subst, arith, lit<}
+use Rattle.std.proofs.Common.{◌≡◌, ℕ, zero, suc, ◌+◌, ◌-◌, ◌*◌, ◌^◌, ◌≤◌, ◌<◌, Bool, true, false, cond, Option, Some, None, List, [], ◌∷◌, ◌++◌, length, take, replicate, refl, sym, subst, arith, lit<}
 use Rattle.std.specs.Prelude.{◌&&◌, ◌||◌, ◌==◌, min, not, nat_lt, ℤ, pos, neg_ℤ, unsigned_abs, codes}
 use Rattle.std.proofs.lemmas.List.{length-take}
 use Rattle.std.proofs.lemmas.Bool.Decides.{nat_tests}
 use Rattle.std.specs.Char.{is_ascii_digit}
 use Rattle.std.specs.List.{fold, slice_split}
-use Rattle.std.specs.Bool.{then_some}
-use Rattle.std.specs.Option.{option_map, option_and_then}
+use Rattle.std.specs.Option.{option_and_then}
 use Rattle.std.specs.Str.{bytes_eq, all_ascii_digits}
 use Rattle.quantity.specs.declared.value.Value.{Value}
 use Rattle.quantity.specs.declared.value.Value.TheVariants.{Undefined, Num}
@@ -16,26 +15,7 @@ use Rattle.quantity.specs.Literals.{whole_digits, decimals, is_unsigned_literal,
 use Rattle.quantity.specs.Arithmetic.{IsBounded}
 use Rattle.quantity.specs.Times.{milliseconds_of, parsed_parts, time_in}
 use Rattle.quantity.proofs.DigitLemmas.{both, one_digit_more, below_more, no_longer, with_decimals}
-
--- ---- options that are there
-
-pub none_some : {A : Type 0} {x : A} → None ≡ Some x → ⊥
-none_some e = cc
-
-pub some_same : {A : Type 0} (x y : A) → ◌≡◌ {A = Option A} (Some x) (Some y) → x ≡ y
-some_same x y e = cc
-
-pub then_there : {A : Type 0} (b : Bool) (x y : A) → then_some b x ≡ Some y → (b ≡ true) × (x ≡ y)
-then_there true x y e = (refl, some_same x y e)
-then_there false x y e = absurd (none_some e)
-
-pub map_there : {A B : Type 0} (f : A → B) (o : Option A) (y : B) → option_map f o ≡ Some y → (x : A) × (o ≡ Some x) × (f x ≡ y)
-map_there f None y e = absurd (none_some e)
-map_there f (Some x) y e = (x, refl, some_same (f x) y e)
-
-pub on_there : {A B : Type 0} (f : A → Option B) (o : Option A) (y : B) → option_and_then f o ≡ Some y → (x : A) × (o ≡ Some x) × (f x ≡ Some y)
-on_there f None y e = absurd (none_some e)
-on_there f (Some x) y e = (x, refl, e)
+use Rattle.answer_model.proofs.Basics.{none_some, some_same, then_there, map_there, both_are}
 
 -- ---- digits
 
@@ -60,9 +40,6 @@ number_below ds e = subst (λ k. number_in ds < 10 ^ k) (none (length ds)) (digi
   where
     none : (k : ℕ) → 0 + k ≡ k
     none k = omega arith
-
-both_are : (a b : Bool) → a ≡ true → b ≡ true → (a && b) ≡ true
-both_are a b e f = ap (λ c. c && b) e ∙ f
 
 digits_join : (xs ys : Bytes) → all_ascii_digits xs ≡ true → all_ascii_digits ys ≡ true → all_ascii_digits (xs ++ ys) ≡ true
 digits_join [] ys h k = k

@@ -1,5 +1,5 @@
 -- The values of entries are in lower case, but for the names of files, and so are their words.
-use Rattle.std.proofs.Common.{◌≡◌, ℕ, Bool, true, false, cond, Option, Some, None, List, [], ◌∷◌, ◌++◌, refl, ap, ◌∙◌, subst, arith}
+use Rattle.std.proofs.Common.{◌≡◌, ℕ, Bool, true, false, cond, Option, Some, None, List, [], ◌∷◌, ◌++◌, refl, subst, arith}
 use Rattle.std.specs.Prelude.{◌&&◌, ◌==◌, not}
 use Rattle.std.specs.declared.result.Result.{Result}
 use Rattle.std.specs.declared.result.Result.TheVariants.{Ok}
@@ -14,13 +14,10 @@ use Rattle.ma_lines.specs.declared.section.Entry.{Entry}
 use Rattle.ma_lines.specs.declared.section.LineRefusal.{LineRefusal}
 use Rattle.ma_lines.specs.Entries.{Braced, braced, continuation, key_in, keeps_letters, value_after, entry_of, is_heading}
 use Rattle.ma_lines.specs.Sections.{Section, Piece, heading, item, piece_of, pieces, first_entries, sections_in, lines_refused, section_name, unless_refused, sections_of}
-use Rattle.answer_model.proofs.BoundedTexts.{none_some, some_same}
+use Rattle.answer_model.proofs.Basics.{none_some, some_same, both_are, both_hold}
 
 abbrev pub is_lower : ℕ → Bool
 is_lower c = not (is_ascii_uppercase c)
-
-pub both_are : (a b : Bool) → a ≡ true → b ≡ true → (a && b) ≡ true
-both_are a b e f = ap (λ c. c && b) e ∙ f
 
 folded_lower : (text : Bytes) → list_all is_lower (folded text) ≡ true
 folded_lower [] = refl
@@ -44,10 +41,6 @@ entry_folds l more = record { folds = go (keeps_letters (key_in l.text)) }
 abbrev PieceFolds : Piece → Type 0
 PieceFolds (heading line name) = Unit {0}
 PieceFolds (item e) = IsFolded e
-
-pub both_hold : {X : Type 0} (P : X → Type 0) (xs ys : List X) → AllByRecursion P xs → AllByRecursion P ys → AllByRecursion P (xs ++ ys)
-both_hold P [] ys h k = k
-both_hold P (x ∷ xs) ys h k = (h.0, both_hold P xs ys h.1 k)
 
 piece_folds : (l : Line) (more : Bytes) → AllByRecursion PieceFolds (piece_of l more)
 piece_folds l more = go (is_empty l.text) (is_heading l)

@@ -1,13 +1,12 @@
 -- In an accepted model a leaf's name shows just where the leaf stands in a group.
 use Rattle.std.proofs.Common.{◌≡◌, ℕ, zero, suc, ◌+◌, ◌-◌, ◌*◌, ◌/◌, ◌%◌, ◌≤◌, ◌<◌, Bool, true, false, cond, Option, Some, None, List, [], ◌∷◌, ◌++◌, length, map, take, refl, sym, ap, ◌∙◌, subst, arith, rules}
-use Rattle.std.specs.Prelude.{⊤, ◌&&◌, ◌||◌, not, nat_le, nat_lt, slice_get}
+use Rattle.std.specs.Prelude.{⊤, ◌&&◌, ◌||◌, nat_le, nat_lt, slice_get}
 use Rattle.std.specs.List.{AllByRecursion, range_with_len}
 use Rattle.std.specs.Option.{option_or, option_to_list, unwrap_or}
 use Rattle.std.specs.Str.{bytes_eq}
 use Rattle.std.proofs.Math.Nat.{mod-lt, div-lt_iff_lt-mul}
 use Rattle.std.proofs.lemmas.Nat.{div-add-mod'}
 use Rattle.std.proofs.lemmas.List.{length-append}
-use Rattle.std.proofs.lemmas.Bool.{and_parts}
 use Rattle.std.proofs.lemmas.Bool.Decides.{nat_tests}
 use Rattle.std.proofs.lemmas.Slice.Eq.{bytes_eq-Decides}
 use Rattle.std.proofs.lemmas.List.Folds.{list_any-append}
@@ -16,27 +15,18 @@ use Rattle.quantity.specs.Bytes.{is_among, has_repeat}
 use Rattle.rule_syntax.specs.Meaning.{coordinates}
 use Rattle.cell_grid.specs.declared.grid.Border.{Border}
 use Rattle.cell_grid.specs.Space.{Space, cell_count, dims_of, place_of}
-use Rattle.model_tree.specs.Tree.{Word, Group, Tree, Trees, coupled, cells, atomic, nil, cons, Leaf, atomic_leaf, cell_leaf, leaf_count, leaf_counts, leaves_from, all_leaves_from, leaves, ins_of, outs_of}
-use Rattle.model_tree.specs.Sound.{totals, all_totals, is_sound_part, is_within_limits, path_count, is_sound_model}
+use Rattle.model_tree.specs.Tree.{Word, Group, Tree, Trees, coupled, cells, atomic, nil, cons, Leaf, atomic_leaf, cell_leaf, leaf_count, leaf_counts, leaves_from, all_leaves_from, leaves}
+use Rattle.model_tree.specs.Sound.{totals, all_totals}
 use Rattle.model_text.specs.Accepted.{ReadsSoundModels}
 use Rattle.text_forms.specs.LogLine.{given}
 use Rattle.text_forms.specs.Lines.{leaf_name}
 use Rattle.text_forms.specs.Frames.{Shown, shown_by, shown_at, shown_of, cell_of}
 use Rattle.answer_model.specs.RunFiles.{group_at}
 use Rattle.answer_model.specs.AcceptedRuns.{GroupsAreNamed}
-use Rattle.answer_model.proofs.BoundedTexts.{none_some, some_same}
+use Rattle.answer_model.proofs.Basics.{true_false, none_some, some_same, both_false, same_bytes, both_hold}
+use Rattle.answer_model.proofs.SoundParts.{sound_is}
 
 -- ---- names that differ
-
-true_false : true ≡ false → ⊥
-true_false e = cc
-
-both_false : (a b : Bool) → (a || b) ≡ false → (a ≡ false) × (b ≡ false)
-both_false true b e = absurd (true_false e)
-both_false false b e = (refl, e)
-
-same_bytes : (a b : Word) → bytes_eq a b ≡ true → a ≡ b
-same_bytes a b e = search (rules, bytes_eq-Decides)
 
 differs_back : (a b : Word) → bytes_eq a b ≡ false → bytes_eq b a ≡ false
 differs_back a b e = search (rules, bytes_eq-Decides)
@@ -229,10 +219,6 @@ of_cells name g f a (suc n) p e = go (λ h. of_cells name g f (a + 1) n p h) (by
     go later true same h = (same, some_same (f, g) p h)
     go later false same h = later h
 
-both_hold : {X : Type 0} (P : X → Type 0) (xs ys : List X) → AllByRecursion P xs → AllByRecursion P ys → AllByRecursion P (xs ++ ys)
-both_hold P [] ys h k = k
-both_hold P (x ∷ xs) ys h k = (h.0, both_hold P xs ys h.1 k)
-
 other_cells : (name : Word) (g : Group) (f a n : ℕ) → bytes_eq g.name name ≡ false → AllByRecursion (IsOther name) (map (cell_leaf g f) (range_with_len a n))
 other_cells name g f a zero h = tt
 other_cells name g f a (suc n) h = (h, other_cells name g f (a + 1) n h)
@@ -351,25 +337,9 @@ mutual
   all_stand (cons t ts) first name p once e =
       joined_stand t ts first name p once e (λ h. stands t first name p (first_once (totals t).names (all_totals ts).names once) h) (λ h. all_stand ts (first + leaf_count t) name p (last_once (totals t).names (all_totals ts).names once) h)
 
-names_once : (t : Tree) → is_sound_model t ≡ true → has_repeat (totals t).names ≡ false
-names_once t h =
-    let n = totals t in
-    let p = and_parts (is_sound_part t && is_within_limits n && nat_le (length (ins_of t)) 65536 && nat_le (length (outs_of t)) 65536) (nat_le (path_count t) 65536) h in
-    let q = and_parts (is_sound_part t && is_within_limits n && nat_le (length (ins_of t)) 65536) (nat_le (length (outs_of t)) 65536) p.0 in
-    let r = and_parts (is_sound_part t && is_within_limits n) (nat_le (length (ins_of t)) 65536) q.0 in
-    let v = and_parts (is_sound_part t) (is_within_limits n) r.0 in
-    let a = and_parts (not (has_repeat n.names) && nat_le n.cells 1048576 && nat_le n.atomics 4096 && nat_le n.links 16384) (nat_le n.depth 17) v.1 in
-    let b = and_parts (not (has_repeat n.names) && nat_le n.cells 1048576 && nat_le n.atomics 4096) (nat_le n.links 16384) a.0 in
-    let c = and_parts (not (has_repeat n.names) && nat_le n.cells 1048576) (nat_le n.atomics 4096) b.0 in
-    no (has_repeat n.names) (and_parts (not (has_repeat n.names)) (nat_le n.cells 1048576) c.0).0
-  where
-    no : (b : Bool) → not b ≡ true → b ≡ false
-    no true e = absurd (true_false (sym e))
-    no false e = refl
-
 pub groups_are_named : ReadsSoundModels → GroupsAreNamed
 groups_are_named sound bytes files classes drawing t e name g found k l time port w v at =
-    let s = stands t 0 name g (names_once t (sound bytes files classes drawing t e)) found in
+    let s = stands t 0 name g (sound_is t (sound bytes files classes drawing t e)).names found in
     subst (λ m. Shows g.1.space name g.0 m l) (from_zero k) (show_at g.1.space name g.0 0 (leaves t) s.shows k l at) time port w v
   where
     from_zero : (k : ℕ) → 0 + k ≡ k

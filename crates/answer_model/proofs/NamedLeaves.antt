@@ -2,14 +2,13 @@
 use Rattle.std.proofs.Common.{◌≡◌, ℕ, zero, suc, ◌+◌, ◌/◌, ◌≤◌, ◌<◌, Bool, true, false, cond, Option, Some, None, List, [], ◌∷◌, ◌++◌, length, map, take, refl, sym, ap, ◌∙◌, subst, arith, rules}
 use Rattle.std.specs.Prelude.{⊤, ◌&&◌, ◌||◌, ◌==◌, not, nat_le, codes}
 use Rattle.std.specs.List.{All, AllByRecursion, list_all, filter, filter_map, cons_option, flat_map, range_with_len, list_any}
-use Rattle.std.specs.Option.{option_map, option_and_then, option_or}
+use Rattle.std.specs.Option.{option_map, option_and_then}
 use Rattle.std.specs.Bool.{then_some}
 use Rattle.std.specs.Str.{bytes_eq}
 use Rattle.std.specs.Char.{is_ascii_alphabetic}
 use Rattle.std.proofs.Math.Nat.{div-le_self, mod-le}
 use Rattle.std.proofs.lemmas.Bool.{and_parts}
 use Rattle.std.proofs.lemmas.Bool.Decides.{nat_tests}
-use Rattle.std.proofs.lemmas.Slice.Eq.{bytes_eq-Decides}
 use Rattle.std.proofs.lemmas.List.Elements.{All-nil, All-cons, All-append}
 use Rattle.quantity.specs.Bytes.{Bytes, is_byte, is_among, words, has_repeat}
 use Rattle.quantity.specs.Digits.{has_length}
@@ -47,28 +46,8 @@ use Rattle.run_model.specs.Bounds.{HasBoundedValues, HaveBoundedValues}
 use Rattle.text_forms.specs.LogLine.{is_leaf}
 use Rattle.text_forms.specs.Lines.{leaf_name}
 use Rattle.answer_model.specs.AcceptedRuns.{IsNamed, ModelsAreBounded, ModelsAreNamed}
-use Rattle.answer_model.proofs.BoundedTexts.{none_some, some_same, then_there, map_there, on_there}
-use Rattle.answer_model.proofs.LowerCase.{is_lower, both_are, both_hold, IsFolded, EntriesFold, read_sections_fold, found_holds, words_lower}
-
-same_bytes : (a b : Bytes) → bytes_eq a b ≡ true → a ≡ b
-same_bytes a b e = search (rules, bytes_eq-Decides)
-
-true_false : true ≡ false → ⊥
-true_false e = cc
-
-some_none : {A : Type 0} {x : A} → Some x ≡ None → ⊥
-some_none e = cc
-
-cons_nil : {A : Type 0} {x : A} {xs : List A} → x ∷ xs ≡ [] → ⊥
-cons_nil e = cc
-
-both_none : {A : Type 0} (o p : Option A) → option_or o p ≡ None → (o ≡ None) × (p ≡ None)
-both_none None p e = (refl, e)
-both_none (Some x) p e = absurd (some_none e)
-
-both_empty : {A : Type 0} (xs ys : List A) → xs ++ ys ≡ [] → (xs ≡ []) × (ys ≡ [])
-both_empty [] ys e = (refl, e)
-both_empty (x ∷ xs) ys e = absurd (cons_nil e)
+use Rattle.answer_model.proofs.LowerCase.{is_lower, IsFolded, EntriesFold, read_sections_fold, found_holds, words_lower}
+use Rattle.answer_model.proofs.Basics.{true_false, none_some, some_none, cons_nil, some_same, then_there, map_there, on_there, both_none, both_are, both_false, same_bytes, both_empty, both_hold}
 
 -- ---- names of links' ends
 
@@ -244,10 +223,6 @@ IsRightStep (at_item around i) = (is_item i ≡ true) × (is_among around (name_
 if_none : {A : Type 0} (b : Bool) (x : A) (o : Option A) → cond b (Some x) o ≡ None → (b ≡ false) × (o ≡ None)
 if_none true x o e = absurd (some_none e)
 if_none false x o e = (refl, e)
-
-both_false : (a b : Bool) → (a || b) ≡ false → (a ≡ false) × (b ≡ false)
-both_false true b e = absurd (true_false e)
-both_false false b e = (refl, e)
 
 item_right : (ss : List Section) (before : List Item) (around : List Bytes) (i : Item) → item_refused ss before around i ≡ None → (is_item i ≡ true) × (is_among around (name_of i) ≡ false)
 item_right ss before around i e =
