@@ -136,7 +136,7 @@ show_both s name f a (x ∷ xs) ys h k = (h.0, show_both s name f (suc a) xs ys 
     one_more a n = omega arith
 
 -- a leaf of another name shows nothing, outside the group's numbers
-abbrev IsOther : Word → Leaf → Type 0
+abbrev pub IsOther : Word → Leaf → Type 0
 IsOther name l = bytes_eq (leaf_name l).name name ≡ false
 
 other_shows : (s : Space) (name : Word) (f k : ℕ) (l : Leaf) → IsOther name l → (nat_le f k && nat_lt k (f + cell_count s)) ≡ false → Shows s name f k l
@@ -197,12 +197,12 @@ record Stands (name : Word) (p : ℕ × Group) (first count : ℕ) (ls : List Le
   pub within : p.0 + cell_count p.1.space ≤ first + count
   pub shows : AllShow p.1.space name p.0 first ls
 
-none_found : (name : Word) (ls : List Leaf) → AllByRecursion (IsOther name) ls → group_at name ls ≡ None
+pub none_found : (name : Word) (ls : List Leaf) → AllByRecursion (IsOther name) ls → group_at name ls ≡ None
 none_found name [] h = refl
 none_found name (atomic_leaf n class settings ∷ ls) h = none_found name ls h.1
 none_found name (cell_leaf g f c ∷ ls) h = ap (λ b. cond b (Some (f, g)) (group_at name ls)) h.0 ∙ none_found name ls h.1
 
-found_in : (name : Word) (xs ys : List Leaf) → group_at name (xs ++ ys) ≡ option_or (group_at name xs) (group_at name ys)
+pub found_in : (name : Word) (xs ys : List Leaf) → group_at name (xs ++ ys) ≡ option_or (group_at name xs) (group_at name ys)
 found_in name [] ys = refl
 found_in name (atomic_leaf n class settings ∷ xs) ys = found_in name xs ys
 found_in name (cell_leaf g f c ∷ xs) ys = go (bytes_eq g.name name) (found_in name xs ys)
@@ -219,7 +219,7 @@ of_cells name g f a (suc n) p e = go (λ h. of_cells name g f (a + 1) n p h) (by
     go later true same h = (same, some_same (f, g) p h)
     go later false same h = later h
 
-other_cells : (name : Word) (g : Group) (f a n : ℕ) → bytes_eq g.name name ≡ false → AllByRecursion (IsOther name) (map (cell_leaf g f) (range_with_len a n))
+pub other_cells : (name : Word) (g : Group) (f a n : ℕ) → bytes_eq g.name name ≡ false → AllByRecursion (IsOther name) (map (cell_leaf g f) (range_with_len a n))
 other_cells name g f a zero h = tt
 other_cells name g f a (suc n) h = (h, other_cells name g f (a + 1) n h)
 

@@ -1,10 +1,11 @@
 -- The runs of accepted models: their values are bounded, their leaves and ports have names, and what their logs say is drawn.
-use Rattle.std.specs.Prelude.{◌≡◌, ℕ, ◌==◌, true, Option, Some, None, List}
+use Rattle.std.specs.Prelude.{◌≡◌, ℕ, ◌<◌, ◌==◌, true, Option, Some, None, List}
 use Rattle.std.specs.List.{All, list_all, list_any}
 use Rattle.std.specs.declared.result.Result.TheVariants.{Ok}
 use Rattle.quantity.specs.Bytes.{Bytes}
 use Rattle.quantity.specs.Names.{is_name}
 use Rattle.source_text.specs.Lines.{Files}
+use Rattle.cell_grid.specs.Space.{plane_count}
 use Rattle.atomic_face.specs.declared.class.Class.{Class}
 use Rattle.event_list.specs.Events.{Event, events_of}
 use Rattle.model_tree.specs.Tree.{Word, Group, Tree, Leaf, atomic_leaf, cell_leaf, leaves, ins_of}
@@ -56,6 +57,12 @@ GroupsAreNamed =
     (bytes : Bytes) (files : Files) (classes : List Class) (drawing : Option Drawing) (t : Tree)
     → (model_of bytes files classes drawing).found ≡ model t → (name : Word) (g : ℕ × Group)
     → group_at name (leaves t) ≡ Some g → NamesCells g.1.space name g.0 (leaves t)
+
+-- the group of an accepted drawing stands among the leaves, and has the plane
+abbrev pub DrawingsHaveGroups : Type 0
+DrawingsHaveGroups =
+    (bytes : Bytes) (files : Files) (classes : List Class) (d : Drawing) (t : Tree)
+    → (model_of bytes files classes (Some d)).found ≡ model t → (g : ℕ × Group) × (group_at d.group (leaves t) ≡ Some g) × (d.plane < plane_count g.1.space)
 
 -- ---- drawn runs
 

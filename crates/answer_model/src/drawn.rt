@@ -1,5 +1,5 @@
 // Laws of the runs of accepted models.
-ghost use Rattle.answer_model.specs.AcceptedRuns.{EventsAreBounded, FilesAreDrawn, GroupsAreNamed, ModelsAreBounded, ModelsAreNamed, RunsAreDrawn};
+ghost use Rattle.answer_model.specs.AcceptedRuns.{DrawingsHaveGroups, EventsAreBounded, FilesAreDrawn, GroupsAreNamed, ModelsAreBounded, ModelsAreNamed, RunsAreDrawn};
 
 use crate::laws::drawn_agrees;
 use model_text::accepted::{accepted_models_are_sound, accepted_models_pass_each_phase};
@@ -32,6 +32,14 @@ pub fn accepted_names_are_names()
 pub fn accepted_names_show_cells()
     ensures { GroupsAreNamed }
 {
+    accepted_models_are_sound();
+}
+
+/// The group of an accepted drawing stands among the leaves of the model, and has the plane.
+pub fn accepted_drawings_have_groups()
+    ensures { DrawingsHaveGroups }
+{
+    accepted_models_pass_each_phase();
     accepted_models_are_sound();
 }
 
