@@ -1,5 +1,5 @@
 -- The records of a run of an accepted model have lines of a log's form, so its frames are drawn from its log.
-use Rattle.std.proofs.Common.{◌≡◌, ℕ, zero, suc, ◌+◌, ◌^◌, ◌≤◌, ◌<◌, Bool, true, Option, Some, None, List, [], ◌∷◌, ◌++◌, length, take, refl, sym, ◌∙◌, subst, arith, rules}
+use Rattle.std.proofs.Common.{ap, ◌≡◌, ℕ, zero, suc, ◌+◌, ◌^◌, ◌≤◌, ◌<◌, Bool, true, Option, Some, None, List, [], ◌∷◌, ◌++◌, length, take, refl, sym, ◌∙◌, subst, arith, rules}
 use Rattle.std.specs.Prelude.{⊤, ◌&&◌, ◌==◌, not, nat_le, nat_lt, slice_get, unsigned_abs, IfSome, IsSomeAnd, codes, map}
 use Rattle.std.specs.List.{All, list_all, filter_map, cons_option, flat_map, range_with_len}
 use Rattle.std.specs.Option.{option_map}
@@ -25,7 +25,10 @@ use Rattle.model_text.specs.Accepted.{ReadsSoundModels}
 use Rattle.text_forms.specs.LogLine.{LogLine, given, moved, is_leaf, has_place, is_letter, is_time, is_value, is_state, is_next, is_line}
 use Rattle.text_forms.specs.Lines.{leaf_name, name_at, out_port_name, in_port_name, given_line, moved_line, cycle_lines}
 use Rattle.answer_model.specs.Cdpp.{run_on}
-use Rattle.answer_model.specs.AcceptedRuns.{IsNamed, EventsAreBounded, ModelsAreBounded, ModelsAreNamed, GroupsAreNamed, RunsAreDrawn, FilesAreDrawn}
+use Rattle.answer_model.specs.RunFiles.{emitted_before}
+use Rattle.text_forms.specs.Frames.{frames_of}
+use Rattle.quantity.specs.Bytes.{Bytes}
+use Rattle.answer_model.specs.AcceptedRuns.{IsNamed, EventsAreBounded, ModelsAreBounded, ModelsAreNamed, GroupsAreNamed, RunsAreDrawn, FilesAreDrawn, DrawingsHaveGroups, picture_of, FramesAreDrawn}
 use Rattle.answer_model.specs.DrawnRuns.{DrawnAgrees}
 use Rattle.answer_model.proofs.Resumes.{is_run}
 use Rattle.answer_model.proofs.Basics.{true_false, none_some, some_same, both_are}
@@ -243,3 +246,14 @@ runs_are_drawn laws bytes files classes drawing t e events small end early limit
 
 pub files_are_drawn : Laws → EventsAreBounded → FilesAreDrawn
 files_are_drawn laws small bytes files classes drawing t e event_bytes events h = runs_are_drawn laws bytes files classes drawing t e events (small event_bytes (ins_of t) events h).0
+
+pub frames_are_drawn : Laws → DrawingsHaveGroups → FramesAreDrawn
+frames_are_drawn laws have bytes files classes f t e events small end early limit letters y =
+    let g = have bytes files classes f.drawing t e in
+    let cs = (run_on t events end limit None).cycles in
+    let made : ℕ × Group → List (Word × Bytes) = λ p. (f.name, frames_of (picture_of f p.1) p.0 (emitted_before None p) cs) ∷ [] in (
+      g.0.1,
+      frames_of (picture_of f g.0.1) g.0.0 (emitted_before None g.0) cs,
+      runs_are_drawn laws bytes files classes (Some f.drawing) t e events small end early limit letters y f.drawing.group g.0 g.1 (picture_of f g.0.1) refl,
+      ap (λ o. let fs : List (Word × Bytes) = elim o [ None ↦ [] | Some p ↦ made p ] in fs) g.1,
+    )

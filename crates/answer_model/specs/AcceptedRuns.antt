@@ -1,5 +1,5 @@
 -- The runs of accepted models: their values are bounded, their leaves and ports have names, and what their logs say is drawn.
-use Rattle.std.specs.Prelude.{◌≡◌, ℕ, ◌<◌, ◌==◌, true, Option, Some, None, List}
+use Rattle.std.specs.Prelude.{◌≡◌, ℕ, ◌<◌, ◌==◌, true, Option, Some, None, List, [], ◌∷◌}
 use Rattle.std.specs.List.{All, list_all, list_any}
 use Rattle.std.specs.declared.result.Result.TheVariants.{Ok}
 use Rattle.quantity.specs.Bytes.{Bytes}
@@ -16,7 +16,8 @@ use Rattle.model_text.specs.ModelOf.{model, model_of}
 use Rattle.text_forms.specs.LogLine.{is_leaf}
 use Rattle.text_forms.specs.Lines.{leaf_name, further_ports, log_bytes}
 use Rattle.text_forms.specs.Frames.{Picture, frames_of, drawn}
-use Rattle.answer_model.specs.RunFiles.{group_at, emitted_before}
+use Rattle.answer_model.specs.RunFiles.{group_at, emitted_before, frames_file}
+use Rattle.answer_model.specs.Asked.{FramesFile}
 use Rattle.answer_model.specs.Cdpp.{run_on}
 use Rattle.text_forms.specs.DrawnLines.{NamesCells}
 
@@ -83,3 +84,16 @@ FilesAreDrawn =
     (bytes : Bytes) (files : Files) (classes : List Class) (drawing : Option Drawing) (t : Tree)
     → (model_of bytes files classes drawing).found ≡ model t → (event_bytes : Bytes) (events : List Event) → events_of event_bytes (ins_of t) ≡ Ok events
     → (end : ℕ) → IsDelay end → IsDrawn t events end
+
+-- how the frames that are asked are drawn
+abbrev pub picture_of : FramesFile → Group → Picture
+picture_of f g = record { space = g.space; plane = f.drawing.plane; width = f.width; decimals = f.decimals }
+
+-- the file of frames that a run makes is what is drawn from its log
+abbrev pub FramesAreDrawn : Type 0
+FramesAreDrawn =
+    (bytes : Bytes) (files : Files) (classes : List Class) (f : FramesFile) (t : Tree)
+    → (model_of bytes files classes (Some f.drawing)).found ≡ model t → (events : List Event) → All IsBoundedEvent events → (end : ℕ) → IsDelay end
+    → (limit : ℕ) (letters : List ℕ) → list_any (λ c. c == 89) letters ≡ true
+    → (g : Group) × (text : Bytes) × (drawn (picture_of f g) f.drawing.group (log_bytes t letters (run_on t events end limit None).cycles) ≡ Ok text)
+    × (frames_file t None (run_on t events end limit None).cycles f ≡ (f.name, text) ∷ [])

@@ -1,5 +1,5 @@
 // Laws of the runs of accepted models.
-ghost use Rattle.answer_model.specs.AcceptedRuns.{DrawingsHaveGroups, EventsAreBounded, FilesAreDrawn, GroupsAreNamed, ModelsAreBounded, ModelsAreNamed, RunsAreDrawn};
+ghost use Rattle.answer_model.specs.AcceptedRuns.{DrawingsHaveGroups, EventsAreBounded, FilesAreDrawn, FramesAreDrawn, GroupsAreNamed, ModelsAreBounded, ModelsAreNamed, RunsAreDrawn};
 
 use crate::laws::drawn_agrees;
 use model_text::accepted::{accepted_models_are_sound, accepted_models_pass_each_phase};
@@ -44,11 +44,13 @@ pub fn accepted_drawings_have_groups()
 }
 
 /// The frames drawn from the log of a run are those of the run, for each accepted model, its groups, and an end of at most 99:59:59:999:
-/// with any bounded events, and with those of an accepted file.
+/// with any bounded events, and with those of an accepted file. So the file of frames that a run makes is what is drawn from its log.
 pub fn drawn_agrees_for_accepted_models()
     ensures runs { RunsAreDrawn }
     ensures files { FilesAreDrawn }
+    ensures frames { FramesAreDrawn }
 {
+    accepted_drawings_have_groups();
     accepted_events_are_bounded();
     accepted_models_have_bounded_values();
     accepted_names_are_names();

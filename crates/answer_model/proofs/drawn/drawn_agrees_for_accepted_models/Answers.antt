@@ -1,4 +1,4 @@
-use Rattle.answer_model.proofs.AcceptedRuns.{Laws, runs_are_drawn, files_are_drawn}
+use Rattle.answer_model.proofs.AcceptedRuns.{Laws, runs_are_drawn, files_are_drawn, frames_are_drawn}
 use Rattle.answer_model.proofs.drawn.drawn_agrees_for_accepted_models.Goals as goal
 
 pub returns : goal.returns
@@ -14,4 +14,4 @@ returns c =
       runs_fit = c.records_name_what_there_is.ensures.runs;
       drawn = c.drawn_agrees.ensures;
     } in
-    record { runs = runs_are_drawn laws; files = files_are_drawn laws c.accepted_events_are_bounded.ensures }
+    record { runs = runs_are_drawn laws; files = files_are_drawn laws c.accepted_events_are_bounded.ensures; frames = frames_are_drawn laws c.accepted_drawings_have_groups.ensures }
