@@ -24,6 +24,7 @@ returns c =
       corners = refl;
       transport = refl;
       inertial = refl;
+      woken_by_the_same_value = refl;
       port_rules = refl;
       bad_delay = refl;
       too_many = refl;
