@@ -104,6 +104,19 @@ has_no_rule = by_rule (codes "rule : 1 100 { (0,0) > ? }")
 abbrev pub flipped : List Bytes
 flipped = cell (codes "000") (codes "0") ∷ cell (codes "000") (codes "1") ∷ cell (codes "000") (codes "0") ∷ cell (codes "000") (codes "1") ∷ cell (codes "000") (codes "0") ∷ []
 
+-- ---- three cells, the middle one in two zones: the first holds
+
+abbrev pub two_zones : List Bytes
+two_zones =
+    codes "[top]" ∷ codes "components : line" ∷ codes "[line]" ∷ codes "type : cell" ∷ codes "dim : (1,3)" ∷ codes "neighbors : line(0,0)"
+    ∷ codes "initialvalue : 0" ∷ codes "localtransition : r" ∷ codes "zone : a { (0,0)..(0,1) }" ∷ codes "zone : b { (0,1) }" ∷ codes "[r]" ∷ codes "rule : 0 100 { t }"
+    ∷ codes "[a]" ∷ codes "rule : 1 100 { t }" ∷ codes "[b]" ∷ codes "rule : 2 100 { t }" ∷ []
+
+abbrev pub two_zones_log : List Bytes
+two_zones_log =
+    y (codes "000") left (codes "0") ∷ y (codes "000") right (codes "0") ∷ y (codes "000") third (codes "0")
+    ∷ y (codes "100") left (codes "1") ∷ y (codes "100") right (codes "1") ∷ []
+
 -- ---- three dimensions
 
 abbrev pub solid : List Bytes
@@ -132,6 +145,7 @@ pub record CellsRun : Type 0 where
   pub ring_states : to (codes "cdpp -m m.ma -t 00:00:00:100 -l log.txt -L YS") (model line_model) ≡ shows (codes "end 00:00:00:100 cycles 2") ((codes "log.txt", both_states) ∷ []) just_model
   pub woken_once : to (codes "cdpp -m m.ma -t 00:00:00:100 -l log.txt -L YS") (model two_cells) ≡ shows (codes "end 00:00:00:100 cycles 2") (log two_log) just_model
   pub asymmetric : to (codes "cdpp -m m.ma -t 00:00:00:200 -l log.txt -L YS") (model one_sided) ≡ shows (codes "end 00:00:00:200 cycles 3") (log one_sided_log) just_model
+  pub first_zone : to (codes "cdpp -m m.ma -t 00:00:00:100 -l log.txt") (model two_zones) ≡ shows (codes "end 00:00:00:100 cycles 2") (log two_zones_log) just_model
   pub corners : to (codes "cdpp -m m.ma -t 00:00:00:100 -l log.txt") (model corner) ≡ shows (codes "end 00:00:00:100 cycles 2") (log (of_corner (codes "000") (codes "0") ++ of_corner (codes "100") (codes "5"))) just_model
   pub transport : to (codes "cdpp -m m.ma -t 00:00:00:200 -e e -l log.txt") (model_and port_model on_off) ≡ shows (codes "end 00:00:00:200 cycles 5") (log (cell (codes "000") (codes "0") ∷ cell (codes "110") (codes "1") ∷ cell (codes "150") (codes "0") ∷ [])) model_and_events
   pub inertial : to (codes "cdpp -m m.ma -t 00:00:00:200 -e e -l log.txt") (model_and inertial on_off) ≡ shows (codes "end 00:00:00:200 cycles 4") (log (cell (codes "000") (codes "0") ∷ cell (codes "150") (codes "0") ∷ [])) model_and_events

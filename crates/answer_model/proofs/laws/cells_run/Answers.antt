@@ -21,6 +21,7 @@ returns c =
       ring_states = refl;
       woken_once = refl;
       asymmetric = refl;
+      first_zone = refl;
       corners = refl;
       transport = refl;
       inertial = refl;
