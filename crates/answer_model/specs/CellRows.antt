@@ -104,6 +104,19 @@ has_no_rule = by_rule (codes "rule : 1 100 { (0,0) > ? }")
 abbrev pub flipped : List Bytes
 flipped = cell (codes "000") (codes "0") ∷ cell (codes "000") (codes "1") ∷ cell (codes "000") (codes "0") ∷ cell (codes "000") (codes "1") ∷ cell (codes "000") (codes "0") ∷ []
 
+-- ---- three cells, the middle one in two zones: the first holds
+
+abbrev pub two_zones : List Bytes
+two_zones =
+    codes "[top]" ∷ codes "components : line" ∷ codes "[line]" ∷ codes "type : cell" ∷ codes "dim : (1,3)" ∷ codes "neighbors : line(0,0)"
+    ∷ codes "initialvalue : 0" ∷ codes "localtransition : r" ∷ codes "zone : a { (0,0)..(0,1) }" ∷ codes "zone : b { (0,1) }" ∷ codes "[r]" ∷ codes "rule : 0 100 { t }"
+    ∷ codes "[a]" ∷ codes "rule : 1 100 { t }" ∷ codes "[b]" ∷ codes "rule : 2 100 { t }" ∷ []
+
+abbrev pub two_zones_log : List Bytes
+two_zones_log =
+    y (codes "000") left (codes "0") ∷ y (codes "000") right (codes "0") ∷ y (codes "000") third (codes "0")
+    ∷ y (codes "100") left (codes "1") ∷ y (codes "100") right (codes "1") ∷ []
+
 -- ---- three dimensions
 
 abbrev pub solid : List Bytes
@@ -117,14 +130,26 @@ solid_values = holding (codes "v.val") (codes "(0,0,1) = -0.4" ∷ codes "(0,1,1
 abbrev pub solid_frame : List Bytes
 solid_frame = codes "Time: 00:00:00:000" ∷ codes "+------+" ∷ codes "|  0 12|" ∷ codes "+------+" ∷ [] ∷ []
 
+-- a cell that sees itself, whose earlier pair is replaced, gives the value that it had, and is woken by that too
+abbrev pub sees_itself : List Bytes
+sees_itself = with_line 9 (codes "neighbors : g(0,0)") inertial
+
+abbrev pub woken_log : List Bytes
+woken_log =
+    y (codes "000") (codes "g(0,0)") (codes "0") ∷ s (codes "000") (codes "g(0,0)") (codes "0") (codes "...")
+    ∷ s (codes "010") (codes "g(0,0)") (codes "1") (codes "00:00:00:110") ∷ s (codes "050") (codes "g(0,0)") (codes "0") (codes "00:00:00:150")
+    ∷ y (codes "150") (codes "g(0,0)") (codes "0") ∷ s (codes "150") (codes "g(0,0)") (codes "0") (codes "...") ∷ []
+
 pub record CellsRun : Type 0 where
   pub ring : to (codes "cdpp -m m.ma -t 00:00:00:100 -l log.txt") (model line_model) ≡ shows (codes "end 00:00:00:100 cycles 2") ((codes "log.txt", line_log) ∷ []) just_model
   pub ring_states : to (codes "cdpp -m m.ma -t 00:00:00:100 -l log.txt -L YS") (model line_model) ≡ shows (codes "end 00:00:00:100 cycles 2") ((codes "log.txt", both_states) ∷ []) just_model
   pub woken_once : to (codes "cdpp -m m.ma -t 00:00:00:100 -l log.txt -L YS") (model two_cells) ≡ shows (codes "end 00:00:00:100 cycles 2") (log two_log) just_model
   pub asymmetric : to (codes "cdpp -m m.ma -t 00:00:00:200 -l log.txt -L YS") (model one_sided) ≡ shows (codes "end 00:00:00:200 cycles 3") (log one_sided_log) just_model
+  pub first_zone : to (codes "cdpp -m m.ma -t 00:00:00:100 -l log.txt") (model two_zones) ≡ shows (codes "end 00:00:00:100 cycles 2") (log two_zones_log) just_model
   pub corners : to (codes "cdpp -m m.ma -t 00:00:00:100 -l log.txt") (model corner) ≡ shows (codes "end 00:00:00:100 cycles 2") (log (of_corner (codes "000") (codes "0") ++ of_corner (codes "100") (codes "5"))) just_model
   pub transport : to (codes "cdpp -m m.ma -t 00:00:00:200 -e e -l log.txt") (model_and port_model on_off) ≡ shows (codes "end 00:00:00:200 cycles 5") (log (cell (codes "000") (codes "0") ∷ cell (codes "110") (codes "1") ∷ cell (codes "150") (codes "0") ∷ [])) model_and_events
   pub inertial : to (codes "cdpp -m m.ma -t 00:00:00:200 -e e -l log.txt") (model_and inertial on_off) ≡ shows (codes "end 00:00:00:200 cycles 4") (log (cell (codes "000") (codes "0") ∷ cell (codes "150") (codes "0") ∷ [])) model_and_events
+  pub woken_by_the_same_value : to (codes "cdpp -m m.ma -t 00:00:00:200 -e e -l log.txt -L YS") (model_and sees_itself on_off) ≡ shows (codes "end 00:00:00:200 cycles 4") (log woken_log) model_and_events
   pub port_rules : to (codes "cdpp -m m.ma -t 00:00:00:200 -e e -l log.txt") (model_and with_port_rules (events two_events)) ≡ shows (codes "end 00:00:00:200 cycles 4") (log (cell (codes "000") (codes "0") ∷ cell (codes "110") (codes "2") ∷ [])) model_and_events
   pub bad_delay : to (codes "cdpp -m m.ma -t 00:00:00:200 -e e -l log.txt") (model_and with_port_rules (events (two_events ++ codes "00:00:00:120 p 3" ∷ []))) ≡ complains 10 (codes "bad delay: g(0,0) at 00:00:00:120: -10.00000") (log (cell (codes "000") (codes "0") ∷ cell (codes "110") (codes "2") ∷ [])) model_and_events
   pub too_many : to (codes "cdpp -m m.ma -t 00:00:00:100 -l log.txt -c 5") (model flips) ≡ complains 11 (codes "too many cycles: limit 5 at 00:00:00:000") (log flipped) just_model

@@ -19,9 +19,17 @@ fn values_are_computed(rt: HostRuntime) {
     assert_eq!(rt; number(1_000_000_000_000_000).add(number(1)), Err(Overflow));
     assert_eq!(rt; number(150_000).sub(number(-200_000)), Ok(number(350_000)));
     assert_eq!(rt; number(-100_001).mul(number(100_001)), Ok(number(-100_002)));
-    assert_eq!(rt; number(100_000).div(number(-300_000)), Ok(number(-33_333)));
+    assert_eq!(rt;
+        number(10_000_000_000).mul(number(10_000_000_000)),
+        Ok(number(1_000_000_000_000_000))
+    );
+    assert_eq!(rt;
+        number(10_000_000_000).mul(number(10_000_100_000)),
+        Err(Overflow)
+    );
+    assert_eq!(rt; number(-100_000).div(number(300_000)), Ok(number(-33_333)));
     assert_eq!(rt; number(100_000).div(number(0)), Ok(Value::Undefined));
-    assert_eq!(rt; number(-750_000).rem(number(200_000)), number(-150_000));
+    assert_eq!(rt; number(-500_000).rem(number(300_000)), number(-200_000));
     assert_eq!(rt; number(1).compare(Compare::Less, number(2)), Tri::True);
     assert_eq!(rt;
         number(1).compare(Compare::Equal, Value::Undefined),
@@ -37,8 +45,10 @@ fn functions_are_computed(rt: HostRuntime) {
     assert_eq!(rt; number(-150_000).abs(), number(150_000));
     assert_eq!(rt; number(-1).sign(), number(-100_000));
     assert_eq!(rt; number(200_000).sqrt(), number(141_421));
+    assert_eq!(rt; number(-100_000).sqrt(), Value::Undefined);
     assert_eq!(rt; number(-199_999).trunc(), number(-100_000));
     assert_eq!(rt; number(-50_000).round(), number(-100_000));
+    assert_eq!(rt; number(149_999).round(), number(100_000));
     assert_eq!(rt; number(-150_000).fractional(), number(-50_000));
 }
 
@@ -60,6 +70,11 @@ fn values_are_read_and_written(rt: HostRuntime) -> Result<(), Fail> {
     number(-40_000).text(0, 3, &mut text)?;
     assert_eq!(rt; text.as_slice(), b"-1.50000  0".as_slice());
     assert_eq!(rt; Value::parse(b"-1.2345678"), Some(number(-123_456)));
+    assert_eq!(rt; Value::parse(b".5"), Some(number(50_000)));
+    assert_eq!(rt; Value::parse(b"5."), Some(number(500_000)));
+    assert_eq!(rt; Value::parse(b"+0"), Some(number(0)));
+    assert_eq!(rt; Value::parse(b"-."), None);
+    assert_eq!(rt; Value::parse(b"1e3"), None);
     assert_eq!(rt; Value::read_text5(b"-1.50000"), Some(number(-150_000)));
     assert_eq!(rt; Value::read_text5(b"-1.5"), None);
     assert_eq!(rt; whole_number(3, b"359"), Some(359));
