@@ -4,5 +4,4 @@ pub mod Runs
 pub mod Logs
 pub mod Texts
 pub mod Outcomes
-pub mod Ends
 pub mod TimeBound

@@ -10,11 +10,12 @@ use Rattle.std.specs.Str.{bytes_eq}
 use Rattle.quantity.specs.Bytes.{Bytes}
 use Rattle.quantity.specs.Written.{if_written}
 use Rattle.cell_engine.specs.Ring.{Ring}
+use Rattle.cell_engine.specs.Store.{is_short, ends_always}
 use Rattle.ring_text.specs.Parts.{RuleParts, RingParts, digit, bit_value, is_rule, is_ring, rule_of_parts, ring_of_parts}
 use Rattle.ring_text.specs.Parts as parts
 use Rattle.ring_text.specs.Text.{rule_line, ring_lines, ring_text}
 use Rattle.ring_text.specs.Reading.{is_line_feed, parts_in, ring_in}
-use Rattle.ring_text.specs.Model.{CanRun, is_short, ends_always}
+use Rattle.ring_text.specs.Model.{CanRun}
 use Rattle.ring_text.proofs.Lines.{both, and_true}
 use Rattle.ring_text.proofs.Rings.{ring_facts, rule_facts, lines_of-text, only_rings}
 

@@ -1,16 +1,11 @@
 use Rattle.std.proofs.Common.{refl, subst}
-use Rattle.std.specs.Prelude.{IsTrue}
 use Rattle.std.specs.Bool.{OnFalse}
 use Rattle.answer_model.specs.Headline.{Writes, WritesPart, is_free}
 use Rattle.ring_text.specs.Model.{ring_of}
 use Rattle.cdpp_top.specs.AskedOf.{asked_of}
-use Rattle.cdpp_top.proofs.Ends.{ends_same}
 use Rattle.cdpp_top.proofs.Runs.{same_answer}
 use Rattle.cdpp_top.proofs.Outcomes.{part_none}
 use Rattle.cdpp_top.proofs.ending.run_model.Goals as goal
-
-pub new-requires-clause-last : goal.new-requires-clause-last
-new-requires-clause-last g c = subst IsTrue (ends_same (ring_of c.args.model).rules) c.requires.sound.ends
 
 pub returns-in-Ok-clause-own : goal.returns-in-Ok-clause-own
 returns-in-Ok-clause-own g c =
