@@ -1,4 +1,4 @@
--- Sections stand on the texts of lines alone, and comments, carriage returns and outer blanks are no part of these.
+-- Sections stand on the texts of lines alone, and comments and carriage returns are no part of these.
 use Rattle.std.specs.Prelude.{◌≡◌, false, [], ◌∷◌, ◌++◌}
 use Rattle.std.specs.List.{list_any}
 use Rattle.quantity.specs.Bytes.{Bytes, is_byte}

@@ -9,7 +9,7 @@ pub fn truth_tables()
     ensures { TablesAsSaid }
 {}
 
-/// The order and the grouping of operands don't matter, and `not` exchanges `and` with `or`.
+/// The order of operands doesn't matter for `and`, `or` and `xor`, nor their grouping for `and` and `or`; `not` exchanges these two.
 pub fn logic()
     ensures { LogicLaws }
 {}

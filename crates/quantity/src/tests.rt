@@ -1,4 +1,5 @@
 // Every public call once, at values that the formats give.
+use super::Tri::{False, True, Undef};
 use super::digits::whole_number;
 use super::*;
 use std::test::Fail;
@@ -47,19 +48,31 @@ fn functions_are_computed(rt: HostRuntime) {
     assert_eq!(rt; number(200_000).sqrt(), number(141_421));
     assert_eq!(rt; number(-100_000).sqrt(), Value::Undefined);
     assert_eq!(rt; number(-199_999).trunc(), number(-100_000));
+    assert_eq!(rt; number(50_000).round(), number(100_000));
     assert_eq!(rt; number(-50_000).round(), number(-100_000));
     assert_eq!(rt; number(149_999).round(), number(100_000));
     assert_eq!(rt; number(-150_000).fractional(), number(-50_000));
 }
 
+/// What the operators answer: `and`, `or`, `xor`, `imp` and `eqv`.
+fn answers(a: Tri, b: Tri) -> [Tri; 5] {
+    [a.and(b), a.or(b), a.xor(b), a.imp(b), a.eqv(b)]
+}
+
 #[test]
 fn truth_is_computed(rt: HostRuntime) {
-    assert_eq!(rt; Tri::Undef.not(), Tri::Undef);
-    assert_eq!(rt; Tri::False.and(Tri::Undef), Tri::False);
-    assert_eq!(rt; Tri::Undef.or(Tri::True), Tri::True);
-    assert_eq!(rt; Tri::True.xor(Tri::True), Tri::False);
-    assert_eq!(rt; Tri::Undef.imp(Tri::True), Tri::True);
-    assert_eq!(rt; Tri::False.eqv(Tri::False), Tri::True);
+    assert_eq!(rt; True.not(), False);
+    assert_eq!(rt; False.not(), True);
+    assert_eq!(rt; Undef.not(), Undef);
+    assert_eq!(rt; answers(True, True), [True, True, False, True, True]);
+    assert_eq!(rt; answers(True, False), [False, True, True, False, False]);
+    assert_eq!(rt; answers(True, Undef), [Undef, True, Undef, Undef, Undef]);
+    assert_eq!(rt; answers(False, True), [False, True, True, True, False]);
+    assert_eq!(rt; answers(False, False), [False, False, False, True, True]);
+    assert_eq!(rt; answers(False, Undef), [False, Undef, Undef, True, Undef]);
+    assert_eq!(rt; answers(Undef, True), [Undef, True, Undef, True, Undef]);
+    assert_eq!(rt; answers(Undef, False), [False, Undef, Undef, Undef, Undef]);
+    assert_eq!(rt; answers(Undef, Undef), [Undef, Undef, Undef, Undef, Undef]);
 }
 
 #[test]
@@ -75,6 +88,11 @@ fn values_are_read_and_written(rt: HostRuntime) -> Result<(), Fail> {
     assert_eq!(rt; Value::parse(b"+0"), Some(number(0)));
     assert_eq!(rt; Value::parse(b"-."), None);
     assert_eq!(rt; Value::parse(b"1e3"), None);
+    assert_eq!(rt;
+        Value::parse(b"1234567890"),
+        Some(number(123_456_789_000_000))
+    );
+    assert_eq!(rt; Value::parse(b"12345678901"), None);
     assert_eq!(rt; Value::read_text5(b"-1.50000"), Some(number(-150_000)));
     assert_eq!(rt; Value::read_text5(b"-1.5"), None);
     assert_eq!(rt; whole_number(3, b"359"), Some(359));
@@ -90,6 +108,8 @@ fn times_are_read_and_written(rt: HostRuntime) -> Result<(), Fail> {
     assert_eq!(rt; Time::read_text(text.as_slice()), Some(last));
     let delay = Time::parse(b"0:0:0:100").ok_or("a time")?;
     assert_eq!(rt; delay.ms(), 100);
+    assert_eq!(rt; Time::parse(b"00:60:00:000"), None);
+    assert_eq!(rt; Time::parse(b"1:2:3"), None);
     if delay.ms() <= 359_999_999 && last.ms() <= 359_999_999 {
         assert_eq!(rt; last.after(delay).ms(), 360_000_099);
     }
@@ -104,6 +124,16 @@ fn names_are_read(rt: HostRuntime) -> Result<(), Fail> {
         Name::parse(rt.alloc(), b"a b").err(),
         Some(NameRefusal::Bad)
     );
+    let longest = Name::parse(
+        rt.alloc(),
+        b"abcdefghijklmnopqrstuvwxyz-0123456789_abcdefghijklmnopqrstuvwxyz",
+    )?;
+    assert_eq!(rt; longest.as_bytes().len(), 64);
+    let longer = Name::parse(
+        rt.alloc(),
+        b"abcdefghijklmnopqrstuvwxyz-0123456789_abcdefghijklmnopqrstuvwxyz.",
+    );
+    assert_eq!(rt; longer.err(), Some(NameRefusal::Bad));
     let text = Text::copy(rt.alloc(), b"a b")?;
     assert_eq!(rt; text.as_bytes(), b"a b".as_slice());
     Ok(())

@@ -1,4 +1,4 @@
--- What the helpers give.
+-- What whole reads and writes give.
 use Rattle.std.specs.Prelude.{◌≡◌, ℕ, ◌<◌, ◌≤◌, List, [], ◌∷◌, ◌++◌, ◌⊎◌, length, drop, Option, Some, None, Result, Ok, Err, Vec, IsTrue, ⊤}
 use Rattle.std.specs.declared.alloc.Global.{Global}
 use Rattle.room_edge.specs.Outside.{Outside, Folder}
