@@ -74,7 +74,27 @@ pub record PortsRun : Type 0 where
   pub blinks : to (codes "cdpp -m m.ma -t 00:00:00:300 -l log.txt -d f.txt -g Life -w 2") (model blinker) ≡ shows (codes "end 00:00:00:300 cycles 4") (log blinker_log ++ (codes "f.txt", lines blinker_frames) ∷ []) just_model
   pub made : to (codes "cdpp -G 5 -t 00:00:00:300") [] ≡ shows (codes "made 5 cells 25 cycles 4 y 37 s 88 ones 3") [] []
 
+-- ---- the ring's log, of which so many bytes are there
+
+abbrev pub drawn_to : Bytes → Answer
+drawn_to bytes = drawn_of (codes "drawlog -l log.txt -g line -s 1,3") bytes
+
+abbrev pub in_frame : Bytes → Bytes → Bytes
+in_frame time row = lines ((codes "Time: 00:00:00:" ++ time) ∷ codes "+---------+" ∷ row ∷ codes "+---------+" ∷ [] ∷ [])
+
+abbrev pub refused_at : Bytes → Answer
+refused_at line = complains 13 (codes "log refused: line " ++ line) [] (codes "log.txt" ∷ [])
+
 pub record LogsAreDrawn : Type 0 where
+  pub no_line : drawn_to (take 0 line_log) ≡ drawn_as []
+  pub a_byte : drawn_to (take 1 line_log) ≡ refused_at (codes "1")
+  pub no_line_feed : drawn_to (take 44 line_log) ≡ refused_at (codes "1")
+  pub one_line : drawn_to (take 45 line_log) ≡ drawn_as (in_frame (codes "000") (codes "|  0  ?  ?|"))
+  pub one_line_and_a_byte : drawn_to (take 46 line_log) ≡ refused_at (codes "2")
+  pub two_lines : drawn_to (take 90 line_log) ≡ drawn_as (in_frame (codes "000") (codes "|  0  1  ?|"))
+  pub three_lines : drawn_to (take 135 line_log) ≡ drawn_as (in_frame (codes "000") (codes "|  0  1  0|"))
+  pub four_lines : drawn_to (take 180 line_log) ≡ drawn_as (in_frame (codes "000") (codes "|  0  1  0|") ++ in_frame (codes "100") (codes "|  1  1  0|"))
+  pub five_lines : drawn_to line_log ≡ drawn_as (in_frame (codes "000") (codes "|  0  1  0|") ++ in_frame (codes "100") (codes "|  1  1  1|"))
   pub ring : drawn_of (codes "drawlog -l log.txt -g line -s 1,3 -w 2") line_log ≡ drawn_as two_frames
   pub torn : drawn_of (codes "drawlog -l log.txt -g line -s 1,3 -w 2") (take (length line_log - 3) line_log) ≡ complains 13 (codes "log refused: line 5") [] (codes "log.txt" ∷ [])
   pub outside : drawn_of (codes "drawlog -l log.txt -g line -s 1,2 -w 2") line_log ≡ complains 13 (codes "log refused: line 3") [] (codes "log.txt" ∷ [])

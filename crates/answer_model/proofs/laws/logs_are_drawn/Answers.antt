@@ -19,6 +19,15 @@ pub returns : goal.returns
 unfolding digits clap_on_literals sections_of tokens written_rule rule_of model_of made_text events_of run run_from next_cycle asked cdpp_app answer run_on asked_drawing drawlog_app drawing_answer
 returns c =
     record {
+      no_line = refl;
+      a_byte = refl;
+      no_line_feed = refl;
+      one_line = refl;
+      one_line_and_a_byte = refl;
+      two_lines = refl;
+      three_lines = refl;
+      four_lines = refl;
+      five_lines = refl;
       ring = refl;
       torn = refl;
       outside = refl;

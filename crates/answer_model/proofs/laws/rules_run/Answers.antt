@@ -1,0 +1,31 @@
+use Rattle.std.proofs.Common.{refl}
+use Rattle.std.specs.Fmt.{digits}
+use Rattle.clap.proofs.OnLiterals.{clap_on_literals}
+use Rattle.ma_lines.specs.Sections.{sections_of}
+use Rattle.rule_syntax.specs.Tokens.{tokens}
+use Rattle.rule_syntax.specs.Reading.{written_rule}
+use Rattle.rule_syntax.specs.RuleOf.{rule_of}
+use Rattle.model_text.specs.ModelOf.{model_of}
+use Rattle.model_text.specs.Models.{made_text}
+use Rattle.event_list.specs.Events.{events_of}
+use Rattle.run_model.specs.Run.{run, run_from, next_cycle}
+use Rattle.answer_model.specs.Asked.{asked, cdpp_app}
+use Rattle.answer_model.specs.Cdpp.{answer, run_on}
+use Rattle.answer_model.proofs.laws.rules_run.Goals as goal
+
+pub returns : goal.returns
+unfolding digits clap_on_literals sections_of tokens written_rule rule_of model_of made_text events_of run run_from next_cycle asked cdpp_app answer run_on
+returns c =
+    record {
+      turns = refl;
+      no_rule = refl;
+      overflow = refl;
+      part_of_a_millisecond = refl;
+      cut_before_the_rules = refl;
+      cut_in_a_rule = refl;
+      cut_behind_a_rule = refl;
+      inertial = refl;
+      transport = refl;
+      too_large = refl;
+      planes = refl;
+    }
