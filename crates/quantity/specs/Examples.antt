@@ -1,10 +1,11 @@
 -- Values worked out by the definitions.
-use Rattle.std.specs.Prelude.{◌≡◌, ℕ, ◌^◌, ◌-◌, true, false, Some, None, [], replicate, pos, neg_ℤ, codes}
+use Rattle.std.specs.Prelude.{◌≡◌, ℕ, ◌^◌, ◌-◌, true, false, Some, None, [], ◌∷◌, replicate, pos, neg_ℤ, codes}
 use Rattle.quantity.specs.declared.truth.Tri.TheVariants.{True, False, Undef}
 use Rattle.quantity.specs.declared.value.Compare.TheVariants.{Equal, Unequal, Less, LessEqual, Greater, GreaterEqual}
 use Rattle.quantity.specs.declared.value.Value.{Value}
 use Rattle.quantity.specs.declared.value.Value.TheVariants.{Undefined, Num}
 use Rattle.quantity.specs.Arithmetic.{sum_of, difference_of, product_of, quotient_of, remainder_of, least_of, greatest_of, negative_of, size_of, sign_of, root_of, whole_part, rounded, fraction_of, comparison}
+use Rattle.quantity.specs.Delay.{put_pair}
 use Rattle.quantity.specs.Literals.{value_in}
 use Rattle.quantity.specs.Names.{is_name}
 use Rattle.quantity.specs.Times.{time_in, time_text, read_time}
@@ -138,3 +139,10 @@ pub record NamesAsSaid : Type 0 where
   pub empty : is_name [] ≡ false
   pub longest : is_name (replicate 64 97) ≡ true
   pub too_long : is_name (replicate 65 97) ≡ false
+
+pub record PairsArePut : Type 0 where
+  pub alone : put_pair 5 (plus 1) [] ≡ (5, plus 1) ∷ []
+  pub first : put_pair 2 (plus 1) ((3, plus 2) ∷ (7, plus 3) ∷ []) ≡ (2, plus 1) ∷ (3, plus 2) ∷ (7, plus 3) ∷ []
+  pub between : put_pair 5 (plus 1) ((3, plus 2) ∷ (7, plus 3) ∷ []) ≡ (3, plus 2) ∷ (5, plus 1) ∷ (7, plus 3) ∷ []
+  pub last : put_pair 9 (plus 1) ((3, plus 2) ∷ (7, plus 3) ∷ []) ≡ (3, plus 2) ∷ (7, plus 3) ∷ (9, plus 1) ∷ []
+  pub at_its_time : put_pair 7 (plus 1) ((3, plus 2) ∷ (7, plus 3) ∷ (8, plus 4) ∷ []) ≡ (3, plus 2) ∷ (7, plus 1) ∷ (8, plus 4) ∷ []

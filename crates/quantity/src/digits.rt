@@ -1,10 +1,10 @@
 // Whole numbers in texts.
-ghost use Rattle.std.specs.Prelude.{◌≡◌, ◌<◌, ◌≤◌, ◌^◌, length, IsTrue, IfSome};
+ghost use Rattle.std.specs.Prelude.{◌≡◌, ◌<◌, ◌≤◌, ◌^◌, length, unsigned_abs, IsTrue, IfSome};
 ghost use Rattle.std.specs.List.{before_first, after_first, list_all, position};
 ghost use Rattle.std.specs.Char.{is_ascii_digit};
 ghost use Rattle.std.specs.Str.{all_ascii_digits};
-ghost use Rattle.quantity.specs.Bytes.{is_byte};
-ghost use Rattle.quantity.specs.Digits.{are_digits, number_in, whole_number};
+ghost use Rattle.quantity.specs.Bytes.{begins_with, is_byte};
+ghost use Rattle.quantity.specs.Digits.{are_digits, number_in, signed_number, whole_number, without_sign};
 
 /// The number of 1 to `most` decimal digits; None where the text is anything else.
 pub fn whole_number(most: usize, text: &[u8]) -> Option<u64>
@@ -17,6 +17,38 @@ pub fn whole_number(most: usize, text: &[u8]) -> Option<u64>
     } else {
         None
     }
+}
+
+/// The number of 1 to `most` decimal digits after an optional sign; None where the text is anything else.
+pub fn signed_number(most: usize, text: &[u8]) -> Option<i64>
+    requires { most ≤ 18 }
+    ensures value { result ≡ signed_number most text.now }
+    ensures below { IfSome result (λ n. unsigned_abs n < 10 ^ most) }
+{
+    let size = whole_number(most, without_sign(text))?;
+    let number = size as i64;
+    if is_negative(text) {
+        Some(-number)
+    } else {
+        Some(number)
+    }
+}
+
+/// The text without a sign at its head.
+pub(crate) fn without_sign(text: &[u8]) -> &[u8]
+    ensures { result.now ≡ without_sign text.now }
+{
+    match text {
+        [b'+' | b'-', unsigned @ ..] => unsigned,
+        _ => text,
+    }
+}
+
+/// Whether the text begins with a minus.
+pub(crate) fn is_negative(text: &[u8]) -> bool
+    ensures { result ≡ begins_with 45 text.now }
+{
+    matches!(text, [b'-', ..])
 }
 
 /// Whether the text has at least `least` and at most `most` bytes, and each is a digit.
@@ -53,7 +85,7 @@ pub(crate) fn number_in(digits: &[u8]) -> u64
 }
 
 /// What stands before the first such byte, and what stands after it: all and nothing where there is none.
-pub(crate) fn cut_at(byte: u8, text: &[u8]) -> (&[u8], &[u8])
+pub fn cut_at(byte: u8, text: &[u8]) -> (&[u8], &[u8])
     ensures before { result.0.now ≡ before_first (is_byte byte) text.now }
     ensures after { result.1.now ≡ after_first (is_byte byte) text.now }
 {

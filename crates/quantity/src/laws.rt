@@ -1,5 +1,5 @@
 // Laws of the definitions, and values worked out by them.
-ghost use Rattle.quantity.specs.Examples.{ComparisonsAsSaid, FunctionsAsSaid, LiteralsAsSaid, NamesAsSaid, ProductsAsSaid, SumsAsSaid, TextsAsSaid, TimesAsSaid};
+ghost use Rattle.quantity.specs.Examples.{ComparisonsAsSaid, FunctionsAsSaid, LiteralsAsSaid, NamesAsSaid, PairsArePut, ProductsAsSaid, SumsAsSaid, TextsAsSaid, TimesAsSaid};
 ghost use Rattle.quantity.specs.Order.{ComparisonsAgree, OverflowsPastTheBound, PartsMakeTheNumber};
 ghost use Rattle.quantity.specs.ReadBack.{ReadsNothingElse, ReadsWhatIsWritten};
 ghost use Rattle.quantity.specs.Tables.{LogicLaws, TablesAsSaid};
@@ -53,4 +53,9 @@ pub fn text_examples()
     ensures texts { TextsAsSaid }
     ensures times { TimesAsSaid }
     ensures names { NamesAsSaid }
+{}
+
+/// Pairs that are put into a delay list, by time.
+pub fn delay_list_examples()
+    ensures { PairsArePut }
 {}

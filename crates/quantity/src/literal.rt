@@ -1,11 +1,10 @@
 // Numbers as people write them, in hundred-thousandths.
 ghost use Rattle.std.specs.Prelude.{◌≡◌, ◌+◌, ◌*◌, ◌<◌, ◌≤◌, ◌^◌, ◌++◌, pos, unsigned_abs, length, take, replicate, IsTrue, IfSome};
 ghost use Rattle.std.specs.Str.{all_ascii_digits};
-ghost use Rattle.quantity.specs.Bytes.{begins_with};
-ghost use Rattle.quantity.specs.Digits.{number_in, without_sign};
+ghost use Rattle.quantity.specs.Digits.{number_in};
 ghost use Rattle.quantity.specs.Literals.{is_number_of, signed_raw, unsigned_raw};
 
-use crate::digits::{all_are_digits, are_digits, cut_at, number_in};
+use crate::digits::{all_are_digits, are_digits, cut_at, is_negative, number_in, without_sign};
 
 /// The number after an optional sign, in hundred-thousandths, decimals after the fifth cut. At most
 /// so many digits stand before the point; None off that form.
@@ -21,21 +20,6 @@ pub(crate) fn signed_raw(most: usize, text: &[u8]) -> Option<i64>
     } else {
         Some(raw)
     }
-}
-
-fn without_sign(text: &[u8]) -> &[u8]
-    ensures { result.now ≡ without_sign text.now }
-{
-    match text {
-        [b'+' | b'-', unsigned @ ..] => unsigned,
-        _ => text,
-    }
-}
-
-fn is_negative(text: &[u8]) -> bool
-    ensures { result ≡ begins_with 45 text.now }
-{
-    matches!(text, [b'-', ..])
 }
 
 fn unsigned_raw(most: usize, text: &[u8]) -> Option<u64>

@@ -1,6 +1,6 @@
 // Every public call once, at values that the formats give.
 use super::Tri::{False, True, Undef};
-use super::digits::whole_number;
+use super::digits::{cut_at, signed_number, whole_number};
 use super::*;
 use std::test::Fail;
 
@@ -97,6 +97,25 @@ fn values_are_read_and_written(rt: HostRuntime) -> Result<(), Fail> {
     assert_eq!(rt; Value::read_text5(b"-1.5"), None);
     assert_eq!(rt; whole_number(3, b"359"), Some(359));
     Ok(())
+}
+
+#[test]
+fn whole_numbers_are_read(rt: HostRuntime) {
+    assert_eq!(rt; signed_number(7, b"-0012"), Some(-12));
+    assert_eq!(rt; signed_number(7, b"+9999999"), Some(9_999_999));
+    assert_eq!(rt;
+        signed_number(18, b"-999999999999999999"),
+        Some(-999_999_999_999_999_999)
+    );
+    assert_eq!(rt; signed_number(7, b"12345678"), None);
+    assert_eq!(rt; signed_number(7, b"- 1"), None);
+    assert_eq!(rt; signed_number(7, b"--1"), None);
+    assert_eq!(rt; signed_number(7, b"-"), None);
+    assert_eq!(rt;
+        cut_at(b'%', b"a % b"),
+        (b"a ".as_slice(), b" b".as_slice())
+    );
+    assert_eq!(rt; cut_at(b'%', b"a"), (b"a".as_slice(), b"".as_slice()));
 }
 
 #[test]

@@ -1,3 +1,4 @@
 pub mod Tuples
 pub mod Lines
+pub mod Shown
 pub mod Examples
