@@ -1,0 +1,9 @@
+pub mod Cuts
+pub mod Gathered
+pub mod FileLemmas
+pub mod RowLemmas
+pub mod ZoneLemmas
+pub mod Places
+pub mod Opposites
+pub mod Rising
+pub mod Watching

@@ -1,0 +1,31 @@
+-- Values that are read one after another.
+use Rattle.std.specs.Prelude.{ℕ, ◌==◌, Option, List, map, length, ◌++◌}
+use Rattle.std.specs.List.{flat_map, slice_split}
+use Rattle.std.specs.Option.{option_and_then}
+use Rattle.std.specs.Bool.{then_some}
+use Rattle.quantity.specs.declared.value.Value.{Value}
+use Rattle.quantity.specs.Bytes.{Bytes, is_byte, words, all_there}
+use Rattle.quantity.specs.Literals.{value_in}
+use Rattle.source_text.specs.Lines.{text_of_line}
+use Rattle.quantity.specs.declared.place.Place.{Place}
+use Rattle.cell_grid.specs.Space.{Space}
+use Rattle.cell_grid.specs.ZoneTexts.{boxes_of, corner_in}
+
+-- all values, where there are so many and none is missing
+abbrev pub all_of : ℕ → List (Option Value) → Option (List Value)
+all_of n vs = option_and_then (λ values. then_some (length values == n) values) (all_there vs)
+
+abbrev pub values_for : ℕ → List Bytes → Option (List Value)
+values_for n texts = all_of n (map value_in texts)
+
+abbrev pub file_words : Bytes → List Bytes
+file_words bytes = flat_map (λ line. words (text_of_line line)) (slice_split (is_byte 10) bytes)
+
+-- the words of a line, and those of the lines behind it
+abbrev pub words_left : Bytes → Bytes → List Bytes
+words_left line behind = words line ++ file_words behind
+
+-- the boxes of parts of a zone's items
+abbrev pub boxes_of_parts : Space → Option (List Bytes) → Option (List (Place × Place))
+boxes_of_parts space parts =
+    option_and_then boxes_of (option_and_then (λ texts. all_there (map (corner_in space) texts)) parts)

@@ -1,0 +1,83 @@
+// Rows of values, in two dimensions alone.
+ghost use Rattle.std.specs.Prelude.{◌≡◌, ◌<◌, Some, None, List, length, map, IfNone, IfSome, MatchResult, Option};
+ghost use Rattle.std.specs.Option.{option_map};
+ghost use Rattle.quantity.specs.Digits.{whole_number};
+ghost use Rattle.quantity.specs.declared.value.Value.{Value as CellValue};
+ghost use Rattle.cell_grid.specs.Initial.{digit_value, row_digits, row_of, row_values, with_row};
+ghost use Rattle.cell_grid.specs.Space.{cell_count, dims_of};
+ghost use Rattle.cell_grid.specs.declared.initial.InitialRefusal.TheVariants.{BadInitial};
+ghost use Rattle.cell_grid.specs.Reading.{all_of};
+
+use crate::Grid;
+use crate::files::{WordsLeft, lay_words};
+use crate::initial::InitialRefusal;
+use quantity::Value;
+use quantity::digits::whole_number;
+use source_text::words::next_word;
+
+/// The row of this number. None where it is no number of a row of a space in two dimensions.
+fn row_number(number: &[u8], grid: &Grid) -> Option<u32>
+    ensures none { IfNone result ((values : Option (List CellValue)) → row_of grid.now (whole_number 7 number.now) values ≡ None) }
+    ensures number { IfSome result (λ row. whole_number 7 number.now ≡ Some row) }
+    ensures dims { IfSome result (λ _. dims_of grid.now ≡ 2) }
+    ensures below { IfSome result (λ row. row < grid.now.rows) }
+{
+    let row = whole_number(7, number)? as u32;
+    if grid.dims() == 2 && row < grid.rows() {
+        Some(row)
+    } else {
+        None
+    }
+}
+
+/// Lays a digit or `?` in each cell.
+fn lay_digits(cells: &mut [Value], chars: &[u8]) -> Result<(), InitialRefusal>
+    ensures { MatchResult result
+        (λ _. all_of (length cells.old) (map digit_value chars.now) ≡ Some cells.new)
+        (λ refusal. (refusal ≡ BadInitial) × (all_of (length cells.old) (map digit_value chars.now) ≡ None)) }
+{
+    if chars.len() != cells.len() {
+        return Err(InitialRefusal::BadInitial);
+    }
+    for (place, cell) in cells.iter_mut().enumerate() {
+        let value = Value::parse(&chars[place..place + 1]).ok_or(InitialRefusal::BadInitial)?;
+        *cell = value;
+    }
+    Ok(())
+}
+
+/// Lays a row's digits: its number, and then a digit or `?` for each of its cells.
+pub fn lay_row_digits(values: &mut [Value], text: &[u8], grid: &Grid) -> Result<(), InitialRefusal>
+    requires { length values.old ≡ cell_count grid.now }
+    ensures { MatchResult result
+        (λ _. option_map (with_row grid.now values.old) (row_digits grid.now text.now) ≡ Some values.new)
+        (λ refusal. (refusal ≡ BadInitial) × (row_digits grid.now text.now ≡ None)) }
+{
+    let (number, rest) = next_word(text).ok_or(InitialRefusal::BadInitial)?;
+    let (chars, rest) = next_word(rest).ok_or(InitialRefusal::BadInitial)?;
+    if next_word(rest).is_some() {
+        return Err(InitialRefusal::BadInitial);
+    }
+    let row = row_number(number, grid).ok_or(InitialRefusal::BadInitial)?;
+    let columns = grid.columns() as usize;
+    let start = row as usize * columns;
+    lay_digits(&mut values[start..start + columns], chars)
+}
+
+/// Lays a row's values: its number, and then a value for each of its cells.
+pub fn lay_row_values(values: &mut [Value], text: &[u8], grid: &Grid) -> Result<(), InitialRefusal>
+    requires { length values.old ≡ cell_count grid.now }
+    ensures { MatchResult result
+        (λ _. option_map (with_row grid.now values.old) (row_values grid.now text.now) ≡ Some values.new)
+        (λ refusal. (refusal ≡ BadInitial) × (row_values grid.now text.now ≡ None)) }
+{
+    let (number, rest) = next_word(text).ok_or(InitialRefusal::BadInitial)?;
+    let row = row_number(number, grid).ok_or(InitialRefusal::BadInitial)?;
+    let columns = grid.columns() as usize;
+    let start = row as usize * columns;
+    let words = WordsLeft {
+        line: rest,
+        behind: &[],
+    };
+    lay_words(&mut values[start..start + columns], words)
+}
