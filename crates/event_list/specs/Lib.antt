@@ -1,2 +1,4 @@
 pub mod Events
+pub mod Shown
+pub mod LineByLine
 pub mod Examples

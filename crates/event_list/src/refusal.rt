@@ -1,4 +1,7 @@
 // Why an event file is refused.
+ghost use Rattle.std.specs.Prelude.{◌≡◌};
+
+use std::alloc::AllocError;
 
 /// Why an event file is refused, with the number of the line.
 #[derive(Clone, Copy, PartialEq, Eq, Debug)]
@@ -11,4 +14,14 @@ pub enum EventRefusal {
     TooLarge(u32),
     /// There is no memory for the events.
     Memory,
+}
+
+impl From<AllocError> for EventRefusal {
+    ghost use Rattle.event_list.specs.declared.refusal.EventRefusal.TheVariants.{Memory};
+
+    ghost from_gives = { λ _ refusal. refusal ≡ Memory };
+
+    fn from(_error: AllocError) -> EventRefusal {
+        EventRefusal::Memory
+    }
 }

@@ -1,0 +1,19 @@
+-- Events as they are kept and as they are given, and the first of those that are left.
+use Rattle.std.specs.Prelude.{ℕ, Option, Some, None, List, [], ◌∷◌}
+use Rattle.quantity.specs.declared.value.Value.{Value}
+use Rattle.event_list.specs.declared.event.Event as kept
+use Rattle.event_list.specs.Events.{Event}
+
+abbrev pub shown : kept.Event → Event
+shown e = record { time = e.time; port = e.port; value = e.value }
+
+abbrev pub time_of : kept.Event → ℕ
+time_of e = e.time
+
+-- the input and the value of an event
+abbrev pub given : Event → ℕ × Value
+given e = (e.port, e.value)
+
+abbrev pub first_time : List Event → Option ℕ
+first_time [] = None
+first_time (e ∷ es) = Some e.time

@@ -1,0 +1,10 @@
+// An event as it is kept.
+use quantity::{Time, Value};
+
+/// A value at an input of the whole model: the input by its number, and the time of the value.
+#[derive(Clone, Copy, PartialEq, Eq, Debug)]
+pub(crate) struct Event {
+    pub(crate) time: Time,
+    pub(crate) port: u16,
+    pub(crate) value: Value,
+}
