@@ -1,0 +1,5 @@
+pub mod Puts
+pub mod Paths
+pub mod Laid
+pub mod Chains
+pub mod Spots

@@ -1,0 +1,14 @@
+use Rattle.std.proofs.Common.{◌≡◌, None, replicate, rules}
+use Rattle.slab.specs.Slab.{get}
+use Rattle.delay_lines.proofs.Laid.{AreLaid-empty, AreLaid-seen, lists_from-laid}
+use Rattle.delay_lines.proofs.delays.Delays.new.Goals as goal
+
+pub invariant_of-result : goal.invariant_of-result
+invariant_of-result c =
+    let items : c.in_ok-vec.field-0.items ≡ replicate c.args.cells None = c.in_ok-vec.ensures.items_if_clones_equal (λ y clone. search rules) in
+    rw items (AreLaid-seen _ _ _ (AreLaid-empty (get c.new.result) c.args.cells))
+
+pub returns : goal.returns
+returns c =
+    let items : c.in_ok-vec.field-0.items ≡ replicate c.args.cells None = c.in_ok-vec.ensures.items_if_clones_equal (λ y clone. search rules) in
+    record { lists = rw items (lists_from-laid (get c.new.result) _ _ (AreLaid-empty (get c.new.result) c.args.cells)) }

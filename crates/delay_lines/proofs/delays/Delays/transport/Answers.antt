@@ -1,0 +1,173 @@
+use Rattle.std.proofs.Common.{None, Some, IsSome, ap, length, length-set, subst, sym, ◌∙◌, refl, arith}
+use Rattle.std.proofs.lemmas.List.{get_or_read}
+use Rattle.quantity.specs.Delay.{put_pair}
+use Rattle.slab.specs.Slab.{get}
+use Rattle.slab.proofs.SlabLemmas.{Updates-with_value}
+use Rattle.delay_lines.specs.Lists.{list_of}
+use Rattle.delay_lines.specs.Nodes.{IsOrdered, IsTaken, node_of}
+use Rattle.delay_lines.proofs.Chains.{AreLaid-headed, AreLaid-replaced, AreLaid-stands_linked, length-free, length-taken}
+use Rattle.delay_lines.proofs.Laid.{AreLaid-seen, IsOrdered-laid, list_of-changed, list_of-seen, lists_from-changed, slab_len-with_value, within_seen}
+use Rattle.delay_lines.proofs.Puts.{length-put_pair}
+use Rattle.delay_lines.proofs.Spots.{IsFree-at}
+use Rattle.delay_lines.proofs.delays.Delays.transport.Goals as goal
+
+pub spot_of-requires : goal.spot_of-requires
+spot_of-requires c =
+    let within = within_seen _ _ c.args.self.now c.args.cell (ap (λ d. d.lists) c.self.view_is) c.requires in
+    let read = get_or_read _ c.args.cell _ within c.index.ensures None in
+    subst (λ o. IsOrdered (get c.self.inside.nodes) o) (sym read) (IsOrdered-laid _ _ c.self.invariant c.args.cell within)
+
+pub index_mut-requires : goal.index_mut-requires
+index_mut-requires c = subst IsSome (sym c.in-Taken.ensures.holds) refl
+
+pub invariant_of-self : goal.invariant_of-self
+invariant_of-self c =
+    let within = within_seen _ _ c.args.self.now c.args.cell (ap (λ d. d.lists) c.self.view_is) c.requires in
+    let read = get_or_read _ c.args.cell _ within c.index.ensures None in
+    let taken = subst (λ o. IsTaken (get c.self.inside.nodes) o c.args.at c.in-Taken.key) read c.in-Taken.ensures in
+    let node = c.index_mut.result.now in
+    let written = Updates-with_value c.self.inside.nodes c.in-Taken.key (node_of (c.args.at, c.args.value) node.next) (subst IsSome (sym c.index_mut.ensures.value) refl) in
+    AreLaid-seen _ _ _ (AreLaid-replaced _ _ _ c.self.invariant c.args.cell c.args.at c.args.value c.in-Taken.key node within taken c.index_mut.ensures.value written.changed written.others)
+
+pub returns-in-Taken-clause-ok : goal.returns-in-Taken-clause-ok
+returns-in-Taken-clause-ok c =
+    let seen = ap (λ d. d.lists) c.self.view_is in
+    let within = within_seen _ _ c.args.self.now c.args.cell seen c.requires in
+    let read = get_or_read _ c.args.cell _ within c.index.ensures None in
+    let taken = subst (λ o. IsTaken (get c.self.inside.nodes) o c.args.at c.in-Taken.key) read c.in-Taken.ensures in
+    let node = c.index_mut.result.now in
+    let written = Updates-with_value c.self.inside.nodes c.in-Taken.key (node_of (c.args.at, c.args.value) node.next) (subst IsSome (sym c.index_mut.ensures.value) refl) in
+    let laid = AreLaid-replaced _ _ _ c.self.invariant c.args.cell c.args.at c.args.value c.in-Taken.key node within taken c.index_mut.ensures.value written.changed written.others in
+    lists_from-changed _ _ _ _ c.args.self.now c.args.cell (put_pair c.args.at c.args.value) seen within laid
+
+pub returns-in-Taken-clause-rising : goal.returns-in-Taken-clause-rising
+returns-in-Taken-clause-rising c =
+    let within = within_seen _ _ c.args.self.now c.args.cell (ap (λ d. d.lists) c.self.view_is) c.requires in
+    ((invariant_of-self c).chains c.args.cell within).rising
+
+-- as many pairs and as many nodes
+pub returns-in-Taken-clause-had_room : goal.returns-in-Taken-clause-had_room
+returns-in-Taken-clause-had_room c =
+    let within = within_seen _ _ c.args.self.now c.args.cell (ap (λ d. d.lists) c.self.view_is) c.requires in
+    let read = get_or_read _ c.args.cell _ within c.index.ensures None in
+    let new = ap length (list_of-changed c.args.self.now _ c.args.cell _ c.requires (returns-in-Taken-clause-ok c)) in
+    let old = list_of-seen _ _ c.args.self.now c.args.cell (ap (λ d. d.lists) c.self.view_is) within in
+    let put = ap (λ l. length (put_pair c.args.at c.args.value l)) old in
+    let same = length-taken _ _ c.args.at c.args.value _ (subst (λ o. IsTaken (get c.self.inside.nodes) o c.args.at c.in-Taken.key) read c.in-Taken.ensures) in
+    let had = ap length old in
+    let spare = ap (λ d. d.spare) c.self.view_is in
+    let len = slab_len-with_value c.self.inside.nodes c.in-Taken.key (node_of (c.args.at, c.args.value) c.index_mut.result.now.next) (subst IsSome (sym c.index_mut.ensures.value) refl) in
+    λ room. omega arith
+
+pub returns-in-Taken-clause-places : goal.returns-in-Taken-clause-places
+returns-in-Taken-clause-places c =
+    let new = ap length (list_of-changed c.args.self.now _ c.args.cell _ c.requires (returns-in-Taken-clause-ok c)) in
+    let more = length-put_pair c.args.at c.args.value (list_of c.args.self.now c.args.cell) in
+    let spare = ap (λ d. d.spare) c.self.view_is in
+    let len = slab_len-with_value c.self.inside.nodes c.in-Taken.key (node_of (c.args.at, c.args.value) c.index_mut.result.now.next) (subst IsSome (sym c.index_mut.ensures.value) refl) in
+    omega (arith, more.0)
+
+pub invariant_of-self-in_default : goal.invariant_of-self-in_default
+invariant_of-self-in_default c = rw c.in_default.ensures.err c.self.invariant
+
+pub invariant_of-self-in-Some : goal.invariant_of-self-in-Some
+invariant_of-self-in-Some c =
+    let within = within_seen _ _ c.args.self.now c.args.cell (ap (λ d. d.lists) c.self.view_is) c.requires in
+    let read = get_or_read _ c.args.cell _ within c.index.ensures None in
+    let free = IsFree-at _ _ _ _ _ _ _ read c.in-Some.is c.in-Free.ensures in
+    let made = c.in-Ok.ensures in
+    let node = c.index_mut-in-Some.result.now in
+    let linked = Updates-with_value c.insert.new.self c.in-Some.before (node_of node.pair (Some c.in-Ok.key)) (subst IsSome (sym c.index_mut-in-Some.ensures.value) refl) in
+    AreLaid-seen _ _ _ (AreLaid-stands_linked _ _ _ _ c.self.invariant c.args.cell c.args.at c.args.value c.in-Ok.key c.in-Some.before c.in-Free.next node within c.new.ensures.time free made.was_vacant (made.updates.changed ∙ ap Some c.new.ensures.node) made.updates.others c.index_mut-in-Some.ensures.value linked.changed linked.others)
+
+pub returns-in-Some-clause-ok : goal.returns-in-Some-clause-ok
+returns-in-Some-clause-ok c =
+    let seen = ap (λ d. d.lists) c.self.view_is in
+    let within = within_seen _ _ c.args.self.now c.args.cell seen c.requires in
+    let read = get_or_read _ c.args.cell _ within c.index.ensures None in
+    let free = IsFree-at _ _ _ _ _ _ _ read c.in-Some.is c.in-Free.ensures in
+    let made = c.in-Ok.ensures in
+    let node = c.index_mut-in-Some.result.now in
+    let linked = Updates-with_value c.insert.new.self c.in-Some.before (node_of node.pair (Some c.in-Ok.key)) (subst IsSome (sym c.index_mut-in-Some.ensures.value) refl) in
+    let laid = AreLaid-stands_linked _ _ _ _ c.self.invariant c.args.cell c.args.at c.args.value c.in-Ok.key c.in-Some.before c.in-Free.next node within c.new.ensures.time free made.was_vacant (made.updates.changed ∙ ap Some c.new.ensures.node) made.updates.others c.index_mut-in-Some.ensures.value linked.changed linked.others in
+    lists_from-changed _ _ _ _ c.args.self.now c.args.cell (put_pair c.args.at c.args.value) seen within laid
+
+pub returns-in-Some-clause-rising : goal.returns-in-Some-clause-rising
+returns-in-Some-clause-rising c =
+    let within = within_seen _ _ c.args.self.now c.args.cell (ap (λ d. d.lists) c.self.view_is) c.requires in
+    ((invariant_of-self-in-Some c).chains c.args.cell within).rising
+
+pub returns-in-Some-clause-had_room : goal.returns-in-Some-clause-had_room
+returns-in-Some-clause-had_room c =
+    let within = within_seen _ _ c.args.self.now c.args.cell (ap (λ d. d.lists) c.self.view_is) c.requires in
+    let read = get_or_read _ c.args.cell _ within c.index.ensures None in
+    let new = ap length (list_of-changed c.args.self.now _ c.args.cell _ c.requires (returns-in-Some-clause-ok c)) in
+    let old = list_of-seen _ _ c.args.self.now c.args.cell (ap (λ d. d.lists) c.self.view_is) within in
+    let put = ap (λ l. length (put_pair c.args.at c.args.value l)) old in
+    let more = length-free _ _ c.args.at c.args.value _ _ (IsFree-at _ _ _ _ _ _ _ read refl c.in-Free.ensures) in
+    let had = ap length old in
+    let spare = ap (λ d. d.spare) c.self.view_is in
+    let node = c.index_mut-in-Some.result.now in
+    let len = slab_len-with_value c.insert.new.self c.in-Some.before (node_of node.pair (Some c.in-Ok.key)) (subst IsSome (sym c.index_mut-in-Some.ensures.value) refl) in
+    λ room. let same = c.in-Ok.ensures.had_room (omega arith) in omega (arith, c.in-Ok.ensures.len)
+
+pub returns-in-Some-clause-places : goal.returns-in-Some-clause-places
+returns-in-Some-clause-places c =
+    let within = within_seen _ _ c.args.self.now c.args.cell (ap (λ d. d.lists) c.self.view_is) c.requires in
+    let read = get_or_read _ c.args.cell _ within c.index.ensures None in
+    let new = ap length (list_of-changed c.args.self.now _ c.args.cell _ c.requires (returns-in-Some-clause-ok c)) in
+    let old = list_of-seen _ _ c.args.self.now c.args.cell (ap (λ d. d.lists) c.self.view_is) within in
+    let put = ap (λ l. length (put_pair c.args.at c.args.value l)) old in
+    let more = length-free _ _ c.args.at c.args.value _ _ (IsFree-at _ _ _ _ _ _ _ read refl c.in-Free.ensures) in
+    let had = ap length old in
+    let spare = ap (λ d. d.spare) c.self.view_is in
+    let node = c.index_mut-in-Some.result.now in
+    let len = slab_len-with_value c.insert.new.self c.in-Some.before (node_of node.pair (Some c.in-Ok.key)) (subst IsSome (sym c.index_mut-in-Some.ensures.value) refl) in
+    omega (arith, c.in-Ok.ensures.len, c.in-Ok.ensures.capacity)
+
+pub invariant_of-self-in-None : goal.invariant_of-self-in-None
+invariant_of-self-in-None c =
+    let within = within_seen _ _ c.args.self.now c.args.cell (ap (λ d. d.lists) c.self.view_is) c.requires in
+    let read = get_or_read _ c.args.cell _ within c.index.ensures None in
+    let free = IsFree-at _ _ _ _ _ _ _ read c.in-None.is c.in-Free.ensures in
+    let made = c.in-Ok.ensures in
+    AreLaid-seen _ _ _ (AreLaid-headed _ _ _ c.self.invariant c.args.cell c.args.at c.args.value c.in-Ok.key c.in-Free.next within c.new.ensures.time free made.was_vacant (made.updates.changed ∙ ap Some c.new.ensures.node) made.updates.others)
+
+pub returns-in-None-clause-ok : goal.returns-in-None-clause-ok
+returns-in-None-clause-ok c =
+    let seen = ap (λ d. d.lists) c.self.view_is in
+    let within = within_seen _ _ c.args.self.now c.args.cell seen c.requires in
+    let read = get_or_read _ c.args.cell _ within c.index.ensures None in
+    let free = IsFree-at _ _ _ _ _ _ _ read c.in-None.is c.in-Free.ensures in
+    let made = c.in-Ok.ensures in
+    let laid = AreLaid-headed _ _ _ c.self.invariant c.args.cell c.args.at c.args.value c.in-Ok.key c.in-Free.next within c.new.ensures.time free made.was_vacant (made.updates.changed ∙ ap Some c.new.ensures.node) made.updates.others in
+    lists_from-changed _ _ _ _ c.args.self.now c.args.cell (put_pair c.args.at c.args.value) seen within laid
+
+pub returns-in-None-clause-rising : goal.returns-in-None-clause-rising
+returns-in-None-clause-rising c =
+    let within = within_seen _ _ c.args.self.now c.args.cell (ap (λ d. d.lists) c.self.view_is) c.requires in
+    ((invariant_of-self-in-None c).chains c.args.cell (omega (arith, length-set c.self.inside.firsts.items c.args.cell (Some c.in-Ok.key)))).rising
+
+pub returns-in-None-clause-had_room : goal.returns-in-None-clause-had_room
+returns-in-None-clause-had_room c =
+    let within = within_seen _ _ c.args.self.now c.args.cell (ap (λ d. d.lists) c.self.view_is) c.requires in
+    let read = get_or_read _ c.args.cell _ within c.index.ensures None in
+    let new = ap length (list_of-changed c.args.self.now _ c.args.cell _ c.requires (returns-in-None-clause-ok c)) in
+    let old = list_of-seen _ _ c.args.self.now c.args.cell (ap (λ d. d.lists) c.self.view_is) within in
+    let put = ap (λ l. length (put_pair c.args.at c.args.value l)) old in
+    let more = length-free _ _ c.args.at c.args.value _ _ (IsFree-at _ _ _ _ _ _ _ read refl c.in-Free.ensures) in
+    let had = ap length old in
+    let spare = ap (λ d. d.spare) c.self.view_is in
+    λ room. let same = c.in-Ok.ensures.had_room (omega arith) in omega (arith, c.in-Ok.ensures.len)
+
+pub returns-in-None-clause-places : goal.returns-in-None-clause-places
+returns-in-None-clause-places c =
+    let within = within_seen _ _ c.args.self.now c.args.cell (ap (λ d. d.lists) c.self.view_is) c.requires in
+    let read = get_or_read _ c.args.cell _ within c.index.ensures None in
+    let new = ap length (list_of-changed c.args.self.now _ c.args.cell _ c.requires (returns-in-None-clause-ok c)) in
+    let old = list_of-seen _ _ c.args.self.now c.args.cell (ap (λ d. d.lists) c.self.view_is) within in
+    let put = ap (λ l. length (put_pair c.args.at c.args.value l)) old in
+    let more = length-free _ _ c.args.at c.args.value _ _ (IsFree-at _ _ _ _ _ _ _ read refl c.in-Free.ensures) in
+    let had = ap length old in
+    let spare = ap (λ d. d.spare) c.self.view_is in
+    omega (arith, c.in-Ok.ensures.len, c.in-Ok.ensures.capacity)

@@ -1,0 +1,149 @@
+// The delay lists of the cells of a group.
+ghost use Rattle.std.specs.Prelude.{◌≡◌, ◌+◌, ◌<◌, ◌≤◌, [], ◌∷◌, ◌++◌, length, drop, replicate, OnOk, OnErr, IfOk, IsOk};
+ghost use Rattle.quantity.specs.Delay.{put_pair};
+ghost use Rattle.delay_lines.specs.Lists.{list_of, first_pair, ChangesList, IsRising, KeepsPlaces};
+
+use crate::nodes::{Node, Spot, append_from, spot_of};
+use quantity::{OutOfMemory, Time, Value};
+use slab::Slab;
+use std::alloc::Global;
+use std::marker::Model;
+
+/// The delay lists of the cells of a group. It is seen as the list of each cell, which are pairs of a time
+/// and a value by rising time, and the number `spare` of pairs that can be added with no memory taken.
+#[derive(Drop)]
+pub struct Delays {
+    // All lists share these nodes, so a pair that leaves one list makes room in every other.
+    nodes: Slab<Node>,
+    // The number of the first node of each cell's list.
+    firsts: Vec<Option<usize>>,
+}
+
+impl Model for Delays {
+    ghost use Rattle.std.specs.Prelude.{◌-◌};
+    ghost use Rattle.slab.specs.Slab.{get, slab_len};
+    ghost use Rattle.delay_lines.specs.Lists.{DelayLists};
+
+    ghost Value = { DelayLists };
+
+    ghost use Rattle.delay_lines.specs.Nodes.{AreLaid, lists_from};
+
+    ghost view = { λ d. record {
+      lists = lists_from (get d.nodes) d.firsts.items;
+      spare = d.nodes.capacity - slab_len d.nodes;
+    } };
+
+    ghost invariant = { λ d. AreLaid (get d.nodes) d.firsts.items (lists_from (get d.nodes) d.firsts.items) };
+}
+
+impl Delays {
+    /// The empty lists of so many cells.
+    pub fn new(alloc: Global, cells: u32) -> Result<Delays, OutOfMemory>
+        ensures lists { IfOk result (λ d. d.lists ≡ replicate cells []) }
+    {
+        Ok(Delays {
+            nodes: Slab::new(alloc),
+            firsts: vec![in alloc; None; cells as usize]?,
+        })
+    }
+
+    /// Makes room for `n` pairs more. Where memory is refused, nothing changes, and no room is lost.
+    pub fn reserve(&mut self, n: usize) -> Result<(), OutOfMemory>
+        ensures room { OnOk result (n ≤ self.new.spare) }
+        ensures lists { self.new.lists ≡ self.old.lists }
+        ensures spare { self.old.spare ≤ self.new.spare }
+    {
+        self.nodes.reserve(n)?;
+        Ok(())
+    }
+
+    /// The first pair of a cell's list, None where the list is empty. It visits one node.
+    pub fn first(&self, cell: u32) -> Option<(Time, Value)>
+        requires { cell < length self.now.lists }
+        ensures pair { result ≡ first_pair (list_of self.now cell) }
+        ensures rising { IsRising (list_of self.now cell) }
+    {
+        let key = self.firsts[cell as usize]?;
+        Some(self.nodes[key].pair)
+    }
+
+    /// The first pair of a cell's list leaves it, if there is one, and makes room for another. It visits
+    /// one node.
+    pub fn take_first(&mut self, cell: u32)
+        requires { cell < length self.old.lists }
+        ensures list { ChangesList self.old self.new cell (drop 1 (list_of self.old cell)) }
+        ensures places { KeepsPlaces self.old self.new cell }
+        ensures spare { self.old.spare ≤ self.new.spare }
+    {
+        if let Some(key) = self.firsts[cell as usize] {
+            let node = self.nodes.remove(key);
+            self.firsts[cell as usize] = node.next;
+        }
+    }
+
+    /// Puts a value into a cell's list at its time, in the place of a pair of that time. It visits the
+    /// nodes of that list alone. It takes memory only where nothing is spare; where that is refused,
+    /// nothing changes, and no room is lost.
+    pub fn transport(&mut self, cell: u32, at: Time, value: Value) -> Result<(), OutOfMemory>
+        requires { cell < length self.old.lists }
+        ensures ok { OnOk result (ChangesList self.old self.new cell (put_pair at value (list_of self.old cell))) }
+        ensures rising { IsRising (list_of self.new cell) }
+        ensures succeeds { 1 ≤ self.old.spare → IsOk result }
+        ensures err { OnErr result (self.new.lists ≡ self.old.lists) }
+
+        // A pair takes the place of one that is spare, and only a refusal and a replaced pair take none.
+        ensures places { self.old.spare + length (list_of self.old cell) ≤ self.new.spare + length (list_of self.new cell) }
+        ensures had_room { 1 ≤ self.old.spare → KeepsPlaces self.old self.new cell }
+        ensures spare { self.old.spare ≤ self.new.spare + 1 }
+    {
+        match spot_of(&self.nodes, self.firsts[cell as usize], at) {
+            Spot::Taken(key) => self.nodes[key].pair = (at, value),
+            Spot::Free(before, next) => {
+                let Ok(key) = self.nodes.insert(Node::new(at, value, next)) else {
+                    return Err(OutOfMemory);
+                };
+                match before {
+                    Some(before) => self.nodes[before].next = Some(key),
+                    None => self.firsts[cell as usize] = Some(key),
+                }
+            }
+        }
+        Ok(())
+    }
+
+    /// The list of a cell becomes this pair alone. It takes no memory.
+    pub fn inertial(&mut self, cell: u32, at: Time, value: Value)
+        requires exists { cell < length self.old.lists }
+        requires room { 1 ≤ self.old.spare + length (list_of self.old cell) }
+        ensures list { ChangesList self.old self.new cell ((at, value) ∷ []) }
+        ensures places { KeepsPlaces self.old self.new cell }
+        ensures spare { self.old.spare ≤ self.new.spare + 1 }
+    {
+        while self.first(cell).is_some() {
+            self.take_first(cell);
+        }
+        self.start(cell, at, value);
+    }
+
+    /// Appends the pairs of a cell's list. Where memory is refused, `into` stays as it was.
+    pub fn pairs(&self, cell: u32, into: &mut Vec<(Time, Value)>) -> Result<(), OutOfMemory>
+        requires { cell < length self.now.lists }
+        ensures ok { OnOk result (into.new.items ≡ into.old.items ++ list_of self.now cell) }
+        ensures rising { IsRising (list_of self.now cell) }
+        ensures err { OnErr result (into.new.items ≡ into.old.items) }
+    {
+        append_from(&self.nodes, self.firsts[cell as usize], into)
+    }
+
+    /// An empty list becomes this pair alone, in a place that is spare.
+    fn start(&mut self, cell: u32, at: Time, value: Value)
+        requires exists { cell < length self.old.lists }
+        requires empty { list_of self.old cell ≡ [] }
+        requires room { 1 ≤ self.old.spare }
+        ensures list { ChangesList self.old self.new cell ((at, value) ∷ []) }
+        ensures spare { self.new.spare + 1 ≡ self.old.spare }
+    {
+        let key = self.nodes.insert_reserved(Node::new(at, value, None));
+        self.firsts[cell as usize] = Some(key);
+    }
+}

@@ -1,0 +1,10 @@
+//! The delay lists of the cells of a group: the values that wait, each with its time.
+#![tactic(auto)]
+
+pub mod delays;
+pub mod laws;
+mod nodes;
+#[cfg(test)]
+mod tests;
+
+pub use delays::Delays;

@@ -1,0 +1,82 @@
+// The nodes of all lists, and the links between them.
+ghost use Rattle.std.specs.Prelude.{◌≡◌, ◌≤◌, ◌++◌, OnOk, OnErr};
+ghost use Rattle.slab.specs.Slab.{get};
+ghost use Rattle.delay_lines.specs.Nodes.{BelongsAt, IsOrdered, last_time, node_of, pairs_from};
+
+use quantity::{OutOfMemory, Time, Value};
+use slab::Slab;
+
+/// A pair of a list, and the number of the node of the next pair.
+#[derive(Drop)]
+pub struct Node {
+    pub pair: (Time, Value),
+    pub next: Option<usize>,
+}
+
+impl Node {
+    /// The node of a pair, whose time is at most the greatest.
+    pub fn new(at: Time, value: Value, next: Option<usize>) -> Node
+        ensures node { result ≡ node_of (at, value) next }
+        ensures time { at ≤ last_time }
+    {
+        prove!(at.ms() <= 719_999_998);
+        Node {
+            pair: (at, value),
+            next,
+        }
+    }
+}
+
+/// Where a pair belongs in a list.
+#[derive(Drop)]
+pub enum Spot {
+    /// In this node, which has a pair of the same time.
+    Taken(usize),
+    /// After the first of these nodes, or at the head of the list, and before the second.
+    Free(Option<usize>, Option<usize>),
+}
+
+/// Where a pair of this time belongs in the list that begins at a node.
+pub fn spot_of(nodes: &Slab<Node>, first: Option<usize>, at: Time) -> Spot
+    requires { IsOrdered (get nodes.now) first }
+    ensures { BelongsAt (get nodes.now) first at result }
+{
+    let mut before = None;
+    let mut next = first;
+    while let Some(key) = next {
+        let node = &nodes[key];
+        let time = node.pair.0.ms();
+        if time == at.ms() {
+            return Spot::Taken(key);
+        }
+        if time > at.ms() {
+            return Spot::Free(before, next);
+        }
+        before = Some(key);
+        next = node.next;
+    }
+    Spot::Free(before, None)
+}
+
+/// Appends the pairs from a node on. Where memory is refused, `into` stays as it was.
+pub fn append_from(
+    nodes: &Slab<Node>,
+    first: Option<usize>,
+    into: &mut Vec<(Time, Value)>,
+) -> Result<(), OutOfMemory>
+    requires { IsOrdered (get nodes.now) first }
+    ensures ok { OnOk result (into.new.items ≡ into.old.items ++ pairs_from (get nodes.now) first) }
+    ensures err { OnErr result (into.new.items ≡ into.old.items) }
+{
+    let len = into.len();
+    let mut next = first;
+    while let Some(key) = next {
+        let node = &nodes[key];
+        let Ok(()) = into.push(node.pair) else {
+            into.truncate(len);
+            return Err(OutOfMemory);
+        };
+        next = node.next;
+    }
+    Ok(())
+}
