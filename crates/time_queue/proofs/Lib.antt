@@ -1,0 +1,7 @@
+pub mod Least
+pub mod Taken
+pub mod Rising
+pub mod Entered
+pub mod Heaps
+pub mod Standing
+pub mod Moved

@@ -1,0 +1,14 @@
+use Rattle.std.proofs.Common.{length, ◌≤◌}
+use Rattle.std.specs.Vec.{vec_capacity}
+use Rattle.time_queue.specs.Waiting.{leaves_at}
+use Rattle.time_queue.proofs.Taken.{IsTaking}
+use Rattle.time_queue.proofs.due.take_leading.Given as goal
+
+abbrev pub invariant-loop-first : goal.invariant-loop-first
+invariant-loop-first g l = record {
+  taking : IsTaking l.at (g.Q.DueFirst.waiting l.fn.queue) (g.Q.DueFirst.waiting l.queue) l.into.items;
+  room : length (g.Q.DueFirst.waiting l.fn.queue) ≤ vec_capacity l.into;
+}
+
+abbrev pub decreases-loop-first : goal.decreases-loop-first
+decreases-loop-first g l = length (leaves_at l.at (g.Q.DueFirst.waiting l.queue))

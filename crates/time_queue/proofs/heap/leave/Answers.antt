@@ -1,0 +1,30 @@
+use Rattle.std.proofs.Common.{◌-◌, arith}
+use Rattle.time_queue.proofs.Moved.{placed, still_none, fewer_first, fewer_but, fewer_ranked}
+use Rattle.time_queue.proofs.heap.leave.Goals as goal
+
+pub returns-then-place-waiting-clause-times : goal.returns-then-place-waiting-clause-times
+returns-then-place-waiting-clause-times c =
+    let order = c.args.ranks.now.order.items in
+    let here = placed order c.args.ranks.now.places.items c.args.leaf c.index-place.result.now c.args.ranks.now.inverse (omega (arith, c.requires.ranked.same, c.requires.within)) c.index-place.ensures in
+    still_none c.args.times.now.items order c.args.waiting c.index-place.result.now c.args.leaf c.requires.ranked c.if-place-waiting.true here.0 here.1
+
+pub returns-then-place-last-clause-ranked : goal.returns-then-place-last-clause-ranked
+returns-then-place-last-clause-ranked c =
+    let order = c.args.ranks.now.order.items in
+    let after = c.swap.new.self in
+    let here = placed order c.args.ranks.now.places.items c.args.leaf c.index-place.result.now c.args.ranks.now.inverse (omega (arith, c.requires.ranked.same, c.requires.within)) c.index-place.ensures in
+    fewer_ranked c.args.times.now.items order after.order.items after.places.items c.args.waiting (c.args.waiting - 1) c.index-place.result.now c.args.leaf after.inverse c.requires.ranked (omega arith) c.if-place-waiting.false c.if-place-last.true here.1 c.requires.within c.swap.ensures
+
+pub settle-requires-clause-first : goal.settle-requires-clause-first
+settle-requires-clause-first c =
+    let order = c.args.ranks.now.order.items in
+    let after = c.swap.new.self in
+    let here = placed order c.args.ranks.now.places.items c.args.leaf c.index-place.result.now c.args.ranks.now.inverse (omega (arith, c.requires.ranked.same, c.requires.within)) c.index-place.ensures in
+    rw c.deref.ensures.value (fewer_first c.args.times.now.items order after.order.items after.places.items c.args.waiting (c.args.waiting - 1) c.index-place.result.now c.args.leaf after.inverse c.requires.ranked (omega arith) c.if-place-waiting.false here.1 c.requires.within c.swap.ensures)
+
+pub settle-requires-clause-heap : goal.settle-requires-clause-heap
+settle-requires-clause-heap c =
+    let order = c.args.ranks.now.order.items in
+    let after = c.swap.new.self in
+    let here = placed order c.args.ranks.now.places.items c.args.leaf c.index-place.result.now c.args.ranks.now.inverse (omega (arith, c.requires.ranked.same, c.requires.within)) c.index-place.ensures in
+    rw c.deref.ensures.value (fewer_but c.args.times.now.items order after.order.items after.places.items c.args.waiting (c.args.waiting - 1) c.index-place.result.now c.args.leaf after.inverse c.requires.ranked (omega arith) c.if-place-waiting.false here.1 c.swap.ensures)

@@ -1,0 +1,4 @@
+pub mod Heap
+pub mod Replay
+pub mod Sorted
+pub mod Waiting

@@ -1,0 +1,33 @@
+-- Moves carried out one after another.
+use Rattle.std.specs.Prelude.{ℕ, ◌<◌, Option, Some, None, List, [], ◌∷◌, slice_set}
+use Rattle.time_queue.specs.declared.moves.Move.{Move}
+use Rattle.time_queue.specs.declared.moves.Move.TheVariants.{Set, Clear, TakeAll}
+use Rattle.time_queue.specs.Waiting.{least_of, leaves_at, without}
+
+-- the leaf is one of so many
+abbrev pub IsMoveOf : ℕ → Move → Type 0
+IsMoveOf n (Set leaf at) = leaf < n
+IsMoveOf n (Clear leaf) = leaf < n
+IsMoveOf n (TakeAll at) = Unit {0}
+
+-- the times after a move
+abbrev pub moved : Move → List (Option ℕ) → List (Option ℕ)
+moved (Set leaf at) times = slice_set times leaf (Some at)
+moved (Clear leaf) times = slice_set times leaf None
+moved (TakeAll at) times = without at times
+
+-- the leaves that a move takes
+abbrev pub taken_by : Move → List (Option ℕ) → List ℕ
+taken_by (Set leaf at) times = []
+taken_by (Clear leaf) times = []
+taken_by (TakeAll at) times = leaves_at at times
+
+-- the times after all moves
+abbrev pub after : List Move → List (Option ℕ) → List (Option ℕ)
+after [] times = times
+after (m ∷ ms) times = after ms (moved m times)
+
+-- what each move takes, and the least time after it
+abbrev pub replies_of : List Move → List (Option ℕ) → List (List ℕ × Option ℕ)
+replies_of [] times = []
+replies_of (m ∷ ms) times = (taken_by m times, least_of (moved m times)) ∷ replies_of ms (moved m times)
