@@ -1,0 +1,42 @@
+-- The pairs of a time and a value that a cpu keeps, as words of its state.
+use Rattle.std.specs.Prelude.{◌≡◌, ℕ, ◌<◌, length, true, false, ◌&&◌, Option, Some, None, List, ◌∷◌, map, ℤ, pos, int_le}
+use Rattle.std.specs.declared.result.Result.{Result}
+use Rattle.std.specs.declared.result.Result.TheVariants.{Ok, Err}
+use Rattle.std.specs.declared.vec.Vec.{Vec}
+use Rattle.quantity.specs.declared.value.Value.{Value as AnyValue}
+use Rattle.atomic_face.specs.declared.params.RestoreRefusal.{RestoreRefusal}
+use Rattle.atomic_face.specs.declared.params.RestoreRefusal.TheVariants.{BadState, Memory}
+use Rattle.atomic_face.specs.Words.{word_of}
+use Rattle.atomic_face.specs.BoxStates.{are_pairs, is_time_word, is_value_word}
+use Rattle.atomic_face.specs.Classes.{Bag, cpu_words, outputs, pairs_at, values_in}
+
+abbrev pub word_pairs : List (ℕ × AnyValue) → List (ℤ × ℤ)
+word_pairs ps = map (λ (p : ℕ × AnyValue). (pos p.0, word_of p.1)) ps
+
+abbrev pub pair_words : List (ℕ × AnyValue) → List ℤ
+pair_words ps = cpu_words (word_pairs ps)
+
+-- what the pairs of this time give
+abbrev pub given_at : ℕ → List (ℕ × AnyValue) → Bag
+given_at t ps = outputs (values_in (pairs_at true (Some t) (word_pairs ps)))
+
+-- what two words after a time are read as: a pair of these words, where it is no earlier
+abbrev pub ReadsPair : ℕ → ℤ → ℤ → Option (ℕ × AnyValue) → Type 0
+ReadsPair before t v (Some p) =
+    (is_time_word t && int_le (pos before) t && is_value_word v ≡ true) × (pos p.0 ≡ t) × (word_of p.1 ≡ v)
+ReadsPair before t v None = is_time_word t && int_le (pos before) t && is_value_word v ≡ false
+
+-- words that begin with this pair, and go on with these
+abbrev pub HasPair : ℕ → List ℤ → ℕ × AnyValue → List ℤ → Type 0
+HasPair before words p others =
+    (words ≡ pos p.0 ∷ word_of p.1 ∷ others) × (are_pairs (pos before) words ≡ are_pairs (pos p.0) others)
+
+-- words that begin with no such pair are none unless there are none
+abbrev pub LacksPair : ℕ → List ℤ → Type 0
+LacksPair before words = 0 < length words → are_pairs (pos before) words ≡ false
+
+-- the pairs that words are read as, where they are pairs by rising time
+abbrev pub ReadsPairs : {Z : Type 0} → List ℤ → Result (Vec (ℕ × AnyValue) Z) RestoreRefusal → Type 0
+ReadsPairs words (Ok pairs) = (are_pairs (pos 0) words ≡ true) × (pair_words pairs.items ≡ words)
+ReadsPairs words (Err BadState) = are_pairs (pos 0) words ≡ false
+ReadsPairs words (Err Memory) = Unit {0}

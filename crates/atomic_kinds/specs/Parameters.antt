@@ -1,0 +1,19 @@
+-- Parameters by the forms of their values.
+use Rattle.std.specs.Prelude.{ℕ, min, Option, Some, None, ℤ}
+use Rattle.quantity.specs.Bytes.{Bytes}
+use Rattle.atomic_face.specs.Settings.{time_word, period_word, value_word, count_word}
+use Rattle.atomic_kinds.specs.declared.parameters.Form.{Form}
+use Rattle.atomic_kinds.specs.declared.parameters.Form.TheVariants.{Time, Period, Value, Count}
+
+-- the number that a text of this form gives
+abbrev pub word_in : Form → Bytes → Option ℤ
+word_in Time = time_word
+word_in Period = period_word
+word_in Value = value_word
+word_in Count = count_word
+
+-- the lesser of two lines, where there are such
+abbrev pub least_of : Option ℕ → Option ℕ → Option ℕ
+least_of None b = b
+least_of (Some a) None = Some a
+least_of (Some a) (Some b) = Some (min a b)
