@@ -1,0 +1,60 @@
+-- Takes, parameter by parameter.
+use Rattle.std.proofs.Common.{◌≡◌, ℕ, Option, None, List, [], ◌∷◌, ◌++◌, refl, sym, ap, ◌∙◌, append_assoc}
+use Rattle.std.specs.Prelude.{ℤ, codes}
+use Rattle.std.proofs.lemmas.List.{append-nil}
+use Rattle.std.proofs.lemmas.List.Concat.{flat_map-append}
+use Rattle.std.proofs.lemmas.List.Elements.{filter-append, filter_map-append}
+use Rattle.std.specs.List.{filter_map, flat_map}
+use Rattle.std.specs.Option.{option_to_list, is_some}
+use Rattle.std.specs.Str.{bytes_eq}
+use Rattle.quantity.specs.Bytes.{Bytes}
+use Rattle.atomic_face.specs.declared.params.Param.{Param}
+use Rattle.atomic_face.specs.Settings.{least_line}
+use Rattle.atomic_face.specs.TableSettings.{line_unless, take_in, with_key}
+use Rattle.state_tables.specs.declared.settings.Take.{Take}
+use Rattle.state_tables.specs.Settings.{take_words}
+use Rattle.state_tables.specs.Reading.{least_of}
+use Rattle.state_tables.proofs.Lines.{least_of-none, line_step}
+
+abbrev pub take_numbers : List Bytes → List Param → List ℤ
+take_numbers names es = flat_map (λ (ws : List ℤ). ws) (filter_map (take_in names) (with_key (codes "take") es))
+
+abbrev pub take_lines : List Bytes → List Param → List ℕ
+take_lines names es = flat_map (λ (e : Param). line_unless (is_some (take_in names e)) e) (with_key (codes "take") es)
+
+key_step : (key : Bytes) (e : Param) (rest : List Param) → with_key key (e ∷ rest) ≡ with_key key (e ∷ []) ++ with_key key rest
+key_step key e rest = filter-append (λ (e : Param). bytes_eq e.key key) (e ∷ []) rest
+
+numbers_step : (names : List Bytes) (e : Param) (rest : List Param) → take_numbers names (e ∷ rest) ≡ take_numbers names (e ∷ []) ++ take_numbers names rest
+numbers_step names e rest =
+    ap (λ es. flat_map (λ (ws : List ℤ). ws) (filter_map (take_in names) es)) (key_step (codes "take") e rest)
+    ∙ ap (flat_map (λ (ws : List ℤ). ws)) (filter_map-append (take_in names) (with_key (codes "take") (e ∷ [])) (with_key (codes "take") rest))
+    ∙ flat_map-append (λ (ws : List ℤ). ws) (filter_map (take_in names) (with_key (codes "take") (e ∷ []))) (filter_map (take_in names) (with_key (codes "take") rest))
+
+lines_step : (names : List Bytes) (e : Param) (rest : List Param) → take_lines names (e ∷ rest) ≡ take_lines names (e ∷ []) ++ take_lines names rest
+lines_step names e rest =
+    ap (flat_map (λ (e : Param). line_unless (is_some (take_in names e)) e)) (key_step (codes "take") e rest)
+    ∙ flat_map-append (λ (e : Param). line_unless (is_some (take_in names e)) e) (with_key (codes "take") (e ∷ [])) (with_key (codes "take") rest)
+
+-- the takes of the parameters before the rest are read
+pub record SoFar (names : List Bytes) (es rest : List Param) (takes : List Take) (first : Option ℕ) : Type 0 where
+  pub numbers : flat_map take_words takes ++ take_numbers names rest ≡ take_numbers names es
+  pub line : least_of first (least_line (take_lines names rest)) ≡ least_line (take_lines names es)
+
+pub so_far-none : (names : List Bytes) (es : List Param) → SoFar names es es [] None
+so_far-none names es = record { numbers = refl; line = refl }
+
+pub so_far-step : (names : List Bytes) (es : List Param) (e : Param) (rest : List Param) (takes later : List Take) (first now : Option ℕ) → SoFar names es (e ∷ rest) takes first
+    → flat_map take_words later ≡ flat_map take_words takes ++ take_numbers names (e ∷ [])
+    → option_to_list now ≡ take_lines names (e ∷ [])
+    → SoFar names es rest later (least_of first now)
+so_far-step names es e rest takes later first now s numbers line = record {
+  numbers = ap (λ ws. ws ++ take_numbers names rest) numbers ∙ append_assoc (flat_map take_words takes) (take_numbers names (e ∷ [])) (take_numbers names rest) ∙ ap (λ ws. flat_map take_words takes ++ ws) (sym (numbers_step names e rest)) ∙ s.numbers;
+  line = line_step first now (take_lines names (e ∷ [])) (take_lines names rest) (least_line (take_lines names es)) line (ap (λ ns. least_of first (least_line ns)) (sym (lines_step names e rest)) ∙ s.line);
+}
+
+pub so_far-numbers : (names : List Bytes) (es : List Param) (takes : List Take) (first : Option ℕ) → SoFar names es [] takes first → flat_map take_words takes ≡ take_numbers names es
+so_far-numbers names es takes first s = sym (append-nil (flat_map take_words takes)) ∙ s.numbers
+
+pub so_far-line : (names : List Bytes) (es : List Param) (takes : List Take) (first : Option ℕ) → SoFar names es [] takes first → first ≡ least_line (take_lines names es)
+so_far-line names es takes first s = sym (least_of-none first) ∙ s.line

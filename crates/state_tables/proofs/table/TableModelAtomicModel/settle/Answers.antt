@@ -1,0 +1,8 @@
+use Rattle.std.proofs.Common.{ap, ◌∙◌}
+use Rattle.atomic_face.specs.declared.class.Class.TheVariants.{Table}
+use Rattle.atomic_face.specs.Moves.{started}
+use Rattle.state_tables.proofs.table.TableModelAtomicModel.settle.Goals as goal
+
+pub returns : goal.returns
+returns c =
+    (rw c.deref.ensures.value at c.in_ok-read_settings.ensures.right, c.with-fresh.ensures ∙ ap (started Table) (rw c.deref.ensures.value at c.in_ok-read_settings.ensures.settings))

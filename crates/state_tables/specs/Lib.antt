@@ -1,0 +1,6 @@
+pub mod Settings
+pub mod Reading
+pub mod Words
+pub mod Holds
+pub mod Moves
+pub mod Table

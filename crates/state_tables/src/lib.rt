@@ -1,0 +1,14 @@
+//! State tables: atomic models whose states and moves stand in the model file.
+#![tactic(auto)]
+
+mod moves;
+mod read;
+pub mod settings;
+mod table;
+mod words;
+
+pub use settings::{Hold, Shown, TableSettings, Take, Wanted};
+pub use table::TableModel;
+
+#[cfg(test)]
+mod tests;

@@ -1,0 +1,118 @@
+// Values and times, and the numbers that stand for them in a state.
+ghost use Rattle.std.specs.Prelude.{◌≡◌, ◌≤◌, ◌^◌, ◌++◌, [], ◌∷◌, pos, unsigned_abs, OnOk, OnErr};
+ghost use Rattle.atomic_face.specs.Words.{word_of, value_in};
+ghost use Rattle.atomic_face.specs.BoxStates.{is_due, is_time_word, is_value_word};
+ghost use Rattle.atomic_face.specs.Classes.{is_at, outputs};
+ghost use Rattle.state_tables.specs.Words.{word_or_none, Reads};
+
+use atomic_face::PortNo;
+use quantity::{OutOfMemory, Raw, Time, Value};
+use std::alloc::AllocError;
+
+/// The number of `?`.
+const UNDEFINED: i64 = 10_000_000_000_000_000;
+
+/// The number of no time.
+const NONE: i64 = -1;
+
+/// So many milliseconds.
+pub(crate) fn time(ms: u32) -> Time
+    requires { ms ≤ 719999998 }
+    ensures { result ≡ ms }
+{
+    match Time::new(ms) {
+        Some(time) => time,
+        None => unreachable!(),
+    }
+}
+
+/// So many hundred-thousandths.
+pub(crate) fn number(raw: i64) -> Value
+    requires { unsigned_abs raw ≤ 10 ^ 15 }
+    ensures { result ≡ Value.Num raw }
+{
+    match Raw::new(raw) {
+        Some(raw) => Value::Num(raw),
+        None => unreachable!(),
+    }
+}
+
+pub(crate) fn value_word(value: Value) -> i64
+    ensures value { result ≡ word_of value }
+    ensures bounded { unsigned_abs result ≤ 10 ^ 16 }
+{
+    match value {
+        Value::Undefined => UNDEFINED,
+        Value::Num(raw) => raw.get(),
+    }
+}
+
+/// The value of this number; None where it is the number of none.
+pub(crate) fn value_of(word: i64) -> Option<Value>
+    ensures { Reads is_value_word word_of word result }
+{
+    if word == UNDEFINED {
+        return Some(Value::Undefined);
+    }
+    match Raw::new(word) {
+        Some(raw) => Some(Value::Num(raw)),
+        None => None,
+    }
+}
+
+pub(crate) fn time_word(time: Option<Time>) -> i64
+    ensures { result ≡ word_or_none time }
+{
+    match time {
+        Some(time) => i64::from(time.ms()),
+        None => NONE,
+    }
+}
+
+/// The time of this number; None where it is the number of none.
+fn time_of(word: i64) -> Option<Time>
+    ensures { Reads is_time_word (λ t. pos t) word result }
+{
+    Time::new(u32::try_from(word).ok()?)
+}
+
+/// The time of this number where one is wanted, and else that there is none; None for other numbers.
+pub(crate) fn due_if(wanted: bool, word: i64) -> Option<Option<Time>>
+    ensures { Reads (is_due wanted) word_or_none word result }
+{
+    if !wanted {
+        return if word == NONE { Some(None) } else { None };
+    }
+    match time_of(word) {
+        Some(time) => Some(Some(time)),
+        None => None,
+    }
+}
+
+/// Whether this is the time that is due.
+pub(crate) fn is_at(now: Time, due: Option<Time>) -> bool
+    ensures { result ≡ is_at now due }
+{
+    match due {
+        Some(time) => time.ms() == now.ms(),
+        None => false,
+    }
+}
+
+/// Appends a value at the port `out`. A refusal leaves `into` as it was.
+pub(crate) fn give(value: &Value, into: &mut Vec<(PortNo, Value)>) -> Result<(), OutOfMemory>
+    ensures ok { OnOk result (into.new.items ≡ into.old.items ++ outputs (value.now ∷ [])) }
+    ensures err { OnErr result (into.new.items ≡ into.old.items) }
+{
+    into.push((PortNo(0), *value)).map_err(AllocError::from)?;
+    Ok(())
+}
+
+/// Appends these numbers. A refusal leaves `into` as it was.
+pub(crate) fn put(words: &[i64], into: &mut Vec<i64>) -> Result<(), OutOfMemory>
+    ensures ok { OnOk result (into.new.items ≡ into.old.items ++ words.now) }
+    ensures err { OnErr result (into.new.items ≡ into.old.items) }
+{
+    into.extend_from_slice(words)?;
+    Ok(())
+}
