@@ -20,7 +20,7 @@ both_false : (a b : Bool) → (a || b) ≡ false → (a ≡ false) × (b ≡ fal
 both_false true b e = cc
 both_false false b e = (refl, e)
 
-one_more : (c : ℕ) (xs : Bytes) (k : ℕ) → take (1 + k) (c ∷ xs) ≡ c ∷ take k xs
+pub one_more : (c : ℕ) (xs : Bytes) (k : ℕ) → take (1 + k) (c ∷ xs) ≡ c ∷ take k xs
 one_more c xs k = ap (λ n. take n (c ∷ xs)) (let same : 1 + k ≡ suc k = omega arith in same)
 
 pub drops_comments : DropsComments

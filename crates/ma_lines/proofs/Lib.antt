@@ -1,1 +1,10 @@
+mod FoldedFiles
+mod HeadingNames
+mod ByName
 mod Dropped
+mod Letters
+mod LineByLine
+mod Numbered
+mod OuterBlanks
+mod Steps
+mod Unnumbered

@@ -1,9 +1,14 @@
 -- Sections stand on the texts of lines alone, and comments and carriage returns are no part of these.
-use Rattle.std.specs.Prelude.{◌≡◌, false, [], ◌∷◌, ◌++◌}
+use Rattle.std.specs.Prelude.{◌≡◌, ℕ, true, false, List, [], ◌∷◌, ◌++◌, map}
 use Rattle.std.specs.List.{list_any}
-use Rattle.quantity.specs.Bytes.{Bytes, is_byte}
-use Rattle.source_text.specs.Lines.{lines_of, without_return, without_comment}
-use Rattle.ma_lines.specs.Sections.{sections_of}
+use Rattle.std.specs.declared.result.Result.{Result}
+use Rattle.std.specs.declared.result.Result.TheVariants.{Ok, Err}
+use Rattle.quantity.specs.Bytes.{Bytes, is_blank, is_byte}
+use Rattle.source_text.specs.Lines.{folded, lines_of, text_of_line, without_return, without_comment}
+use Rattle.ma_lines.specs.declared.section.Entry.{Entry}
+use Rattle.ma_lines.specs.declared.section.LineRefusal.{LineRefusal}
+use Rattle.ma_lines.specs.declared.section.LineRefusal.TheVariants.{BadLine, DuplicateSection, Memory}
+use Rattle.ma_lines.specs.Sections.{Section, sections_of}
 
 -- files with the same lines have the same sections
 abbrev pub StandsOnLines : Type 0
@@ -16,3 +21,55 @@ DropsReturns = (line : Bytes) → without_return (line ++ 13 ∷ []) ≡ line
 -- what stands behind the first % is dropped, whatever it is
 abbrev pub DropsComments : Type 0
 DropsComments = (line more : Bytes) → list_any (is_byte 37) line ≡ false → without_comment (line ++ 37 ∷ more) ≡ line
+
+-- ---- but for the numbers of lines
+
+abbrev pub unnumbered_entry : Entry → Entry
+unnumbered_entry e = record { line = 0; key = e.key; value = e.value }
+
+abbrev pub unnumbered_section : Section → Section
+unnumbered_section s = record { line = 0; name = s.name; entries = map unnumbered_entry s.entries }
+
+abbrev pub unnumbered_refusal : LineRefusal → LineRefusal
+unnumbered_refusal (BadLine line) = BadLine 0
+unnumbered_refusal (DuplicateSection line) = DuplicateSection 0
+unnumbered_refusal Memory = Memory
+
+abbrev pub unnumbered : Result (List Section) LineRefusal → Result (List Section) LineRefusal
+unnumbered (Ok ss) = Ok (map unnumbered_section ss)
+unnumbered (Err why) = Err (unnumbered_refusal why)
+
+-- a line that is empty, or has only a comment, changes nothing but the numbers of the lines behind it
+pub record SkipsEmptyLines : Type 0 where
+  pub between : (before line after : Bytes) → list_any (is_byte 10) line ≡ false → text_of_line line ≡ []
+      → unnumbered (sections_of (before ++ 10 ∷ (line ++ 10 ∷ after))) ≡ unnumbered (sections_of (before ++ 10 ∷ after))
+  pub above : (line after : Bytes) → list_any (is_byte 10) line ≡ false → text_of_line line ≡ []
+      → unnumbered (sections_of (line ++ 10 ∷ after)) ≡ unnumbered (sections_of after)
+
+-- ---- letters
+
+abbrev pub folded_entry : Entry → Entry
+folded_entry e = record { line = e.line; key = e.key; value = folded e.value }
+
+abbrev pub folded_section : Section → Section
+folded_section s = record { line = s.line; name = s.name; entries = map folded_entry s.entries }
+
+abbrev pub with_folded_values : Result (List Section) LineRefusal → Result (List Section) LineRefusal
+with_folded_values (Ok ss) = Ok (map folded_section ss)
+with_folded_values (Err why) = Err why
+
+-- in lower-case letters a file has the same sections, but for the letters of the values that keep theirs
+abbrev pub FoldsLetters : Type 0
+FoldsLetters = (bytes : Bytes) → sections_of (folded bytes) ≡ with_folded_values (sections_of bytes)
+
+-- ---- texts of lines, and blanks
+
+-- lines with one text stand for one another
+abbrev pub StandsOnTexts : Type 0
+StandsOnTexts = (before line other after : Bytes) → list_any (is_byte 10) line ≡ false → list_any (is_byte 10) other ≡ false → text_of_line line ≡ text_of_line other
+    → sections_of (before ++ 10 ∷ (line ++ 10 ∷ after)) ≡ sections_of (before ++ 10 ∷ (other ++ 10 ∷ after))
+
+-- a blank in front of a line is no part of its text, nor one behind a line without a carriage return at its end
+pub record DropsOuterBlanks : Type 0 where
+  pub in_front : (c : ℕ) (line : Bytes) → is_blank c ≡ true → text_of_line (c ∷ line) ≡ text_of_line line
+  pub behind : (c : ℕ) (line : Bytes) → is_blank c ≡ true → without_return line ≡ line → text_of_line (line ++ c ∷ []) ≡ text_of_line line

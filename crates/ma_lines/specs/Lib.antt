@@ -1,4 +1,6 @@
 pub mod Entries
 pub mod Sections
+pub mod Reading
+pub mod Reader
 pub mod Examples
 pub mod Laws

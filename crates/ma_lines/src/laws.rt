@@ -1,5 +1,5 @@
 // Calls that name the definitions.
-ghost use Rattle.ma_lines.specs.Laws.{StandsOnLines, DropsReturns, DropsComments};
+ghost use Rattle.ma_lines.specs.Laws.{StandsOnLines, StandsOnTexts, DropsReturns, DropsComments, DropsOuterBlanks, FoldsLetters, SkipsEmptyLines};
 ghost use Rattle.ma_lines.specs.Examples.{SectionsAreRead, LinesAreRefused};
 
 /// Sections and entries are read as these examples say.
@@ -25,4 +25,24 @@ pub fn returns_are_dropped()
 /// What stands behind the first `%` of a line is dropped.
 pub fn comments_are_dropped()
     ensures { DropsComments }
+{}
+
+/// A line that is empty, or has only a comment, changes nothing but the numbers of the lines behind it.
+pub fn empty_lines_are_skipped()
+    ensures { SkipsEmptyLines }
+{}
+
+/// In lower-case letters a file has the same sections, but for the letters of the values that keep theirs.
+pub fn letters_are_folded()
+    ensures { FoldsLetters }
+{}
+
+/// A line may be replaced by one with the same text.
+pub fn sections_stand_on_texts()
+    ensures { StandsOnTexts }
+{}
+
+/// Blanks at the ends of a line are dropped.
+pub fn outer_blanks_are_dropped()
+    ensures { DropsOuterBlanks }
 {}

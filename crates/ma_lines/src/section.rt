@@ -1,5 +1,6 @@
 // Sections of a model file, and the lines that are refused.
-use quantity::Text;
+use quantity::{OutOfMemory, Text};
+use std::alloc::AllocError;
 
 /// A key with its value, and the number of its first line.
 #[derive(Drop)]
@@ -27,4 +28,26 @@ pub enum LineRefusal {
     DuplicateSection(u32),
     /// There is no memory for the sections.
     Memory,
+}
+
+impl From<AllocError> for LineRefusal {
+    ghost use Rattle.std.specs.Prelude.{◌≡◌};
+    ghost use Rattle.ma_lines.specs.declared.section.LineRefusal.TheVariants.{Memory};
+
+    ghost from_gives = { λ _ refusal. refusal ≡ Memory };
+
+    fn from(_error: AllocError) -> LineRefusal {
+        LineRefusal::Memory
+    }
+}
+
+impl From<OutOfMemory> for LineRefusal {
+    ghost use Rattle.std.specs.Prelude.{◌≡◌};
+    ghost use Rattle.ma_lines.specs.declared.section.LineRefusal.TheVariants.{Memory};
+
+    ghost from_gives = { λ _ refusal. refusal ≡ Memory };
+
+    fn from(_error: OutOfMemory) -> LineRefusal {
+        LineRefusal::Memory
+    }
 }

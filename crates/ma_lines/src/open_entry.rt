@@ -1,0 +1,64 @@
+// An entry whose braces may be open.
+ghost use Rattle.std.specs.Prelude.{◌≡◌, ◌≢◌, ◌+◌, ◌<◌, ◌^◌, false, [], length, OnOk, IfOk};
+ghost use Rattle.quantity.specs.Bytes.{begins_with};
+ghost use Rattle.ma_lines.specs.Reading.{whole, joined, opened_by};
+ghost use Rattle.ma_lines.specs.Reader.{opened_of, line_of};
+
+use crate::parts::{braces_after, keeps_letters, key_in};
+use crate::section::Entry;
+use quantity::digits::cut_at;
+use quantity::{OutOfMemory, Text};
+use source_text::line::trimmed;
+use std::alloc::{AllocError, Global};
+
+/// An entry whose braces may be open, with the letters of its value as they stand in the file.
+#[derive(Drop)]
+pub(crate) struct OpenEntry {
+    pub(crate) line: u32,
+    pub(crate) key: Vec<u8>,
+    pub(crate) value: Vec<u8>,
+    pub(crate) braces: u64,
+}
+
+impl OpenEntry {
+    /// The entry that begins in a line.
+    pub(crate) fn begin(alloc: Global, line: u32, text: &[u8]) -> Result<OpenEntry, OutOfMemory>
+        requires { begins_with 91 text.now ≡ false }
+        ensures { IfOk result (λ entry. opened_of entry ≡ opened_by (line_of line text.now)) }
+    {
+        let (_key, value) = cut_at(b':', text);
+        Ok(OpenEntry {
+            line,
+            key: key_in(alloc, text)?,
+            value: Vec::from_slice(alloc, trimmed(value))?,
+            braces: braces_after(0, value),
+        })
+    }
+
+    /// Joins a line with one space.
+    pub(crate) fn join(&mut self, text: &[u8]) -> Result<(), OutOfMemory>
+        requires filled { text.now ≢ [] }
+        requires few { self.old.braces + length text.now < 2 ^ 64 }
+        ensures { OnOk result (opened_of self.new ≡ joined (opened_of self.old) text.now) }
+    {
+        self.value.push(b' ').map_err(AllocError::from)?;
+        self.value.extend_from_slice(text)?;
+        self.braces = braces_after(self.braces, text);
+        Ok(())
+    }
+
+    /// The entry as it is kept.
+    pub(crate) fn finish(self, alloc: Global) -> Result<Entry, OutOfMemory>
+        ensures { IfOk result (λ entry. entry ≡ whole (opened_of self)) }
+    {
+        let mut value = self.value;
+        if !keeps_letters(self.key.as_slice()) {
+            value.as_mut_slice().make_ascii_lowercase();
+        }
+        Ok(Entry {
+            line: self.line,
+            key: Text::copy(alloc, self.key.as_slice())?,
+            value: Text::copy(alloc, value.as_slice())?,
+        })
+    }
+}

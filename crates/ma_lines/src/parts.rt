@@ -1,0 +1,134 @@
+// The parts of a line: a name between brackets, a key and its braces.
+ghost use Rattle.std.specs.Prelude.{◌≡◌, ◌+◌, ◌<◌, ◌≤◌, ◌^◌, ◌&&◌, not, length, IfOk};
+ghost use Rattle.std.specs.List.{list_any, list_all, before_first};
+ghost use Rattle.std.specs.Option.{option_map, option_copied};
+ghost use Rattle.quantity.specs.Bytes.{is_empty, is_byte, begins_with, trimmed, inside, open_after};
+ghost use Rattle.source_text.specs.Lines.{folded};
+ghost use Rattle.ma_lines.specs.Entries.{braces_after, keeps_letters, key_in};
+ghost use Rattle.ma_lines.specs.Sections.{is_allowed, has_brackets, name_in};
+
+use quantity::digits::cut_at;
+use source_text::line::trimmed;
+use std::alloc::{AllocError, Global};
+
+/// Whether each byte may stand outside comments.
+pub(crate) fn all_are_allowed(text: &[u8]) -> bool
+    ensures { result ≡ list_all is_allowed text.now }
+{
+    text.iter().all(|c| is_allowed(*c))
+}
+
+fn is_allowed(byte: u8) -> bool
+    ensures { result ≡ is_allowed byte }
+{
+    byte == b'\t' || (b' ' <= byte && byte <= b'~')
+}
+
+/// Whether a section begins in this line.
+pub(crate) fn is_heading(text: &[u8]) -> bool
+    ensures { result ≡ begins_with 91 text.now }
+{
+    match text {
+        [b'[', ..] => true,
+        _ => false,
+    }
+}
+
+/// The name of the section that a line begins: none where no name stands between brackets.
+pub(crate) fn section_name(alloc: Global, text: &[u8]) -> Result<Option<Vec<u8>>, AllocError>
+    ensures { IfOk result (λ name. option_map (λ v. v.items) name ≡ name_in (inside 91 93 text.now)) }
+{
+    let Some(inner) = in_brackets(text) else {
+        return Ok(None);
+    };
+    let name = trimmed(inner);
+    if has_brackets(inner) || name.is_empty() {
+        return Ok(None);
+    }
+    Ok(Some(folded(alloc, name)?))
+}
+
+fn in_brackets(text: &[u8]) -> Option<&[u8]>
+    ensures { option_copied result ≡ inside 91 93 text.now }
+{
+    let (first, rest) = text.split_first()?;
+    let (last, inner) = rest.split_last()?;
+    if *first == b'[' && *last == b']' {
+        Some(inner)
+    } else {
+        None
+    }
+}
+
+fn has_brackets(text: &[u8]) -> bool
+    ensures { result ≡ has_brackets text.now }
+{
+    text.iter().any(|c| *c == b'[' || *c == b']')
+}
+
+/// Whether a key stands before a colon.
+pub(crate) fn is_entry(text: &[u8]) -> bool
+    ensures { result ≡ (list_any (is_byte 58) text.now && not (is_empty (key_in text.now))) }
+{
+    has_colon(text) && !key_text(text).is_empty()
+}
+
+fn has_colon(text: &[u8]) -> bool
+    ensures { result ≡ list_any (is_byte 58) text.now }
+{
+    text.iter().any(|c| b':' == *c)
+}
+
+/// The text before the first colon, without outer blanks.
+fn key_text(text: &[u8]) -> &[u8]
+    ensures { result.now ≡ trimmed (before_first (is_byte 58) text.now) }
+{
+    let (before, _value) = cut_at(b':', text);
+    trimmed(before)
+}
+
+/// The key that stands before the first colon.
+pub(crate) fn key_in(alloc: Global, text: &[u8]) -> Result<Vec<u8>, AllocError>
+    ensures { IfOk result (λ key. key.items ≡ key_in text.now) }
+{
+    folded(alloc, key_text(text))
+}
+
+/// Whether the values of this key keep their letters.
+pub(crate) fn keeps_letters(key: &[u8]) -> bool
+    ensures { result ≡ keeps_letters key.now }
+{
+    key == b"initialcellsvalue".as_slice() || key == b"initialmapvalue".as_slice()
+}
+
+/// The text in lower-case letters.
+fn folded(alloc: Global, text: &[u8]) -> Result<Vec<u8>, AllocError>
+    ensures { IfOk result (λ letters. letters.items ≡ folded text.now) }
+{
+    text.iter().map(|c| c.to_ascii_lowercase()).collect(alloc)
+}
+
+/// The braces that are open after a text, where so many are open before it.
+pub(crate) fn braces_after(before: u64, text: &[u8]) -> u64
+    requires { before + length text.now < 2 ^ 64 }
+    ensures value { result ≡ braces_after before text.now }
+    ensures bound { result ≤ before + length text.now }
+{
+    let mut braces = before;
+    for byte in text {
+        braces = braces_behind(braces, *byte);
+    }
+    braces
+}
+
+fn braces_behind(before: u64, byte: u8) -> u64
+    requires { before + 1 < 2 ^ 64 }
+    ensures value { result ≡ open_after (is_byte 123) (is_byte 125) before byte }
+    ensures bound { result ≤ before + 1 }
+{
+    match byte {
+        b'{' => before + 1,
+        b'}' => before.saturating_sub(1),
+        _ => before,
+    }
+}
