@@ -1,2 +1,9 @@
 pub mod Code
 pub mod Machine
+pub mod Seen
+pub mod Depth
+pub mod Ran
+pub mod RuleCodes
+pub mod Numbered
+pub mod ByCode
+pub mod Evaluated

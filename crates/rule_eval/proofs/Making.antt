@@ -1,0 +1,99 @@
+-- What rules make by their codes, step by step.
+use Rattle.std.proofs.Common.{◌≡◌, ℕ, ◌+◌, ◌<◌, Option, Some, None, Ok, Err, List, length, map, drop, get_or, set, max, refl, sym, ap, subst, ◌∙◌}
+use Rattle.std.specs.declared.result.Result.{Result}
+use Rattle.std.specs.Prelude.{pos, negsuc, ◌&&◌, ◌==◌, ◌%◌, ◌/◌, nat_le, Bool, true, false, if◌then◌else◌}
+use Rattle.quantity.specs.declared.value.Value.{Value}
+use Rattle.quantity.specs.declared.value.Value.TheVariants.{Undefined, Num}
+use Rattle.rule_syntax.specs.declared.outcome.RuleStop.{RuleStop}
+use Rattle.rule_syntax.specs.Meaning.{Sight}
+use Rattle.rule_syntax.specs.Chosen.{after, delay_of}
+use Rattle.rule_eval.specs.declared.numbered.NumberedCode.{NumberedCode}
+use Rattle.rule_eval.specs.declared.given.Given.{Given}
+use Rattle.rule_eval.specs.Seen.{whole_number_in}
+use Rattle.rule_eval.specs.Depth.{depth_of}
+use Rattle.rule_eval.specs.RuleCodes.{Codes, deepest}
+use Rattle.rule_eval.specs.Numbered.{plain}
+use Rattle.rule_eval.specs.ByCode.{Outcome, number_by_code, truth_by_code, given_by_code, set_by_code, delay_in, made_of, made_by_code, first_by_code, if_holds}
+use Rattle.rule_eval.specs.Evaluated.{Makes, GivesValues, SetsVariables}
+use Rattle.rule_eval.proofs.Stacks.{drop_here}
+
+-- ---- one step of each loop
+
+pub give_here : (gives : List NumberedCode) (i : ℕ) (g : NumberedCode) (s : Sight) (values : List (Option Value)) → i < length gives → g ≡ get_or gives i g
+    → given_by_code (map plain (drop i gives)) s values ≡ after (number_by_code g.code.items s) (λ v. given_by_code (map plain (drop (i + 1) gives)) s (set values g.number (Some v)))
+give_here gives i g s values h is = ap (λ (gs : List NumberedCode). given_by_code (map plain gs) s values) (drop_here gives i g h is)
+
+pub set_here : (sets : List NumberedCode) (i : ℕ) (x : NumberedCode) (s : Sight) → i < length sets → x ≡ get_or sets i x
+    → set_by_code (map plain (drop i sets)) s ≡ after (number_by_code x.code.items s) (λ v. set_by_code (map plain (drop (i + 1) sets)) (record s { variables = set s.variables x.number v }))
+set_here sets i x s h is = ap (λ (xs : List NumberedCode). set_by_code (map plain xs) s) (drop_here sets i x h is)
+
+pub deepest_here : (codes : List NumberedCode) (i : ℕ) (x : NumberedCode) → i < length codes → x ≡ get_or codes i x
+    → deepest (map plain (drop i codes)) ≡ max (depth_of x.code.items) (deepest (map plain (drop (i + 1) codes)))
+deepest_here codes i x h is = ap (λ (xs : List NumberedCode). deepest (map plain xs)) (drop_here codes i x h is)
+
+pub first_here : (rules : List Codes) (i : ℕ) (r : Codes) (s : Sight) → i < length rules → r ≡ get_or rules i r
+    → first_by_code (drop i rules) s ≡ after (truth_by_code r.condition s) (λ t. if_holds t (made_by_code r s) (first_by_code (drop (i + 1) rules) s))
+first_here rules i r s h is = ap (λ (rs : List Codes). first_by_code rs s) (drop_here rules i r h is)
+
+-- ---- the parts of what a rule makes
+
+pub made_well : (values : Result (List (Option Value)) RuleStop) (delay : Result Value RuleStop) (variables : Result (List Value) RuleStop) (given : Given) (v : Value) (ms : ℕ) (changed : List Value)
+    → GivesValues values (Ok given) → delay ≡ Ok v → delay_in v ≡ Ok ms → SetsVariables {U = Unit {0}} variables (Ok tt) changed → Makes (made_of values delay variables) (Ok (given, ms)) changed
+made_well values delay variables given v ms changed given_is delay_is ms_is set_is =
+    let step : made_of values delay variables ≡ after values (λ vs. after variables (λ xs. Ok (record { values = vs; delay = ms; variables = xs }))) =
+    ap (λ (d : Result Value RuleStop). made_of values d variables) delay_is
+    ∙ ap (λ (m : Result ℕ RuleStop). after values (λ vs. after m (λ n. after variables (λ xs. Ok (record { values = vs; delay = n; variables = xs }))))) ms_is in
+    let P : Outcome → Type 0 = λ o. Makes o (Ok (given, ms)) changed in
+    subst P (sym step) (both values variables given_is set_is)
+  where
+    both : (a : Result (List (Option Value)) RuleStop) (b : Result (List Value) RuleStop) → GivesValues a (Ok given) → SetsVariables {U = Unit {0}} b (Ok tt) changed
+        → Makes (after a (λ vs. after b (λ xs. Ok (record { values = vs; delay = ms; variables = xs })))) (Ok (given, ms)) changed
+    both (Ok vs) (Ok xs) p q = record { values = p; delay = refl; variables = q }
+    both (Ok vs) (Err e) p q = absurd q
+    both (Err e) b p q = absurd p
+
+pub stopped_by_a_value : (values : Result (List (Option Value)) RuleStop) (delay : Result Value RuleStop) (variables : Result (List Value) RuleStop) (stop : RuleStop) (changed : List Value)
+    → GivesValues values (Err stop) → Makes (made_of values delay variables) (Err stop) changed
+stopped_by_a_value (Ok vs) delay variables stop changed p = absurd p
+stopped_by_a_value (Err e) delay variables stop changed p = p
+
+pub stopped_by_the_delay : (values : Result (List (Option Value)) RuleStop) (delay : Result Value RuleStop) (variables : Result (List Value) RuleStop) (given : Given) (stop : RuleStop) (changed : List Value)
+    → GivesValues values (Ok given) → delay ≡ Err stop → Makes (made_of values delay variables) (Err stop) changed
+stopped_by_the_delay (Ok vs) delay variables given stop changed p is =
+    let P : Result Value RuleStop → Type 0 = λ d. Makes (made_of (Ok vs) d variables) (Err stop) changed in subst P (sym is) refl
+stopped_by_the_delay (Err e) delay variables given stop changed p is = absurd p
+
+pub stopped_by_a_bad_delay : (values : Result (List (Option Value)) RuleStop) (delay : Result Value RuleStop) (variables : Result (List Value) RuleStop) (given : Given) (v : Value) (stop : RuleStop) (changed : List Value)
+    → GivesValues values (Ok given) → delay ≡ Ok v → delay_in v ≡ Err stop → Makes (made_of values delay variables) (Err stop) changed
+stopped_by_a_bad_delay (Ok vs) delay variables given v stop changed p is bad =
+    let P : Result Value RuleStop → Type 0 = λ d. Makes (made_of (Ok vs) d variables) (Err stop) changed in
+    let Q : Result ℕ RuleStop → Type 0 = λ m. Makes (after m (λ n. after variables (λ xs. Ok (record { values = vs; delay = n; variables = xs })))) (Err stop) changed in
+    subst P (sym is) (subst Q (sym bad) refl)
+stopped_by_a_bad_delay (Err e) delay variables given v stop changed p is bad = absurd p
+
+pub stopped_by_a_set : (values : Result (List (Option Value)) RuleStop) (delay : Result Value RuleStop) (variables : Result (List Value) RuleStop) (given : Given) (v : Value) (ms : ℕ) (stop : RuleStop) (changed : List Value)
+    → GivesValues values (Ok given) → delay ≡ Ok v → delay_in v ≡ Ok ms → SetsVariables {U = Unit {0}} variables (Err stop) changed → Makes (made_of values delay variables) (Err stop) changed
+stopped_by_a_set (Ok vs) delay variables given v ms stop changed p is good set_is =
+    let P : Result Value RuleStop → Type 0 = λ d. Makes (made_of (Ok vs) d variables) (Err stop) changed in
+    let Q : Result ℕ RuleStop → Type 0 = λ m. Makes (after m (λ n. after variables (λ xs. Ok (record { values = vs; delay = n; variables = xs })))) (Err stop) changed in
+    subst P (sym is) (subst Q (sym good) (at variables set_is))
+  where
+    at : (b : Result (List Value) RuleStop) → SetsVariables {U = Unit {0}} b (Err stop) changed → Makes (after b (λ xs. Ok (record { values = vs; delay = ms; variables = xs }))) (Err stop) changed
+    at (Ok xs) q = absurd q
+    at (Err e) q = q
+stopped_by_a_set (Err e) delay variables given v ms stop changed p is good set_is = absurd p
+
+-- ---- delays
+
+abbrev pub delay_from : Option ℕ → Option ℕ
+delay_from None = None
+delay_from (Some ms) = if nat_le ms 359999999 then Some ms else None
+
+pub delay_is : (v : Value) → delay_of v ≡ delay_from (whole_number_in v)
+delay_is Undefined = refl
+delay_is (Num (pos n)) = at (n % 100000 == 0)
+  where
+    at : (b : Bool) → (if b && nat_le (n / 100000) 359999999 then Some (n / 100000) else None) ≡ delay_from (if b then Some (n / 100000) else None)
+    at true = refl
+    at false = refl
+delay_is (Num (negsuc n)) = refl

@@ -1,0 +1,82 @@
+-- Lists in pieces of one width.
+use Rattle.std.proofs.Common.{◌≡◌, ℕ, ◌+◌, ◌*◌, ◌<◌, ◌≤◌, Bool, cond, List, [], ◌∷◌, ◌++◌, length, add-zero, count_by, get_or, drop, map, sym, ap, ◌∙◌, arith, inl, inr}
+use Rattle.std.specs.Prelude.{slice_get, ℤ}
+use Rattle.std.specs.Option.{unwrap_or}
+use Rattle.std.specs.List.{range_with_len}
+use Rattle.std.proofs.lemmas.List.{get_or-take, get_or-drop, get_or_past, length-take, map-append}
+use Rattle.std.proofs.lemmas.List.Sums.{sum_by-append}
+use Rattle.std.proofs.lemmas.List.FromFn.{get_or-map-range_with_len, length-map-range_with_len, map-range_with_len_more}
+use Rattle.std.proofs.lemmas.Bool.{cases_lt}
+use Rattle.std.proofs.Math.Nat.{mul-le-mul_right}
+use Rattle.std.proofs.lemmas.Option.{unwrap_or-slice_get}
+use Rattle.quantity.specs.declared.value.Value.{Value}
+use Rattle.quantity.specs.declared.value.Value.TheVariants.{Undefined, Num}
+use Rattle.quantity.specs.Arithmetic.{same_value}
+use Rattle.rule_syntax.specs.Meaning.{value_at, how_many, whole, state_count}
+use Rattle.rule_eval.specs.Seen.{piece}
+
+-- the value at a place of a piece
+abbrev pub in_piece : List Value → ℕ → ℕ → ℕ → ℕ → Value
+in_piece values width pieces k p = value_at (unwrap_or (slice_get (map (piece values width) (range_with_len 0 pieces)) k) []) p
+
+piece_of : (values : List Value) (width pieces k : ℕ) → k < pieces → unwrap_or (slice_get (map (piece values width) (range_with_len 0 pieces)) k) [] ≡ piece values width k
+piece_of values width pieces k h =
+    unwrap_or-slice_get (map (piece values width) (range_with_len 0 pieces)) k [] ∙ get_or-map-range_with_len (piece values width) 0 pieces k k [] h (omega arith)
+
+no_piece : (values : List Value) (width pieces k : ℕ) → pieces ≤ k → unwrap_or (slice_get (map (piece values width) (range_with_len 0 pieces)) k) [] ≡ []
+no_piece values width pieces k h =
+    unwrap_or-slice_get (map (piece values width) (range_with_len 0 pieces)) k []
+    ∙ get_or_past (map (piece values width) (range_with_len 0 pieces)) k [] (omega (arith, length-map-range_with_len (piece values width) 0 pieces))
+
+value_at-get : (values : List Value) (k : ℕ) → value_at values k ≡ get_or values k Undefined
+value_at-get values k = unwrap_or-slice_get values k Undefined
+
+in_whole_piece : (values : List Value) (width k p : ℕ) → p < width → value_at (piece values width k) p ≡ value_at values (k * width + p)
+in_whole_piece values width k p h =
+    value_at-get (piece values width k) p ∙ get_or-take width (drop (k * width) values) p Undefined h ∙ get_or-drop (k * width) values p Undefined
+    ∙ sym (value_at-get values (k * width + p))
+
+-- a place within the width
+pub in_piece_within : (values : List Value) (width pieces k p : ℕ) → p < width → length values ≡ pieces * width → value_at values (k * width + p) ≡ in_piece values width pieces k p
+in_piece_within values width pieces k p h whole =
+    elim (cases_lt k pieces) [
+      | inl below ↦ sym (ap (λ (vs : List Value). value_at vs p) (piece_of values width pieces k below) ∙ in_whole_piece values width k p h)
+      | inr above ↦
+          let most = mul-le-mul_right width above in
+          value_at-get values (k * width + p) ∙ get_or_past values (k * width + p) Undefined (omega (arith, most, whole))
+          ∙ sym (ap (λ (vs : List Value). value_at vs p) (no_piece values width pieces k above))
+    ]
+
+-- a place past the width
+pub in_piece_past : (values : List Value) (width pieces k p : ℕ) → width ≤ p → Undefined ≡ in_piece values width pieces k p
+in_piece_past values width pieces k p h =
+    elim (cases_lt k pieces) [
+      | inl below ↦
+          sym (ap (λ (vs : List Value). value_at vs p) (piece_of values width pieces k below) ∙ value_at-get (piece values width k) p
+          ∙ get_or_past (piece values width k) p Undefined (omega (arith, length-take width (drop (k * width) values))))
+      | inr above ↦ sym (ap (λ (vs : List Value). value_at vs p) (no_piece values width pieces k above))
+    ]
+
+-- the first of one more piece is counted too
+pub first_more : (values : List Value) (width k : ℕ) → 0 < width → map (λ vs. value_at vs 0) (map (piece values width) (range_with_len 0 (k + 1))) ≡ map (λ vs. value_at vs 0) (map (piece values width) (range_with_len 0 k)) ++ value_at values (k * width) ∷ []
+first_more values width k h =
+    ap (map (λ vs. value_at vs 0)) (map-range_with_len_more (piece values width) 0 k k (omega arith))
+    ∙ map-append (λ (vs : List Value). value_at vs 0) (map (piece values width) (range_with_len 0 k)) (piece values width k ∷ [])
+    ∙ ap (λ (v : Value). map (λ vs. value_at vs 0) (map (piece values width) (range_with_len 0 k)) ++ v ∷ []) (in_whole_piece values width k 0 h ∙ ap (value_at values) (add-zero (k * width)))
+
+-- one more value is counted where it passes the test
+pub counted_more : (p : Value → Bool) (vs : List Value) (v : Value) → count_by p (vs ++ v ∷ []) ≡ count_by p vs + cond (p v) 1 0
+counted_more p vs v = omega (arith, sum_by-append (λ x. cond (p x) 1 0) vs (v ∷ []))
+
+-- the neighbours that give a value are counted one by one
+pub counts_here : (wanted : Value) (values : List Value) (width k count : ℕ) (b : Bool) → 0 < width
+    → count ≡ how_many wanted (map (λ vs. value_at vs 0) (map (piece values width) (range_with_len 0 k))) → b ≡ same_value wanted (value_at values (k * width))
+    → count + cond b 1 0 ≡ how_many wanted (map (λ vs. value_at vs 0) (map (piece values width) (range_with_len 0 (k + 1))))
+counts_here wanted values width k count b h so_far is =
+    let before = map (λ vs. value_at vs 0) (map (piece values width) (range_with_len 0 k)) in
+    ap (λ n. n + cond b 1 0) so_far ∙ ap (λ t. how_many wanted before + cond t 1 0) is
+    ∙ sym (ap (how_many wanted) (first_more values width k h) ∙ counted_more (same_value wanted) before (value_at values (k * width)))
+
+-- a number's count
+pub counted_number : (v : Value) (x : ℤ) (vs : List Value) → v ≡ Num x → state_count v vs ≡ whole (how_many v vs)
+counted_number v x vs is = ap (λ (w : Value). state_count w vs) is ∙ ap (λ (w : Value). whole (how_many w vs)) (sym is)

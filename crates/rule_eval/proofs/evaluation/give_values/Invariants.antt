@@ -1,0 +1,13 @@
+use Rattle.std.proofs.Common.{◌≡◌, ◌≤◌, map, drop, vec_capacity}
+use Rattle.rule_eval.specs.Seen.{sight_of}
+use Rattle.rule_eval.specs.RuleCodes.{deepest}
+use Rattle.rule_eval.specs.Numbered.{plain}
+use Rattle.rule_eval.specs.ByCode.{given_by_code, no_values}
+use Rattle.rule_eval.proofs.evaluation.give_values.Given as goal
+
+abbrev pub invariant-loop-give : goal.invariant-loop-give
+invariant-loop-give l = record {
+  same : given_by_code (map plain (drop l.give-index l.gives)) (sight_of l.view) l.given.values ≡ given_by_code (map plain l.gives) (sight_of l.view) no_values;
+  room : deepest (map plain (drop l.give-index l.gives)) ≤ vec_capacity l.answers;
+  capacity : vec_capacity l.answers ≡ vec_capacity l.fn.answers;
+}

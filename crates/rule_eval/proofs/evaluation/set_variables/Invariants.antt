@@ -1,0 +1,13 @@
+use Rattle.std.proofs.Common.{◌≡◌, ◌≤◌, map, drop, vec_capacity}
+use Rattle.rule_eval.specs.Seen.{seen}
+use Rattle.rule_eval.specs.RuleCodes.{deepest}
+use Rattle.rule_eval.specs.Numbered.{plain}
+use Rattle.rule_eval.specs.ByCode.{set_by_code}
+use Rattle.rule_eval.proofs.evaluation.set_variables.Given as goal
+
+abbrev pub invariant-loop-set : goal.invariant-loop-set
+invariant-loop-set l = record {
+  same : set_by_code (map plain (drop l.set-index l.sets)) (seen l.view l.changed) ≡ set_by_code (map plain l.sets) (seen l.view l.fn.changed);
+  room : deepest (map plain (drop l.set-index l.sets)) ≤ vec_capacity l.answers;
+  capacity : vec_capacity l.answers ≡ vec_capacity l.fn.answers;
+}

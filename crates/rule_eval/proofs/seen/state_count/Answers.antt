@@ -1,0 +1,9 @@
+use Rattle.std.proofs.Common.{sym, ap, ◌∙◌}
+use Rattle.rule_syntax.specs.Meaning.{whole, outs}
+use Rattle.rule_eval.specs.Seen.{sight_of}
+use Rattle.rule_eval.proofs.Pieces.{counted_number}
+use Rattle.rule_eval.proofs.seen.state_count.Goals as goal
+
+pub returns-in-Num : goal.returns-in-Num
+returns-in-Num c =
+    c.whole.ensures ∙ ap whole c.how_many.ensures.value ∙ sym (counted_number c.args.value c.in-Num.field-0 (outs (sight_of c.args.view.now)) c.in-Num.is)

@@ -1,0 +1,59 @@
+-- What evaluation answers for the rules that codes stand for.
+use Rattle.std.specs.Prelude.{◌≡◌, ℕ, Option, Some, None, ◌==◌, if◌then◌else◌, List, [], ◌∷◌}
+use Rattle.std.specs.declared.result.Result.{Result}
+use Rattle.std.specs.declared.result.Result.TheVariants.{Ok, Err}
+use Rattle.quantity.specs.declared.value.Value.{Value}
+use Rattle.rule_syntax.specs.declared.outcome.RuleStop.{RuleStop}
+use Rattle.rule_syntax.specs.Chosen as rules
+use Rattle.rule_syntax.specs.Chosen.{Chosen}
+use Rattle.rule_eval.specs.ByCode.{Made, Outcome}
+use Rattle.rule_eval.specs.declared.given.Given.{Given}
+
+abbrev pub or_earlier : Option Value → Option Value → Option Value
+or_earlier None earlier = earlier
+or_earlier (Some v) earlier = Some v
+
+-- what is given at a port, if anything is (the ports of a sound rule's gives differ; else the last counts)
+abbrev pub given_at : List (ℕ × Value) → ℕ → Option Value
+given_at [] port = None
+given_at (g ∷ gs) port = or_earlier (given_at gs port) (if g.0 == port then Some g.1 else None)
+
+-- what is given at each port
+abbrev pub by_port : List (ℕ × Value) → List (Option Value)
+by_port gs = given_at gs 0 ∷ given_at gs 1 ∷ given_at gs 2 ∷ given_at gs 3 ∷ []
+
+-- what evaluation answers and leaves, and what the rules give over what the cell sees
+pub record IsGiven (g : rules.Given) (given : Given) (ms : ℕ) (after : List Value) : Type 0 where
+  pub values : given.values ≡ by_port g.values
+  pub delay : ms ≡ g.delay
+  pub variables : after ≡ g.variables
+
+abbrev pub Evaluates : Chosen → Result (Given × ℕ) RuleStop → List Value → Type 0
+Evaluates (Ok g) (Ok r) variables = IsGiven g r.0 r.1 variables
+Evaluates (Ok g) (Err stop) variables = ⊥
+Evaluates (Err why) (Ok r) variables = ⊥
+Evaluates (Err why) (Err stop) variables = stop ≡ why
+
+-- the same of what codes make
+pub record IsMade (m : Made) (given : Given) (ms : ℕ) (after : List Value) : Type 0 where
+  pub values : given.values ≡ m.values
+  pub delay : ms ≡ m.delay
+  pub variables : after ≡ m.variables
+
+abbrev pub Makes : Outcome → Result (Given × ℕ) RuleStop → List Value → Type 0
+Makes (Ok m) (Ok r) variables = IsMade m r.0 r.1 variables
+Makes (Ok m) (Err stop) variables = ⊥
+Makes (Err why) (Ok r) variables = ⊥
+Makes (Err why) (Err stop) variables = stop ≡ why
+
+abbrev pub GivesValues : Result (List (Option Value)) RuleStop → Result Given RuleStop → Type 0
+GivesValues (Ok values) (Ok given) = given.values ≡ values
+GivesValues (Ok values) (Err stop) = ⊥
+GivesValues (Err why) (Ok given) = ⊥
+GivesValues (Err why) (Err stop) = stop ≡ why
+
+abbrev pub SetsVariables : {U : Type 0} → Result (List Value) RuleStop → Result U RuleStop → List Value → Type 0
+SetsVariables (Ok xs) (Ok u) variables = variables ≡ xs
+SetsVariables (Ok xs) (Err stop) variables = ⊥
+SetsVariables (Err why) (Ok u) variables = ⊥
+SetsVariables (Err why) (Err stop) variables = stop ≡ why

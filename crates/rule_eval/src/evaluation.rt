@@ -1,0 +1,182 @@
+// Evaluation of rules on a stack.
+ghost use Rattle.std.specs.Prelude.{◌≡◌, ◌≤◌, List, All, map, length, vec_capacity, slice_set};
+ghost use Rattle.rule_syntax.specs.Expression.{Rule};
+ghost use Rattle.rule_syntax.specs.Chosen.{chosen};
+ghost use Rattle.rule_eval.specs.Seen.{IsView, seen, sight_of};
+ghost use Rattle.rule_eval.specs.Depth.{depth_of};
+ghost use Rattle.rule_eval.specs.RuleCodes.{codes_of, deepest, rule_depth};
+ghost use Rattle.rule_eval.specs.Numbered.{plain};
+ghost use Rattle.rule_eval.specs.ByCode.{no_values, number_by_code, truth_by_code, given_by_code, set_by_code, delay_in, made_by_code, first_by_code};
+ghost use Rattle.rule_eval.specs.Evaluated.{Evaluates, Makes, GivesValues, SetsVariables};
+
+use crate::apply::{number_in, truth_in};
+use crate::code::Op;
+use crate::given::Given;
+use crate::machine::run;
+use crate::numbered::NumberedCode;
+use crate::rule_code::RuleCode;
+use crate::seen::whole_number;
+use crate::stack::Stack;
+use crate::view::View;
+use quantity::{Time, Tri, Value};
+use rule_syntax::{Answer, RuleStop};
+
+/// What the first true rule gives over a view, by port, and its delay; `changed` then holds the variables after
+/// its sets. Without a true rule, where an evaluated part is too large, and where the delay is no whole number of
+/// milliseconds from 0 to 359999999, the stop; nothing is promised then of `changed`. It takes no memory.
+pub fn evaluate(
+    rules: &[RuleCode],
+    view: &View,
+    changed: &mut [Value],
+    stack: &mut Stack,
+) -> Result<(Given, Time), RuleStop>
+    requires view { IsView view.now }
+    requires variables { length changed.old ≡ length view.now.variables.now }
+    requires depth { All (λ rule. rule_depth rule ≤ stack.old) rules.now }
+    // For all rules that the codes stand for.
+    ensures value { (trees : List Rule) → rules.now ≡ map codes_of trees
+        → Evaluates (chosen trees (sight_of view.now)) result changed.new }
+    ensures stack { stack.new ≡ stack.old }
+{
+    first_true(rules, view, changed, &mut stack.answers)
+}
+
+#[tactic(auto, using(crate::proofs::Making::first_here, crate::proofs::Stacks::drop_end))]
+fn first_true(
+    rules: &[RuleCode],
+    view: &View,
+    changed: &mut [Value],
+    answers: &mut Vec<Answer>,
+) -> Result<(Given, Time), RuleStop>
+    requires view { IsView view.now }
+    requires variables { length changed.old ≡ length view.now.variables.now }
+    requires room { All (λ rule. rule_depth rule ≤ vec_capacity answers.old) rules.now }
+    ensures value { Makes (first_by_code rules.now (sight_of view.now)) result changed.new }
+    ensures capacity { vec_capacity answers.new ≡ vec_capacity answers.old }
+{
+    for rule in rules {
+        match condition(rule, view, answers)? {
+            Tri::True => return give(rule, view, changed, answers),
+            Tri::False | Tri::Undef => {}
+        }
+    }
+    Err(RuleStop::NoTrueRule)
+}
+
+fn condition(rule: &RuleCode, view: &View, answers: &mut Vec<Answer>) -> Result<Tri, RuleStop>
+    requires view { IsView view.now }
+    requires room { rule_depth rule.now ≤ vec_capacity answers.old }
+    ensures value { result ≡ truth_by_code rule.now.condition (sight_of view.now) }
+    ensures capacity { vec_capacity answers.new ≡ vec_capacity answers.old }
+{
+    match run(&rule.condition, view, view.variables, answers) {
+        Ok(answer) => Ok(truth_in(answer)),
+        Err(stop) => Err(stop),
+    }
+}
+
+#[tactic(auto, using(crate::proofs::Making::made_well, crate::proofs::Making::stopped_by_a_value, crate::proofs::Making::stopped_by_the_delay, crate::proofs::Making::stopped_by_a_bad_delay, crate::proofs::Making::stopped_by_a_set))]
+fn give(
+    rule: &RuleCode,
+    view: &View,
+    changed: &mut [Value],
+    answers: &mut Vec<Answer>,
+) -> Result<(Given, Time), RuleStop>
+    requires view { IsView view.now }
+    requires variables { length changed.old ≡ length view.now.variables.now }
+    requires room { rule_depth rule.now ≤ vec_capacity answers.old }
+    ensures value { Makes (made_by_code rule.now (sight_of view.now)) result changed.new }
+    ensures capacity { vec_capacity answers.new ≡ vec_capacity answers.old }
+{
+    let given = give_values(&rule.gives, view, answers)?;
+    let delay = number(&rule.delay, view, view.variables, answers)?;
+    let delay = delay_in(&delay)?;
+    changed.copy_from_slice(view.variables);
+    set_variables(&rule.sets, view, changed, answers)?;
+    Ok((given, delay))
+}
+
+#[tactic(auto, using(crate::proofs::Making::give_here, crate::proofs::Making::deepest_here, crate::proofs::Stacks::drop_end))]
+fn give_values(
+    gives: &[NumberedCode],
+    view: &View,
+    answers: &mut Vec<Answer>,
+) -> Result<Given, RuleStop>
+    requires view { IsView view.now }
+    requires room { deepest (map plain gives.now) ≤ vec_capacity answers.old }
+    ensures value { GivesValues (given_by_code (map plain gives.now) (sight_of view.now) no_values) result }
+    ensures capacity { vec_capacity answers.new ≡ vec_capacity answers.old }
+{
+    let mut given = Given { values: [None; 4] };
+    for give in gives {
+        let value = number(&give.code, view, view.variables, answers)?;
+        given.put(give.number, value);
+    }
+    Ok(given)
+}
+
+#[tactic(auto, using(crate::proofs::Making::set_here, crate::proofs::Making::deepest_here, crate::proofs::Stacks::drop_end))]
+fn set_variables(
+    sets: &[NumberedCode],
+    view: &View,
+    changed: &mut [Value],
+    answers: &mut Vec<Answer>,
+) -> Result<(), RuleStop>
+    requires view { IsView view.now }
+    requires room { deepest (map plain sets.now) ≤ vec_capacity answers.old }
+    ensures value { SetsVariables (set_by_code (map plain sets.now) (seen view.now changed.old)) result changed.new }
+    ensures capacity { vec_capacity answers.new ≡ vec_capacity answers.old }
+{
+    for set in sets {
+        let value = number(&set.code, view, changed, answers)?;
+        put(changed, usize::from(set.number), value);
+    }
+    Ok(())
+}
+
+fn put(values: &mut [Value], k: usize, value: Value)
+    ensures { values.new ≡ slice_set values.old k value }
+{
+    if k < values.len() {
+        values[k] = value;
+    }
+}
+
+/// The number that code answers.
+fn number(
+    code: &[Op],
+    view: &View,
+    variables: &[Value],
+    answers: &mut Vec<Answer>,
+) -> Result<Value, RuleStop>
+    requires view { IsView view.now }
+    requires room { depth_of code.now ≤ vec_capacity answers.old }
+    ensures value { result ≡ number_by_code code.now (seen view.now variables.now) }
+    ensures capacity { vec_capacity answers.new ≡ vec_capacity answers.old }
+{
+    match run(code, view, variables, answers) {
+        Ok(answer) => Ok(number_in(answer)),
+        Err(stop) => Err(stop),
+    }
+}
+
+#[tactic(auto, using(crate::proofs::Making::delay_is))]
+/// A delay, if it is a whole number of milliseconds that is not too large.
+fn delay_in(value: &Value) -> Result<Time, RuleStop>
+    ensures { result ≡ delay_in value.now }
+{
+    match whole_number(*value) {
+        Some(ms) if ms <= 359_999_999 => Ok(time(ms)),
+        _ => Err(RuleStop::BadDelay(*value)),
+    }
+}
+
+fn time(ms: u64) -> Time
+    requires { ms ≤ 359999999 }
+    ensures { result ≡ ms }
+{
+    match Time::new(ms as u32) {
+        Some(time) => time,
+        None => unreachable!(),
+    }
+}

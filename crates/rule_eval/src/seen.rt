@@ -1,0 +1,139 @@
+// What a view shows: neighbours, counts and coordinates.
+ghost use Rattle.std.specs.Prelude.{◌≡◌, ◌≤◌, ◌^◌, List, [], slice_get};
+ghost use Rattle.std.specs.Option.{unwrap_or};
+ghost use Rattle.quantity.specs.Arithmetic.{same_value};
+ghost use Rattle.rule_syntax.specs.Meaning.{value_at, whole, outs, how_many, counted, state_count, coordinates, cell_position};
+ghost use Rattle.rule_eval.specs.Seen.{IsView, neighbours_of, seen, sight_of, whole_number_in};
+
+use crate::view::View;
+use quantity::{Place, Raw, Value};
+use rule_syntax::Count;
+
+/// The value that stands at this place, or `?`.
+pub(crate) fn value_at(values: &[Value], k: usize) -> Value
+    ensures { result ≡ value_at values.now k }
+{
+    match values.get(k) {
+        Some(value) => *value,
+        None => Value::Undefined,
+    }
+}
+
+/// A whole number as a value.
+pub(crate) fn whole(n: u64) -> Value
+    requires { n ≤ 10 ^ 10 }
+    ensures { result ≡ whole n }
+{
+    match Raw::new(n as i64 * 100_000) {
+        Some(raw) => Value::Num(raw),
+        None => unreachable!(),
+    }
+}
+
+/// The whole number that a value is, if it is one that isn't negative.
+pub(crate) fn whole_number(value: Value) -> Option<u64>
+    ensures { result ≡ whole_number_in value }
+{
+    let Value::Num(raw) = value else {
+        return None;
+    };
+    let raw = raw.get();
+    if raw < 0 {
+        return None;
+    }
+    let raw = raw.unsigned_abs();
+    if raw % 100_000 == 0 {
+        Some(raw / 100_000)
+    } else {
+        None
+    }
+}
+
+/// What a neighbour gave at a port, or `?` where the view has no such neighbour or port.
+pub(crate) fn neighbour(view: &View, offset: u8, port: u8) -> Value
+    requires { IsView view.now }
+    ensures { result ≡ value_at (unwrap_or (slice_get (neighbours_of view.now) offset) []) port }
+{
+    if port > view.ports {
+        return Value::Undefined;
+    }
+    let width = usize::from(view.ports) + 1;
+    value_at(
+        view.neighbours,
+        usize::from(offset) * width + usize::from(port),
+    )
+}
+
+/// How many neighbours gave this value at their port `out`, where `?` equals `?`.
+fn how_many(wanted: &Value, view: &View) -> u64
+    requires { IsView view.now }
+    ensures value { result ≡ how_many wanted.now (outs (sight_of view.now)) }
+    ensures bounded { result ≤ 128 }
+{
+    let width = usize::from(view.ports) + 1;
+    let offsets = view.neighbours.len() / width;
+    let mut count = 0;
+    for k in 0..offsets {
+        if is_same(wanted, &value_at(view.neighbours, k * width)) {
+            count += 1;
+        }
+    }
+    count
+}
+
+/// Whether the values are the same, where `?` equals `?`.
+fn is_same(a: &Value, b: &Value) -> bool
+    ensures { result ≡ same_value a.now b.now }
+{
+    let Value::Num(x) = a else {
+        return matches!(b, Value::Undefined);
+    };
+    let Value::Num(y) = b else {
+        return false;
+    };
+    x.get() == y.get()
+}
+
+/// The number of neighbours that a word counts.
+pub(crate) fn counted(count: Count, view: &View) -> Value
+    requires { IsView view.now }
+    ensures { result ≡ whole (counted count (outs (sight_of view.now))) }
+{
+    match count {
+        Count::Ones => whole(how_many(&whole(1), view)),
+        Count::Zeros => whole(how_many(&whole(0), view)),
+        Count::Undefs => whole(how_many(&Value::Undefined, view)),
+    }
+}
+
+/// How many neighbours have this value, or `?` where it is `?`.
+pub(crate) fn state_count(value: Value, view: &View) -> Value
+    requires { IsView view.now }
+    ensures { result ≡ state_count value (outs (sight_of view.now)) }
+{
+    match value {
+        Value::Undefined => Value::Undefined,
+        Value::Num(_) => whole(how_many(&value, view)),
+    }
+}
+
+/// The coordinate of this number, or `?` where it is the number of none.
+pub(crate) fn cell_position(value: Value, view: &View) -> Value
+    ensures { (variables : List Value) → result ≡ cell_position value (seen view.now variables) }
+{
+    match whole_number(value) {
+        Some(k) if k < u64::from(view.dims) => whole(u64::from(coordinate(&view.place, k))),
+        _ => Value::Undefined,
+    }
+}
+
+fn coordinate(place: &Place, k: u64) -> u32
+    ensures { result ≡ unwrap_or (slice_get (coordinates place.now) k) 0 }
+{
+    match k {
+        0 => place.row,
+        1 => place.column,
+        2 => place.plane,
+        _ => 0,
+    }
+}
