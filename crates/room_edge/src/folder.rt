@@ -1,5 +1,6 @@
 //! The real folder and streams. Of what they hold it tells nothing.
-ghost use Rattle.std.specs.Prelude.{◌≡◌, ℕ, ◌<◌, ◌≤◌, length, map, is_some, IfSome};
+ghost use Rattle.std.specs.Prelude.{◌≡◌, ℕ, ◌<◌, ◌≤◌, [], ◌∷◌, ◌++◌, length, map, is_some, IfSome, OnOk, OnErr};
+ghost use Rattle.room_edge.specs.Answered.{AnswersAs, bytes_taken};
 ghost use Rattle.room_edge.specs.Fresh.{nothing_told};
 ghost use Rattle.std.specs.String.{string_bytes};
 
@@ -34,6 +35,16 @@ pub struct FolderRoom<R: Files + Print + Eprint + AllocGlobal + Drop> {
     misses: u64,
 }
 
+// How many bytes of a piece the system took: none is a fault, unless there was none to take.
+fn taken(written: io::Result<usize>, bytes: &[u8]) -> Option<usize>
+    ensures { result ≡ bytes_taken written (length bytes.now) }
+{
+    match written {
+        Ok(n) if n > 0 || bytes.is_empty() => Some(n),
+        _ => None,
+    }
+}
+
 // Writes to the newest file of that name, and says how many bytes it took.
 fn append_to<F: Write + Drop>(
     made: &mut Vec<MadeFile<F>>,
@@ -42,27 +53,45 @@ fn append_to<F: Write + Drop>(
 ) -> Option<usize>
     ensures names { map (λ m. string_bytes m.name) made.new.items ≡ map (λ m. string_bytes m.name) made.old.items }
     ensures bound { IfSome result (λ n. n ≤ length bytes.now) }
-    ensures some { IfSome result (λ n. 0 < n) }
+    ensures some { IfSome result (λ n. 0 < length bytes.now → 0 < n) }
 {
     let mut at = made.len();
     while at > 0 {
         at -= 1;
         let entry = &mut made[at];
         if entry.name.as_str() == name {
-            return match entry.file.write(bytes) {
-                Ok(n) if n > 0 => Some(n),
-                _ => None,
-            };
+            return taken(entry.file.write(bytes), bytes);
         }
     }
     None
 }
 
-// Whether the system had no memory for a call, which is no fault of the file.
-fn lacks_memory<F: Drop>(file: &io::Result<F>) -> bool {
+// What the system answered to a name. Want of memory is no fault of the file.
+fn answered<F: Drop>(file: io::Result<F>) -> Result<F, OpenError>
+    ensures { AnswersAs file result }
+{
     match file {
-        Ok(_) => false,
-        Err(error) => error.kind() == ErrorKind::OutOfMemory,
+        Ok(file) => Ok(file),
+        Err(error) => Err(match error.kind() {
+            ErrorKind::NotFound => OpenError::Missing,
+            ErrorKind::OutOfMemory => OpenError::Memory,
+            _ => OpenError::Failed,
+        }),
+    }
+}
+
+// Adds a name to those asked for.
+fn note(alloc: Global, tried: &mut Vec<String>, name: &str) -> Result<(), OpenError>
+    ensures ok { OnOk result (map string_bytes tried.new.items ≡ map string_bytes tried.old.items ++ name.now ∷ []) }
+    ensures memory { OnErr result (result ≡ Err OpenError.Memory) }
+    ensures err { OnErr result (tried.new.items ≡ tried.old.items) }
+{
+    let Ok(copy) = String::from_str(alloc, name) else {
+        return Err(OpenError::Memory);
+    };
+    match tried.push(copy) {
+        Ok(()) => Ok(()),
+        Err(_) => Err(OpenError::Memory),
     }
 }
 
@@ -91,29 +120,23 @@ impl<R: Files + Print + Eprint + AllocGlobal + Drop> Room for FolderRoom<R> {
     ghost outside = { λ r. folder_outside r.read_faults r.write_faults r.complain_faults r.misses r.tried (map (λ m. string_bytes m.name) r.made.items) (is_some r.input) };
 
     fn open_input(&mut self, name: &str) -> Result<(), OpenError> {
-        let file = fs::open(&self.rt, name);
-        if lacks_memory(&file) {
-            return Err(OpenError::Memory);
-        }
-        let Ok(copy) = String::from_str(self.rt.alloc(), name) else {
-            return Err(OpenError::Memory);
-        };
-        let Ok(()) = self.tried.push(copy) else {
-            return Err(OpenError::Memory);
-        };
-        match file {
+        match answered(fs::open(&self.rt, name)) {
             Ok(file) => {
+                note(self.rt.alloc(), &mut self.tried, name)?;
                 self.input = Some(file);
                 Ok(())
             }
-            Err(error) if error.kind() == ErrorKind::NotFound => {
+            Err(OpenError::Missing) => {
+                note(self.rt.alloc(), &mut self.tried, name)?;
                 self.misses = self.misses.saturating_add(1);
                 Err(OpenError::Missing)
             }
-            Err(_) => {
+            Err(OpenError::Failed) => {
+                note(self.rt.alloc(), &mut self.tried, name)?;
                 self.read_faults = self.read_faults.saturating_add(1);
                 Err(OpenError::Failed)
             }
+            Err(OpenError::Memory) => Err(OpenError::Memory),
         }
     }
 
@@ -139,17 +162,16 @@ impl<R: Files + Print + Eprint + AllocGlobal + Drop> Room for FolderRoom<R> {
         if self.made.reserve(1).is_err() {
             return Err(WriteError::Memory);
         }
-        let file = fs::create(&self.rt, name);
-        if lacks_memory(&file) {
-            return Err(WriteError::Memory);
-        }
-        let Ok(file) = file else {
-            self.write_faults = self.write_faults.saturating_add(1);
-            return Err(WriteError::Failed);
-        };
-        match self.made.push(MadeFile { name: copy, file }) {
-            Ok(()) => Ok(()),
-            Err(_) => Err(WriteError::Memory),
+        match answered(fs::create(&self.rt, name)) {
+            Ok(file) => match self.made.push(MadeFile { name: copy, file }) {
+                Ok(()) => Ok(()),
+                Err(_) => Err(WriteError::Memory),
+            },
+            Err(OpenError::Memory) => Err(WriteError::Memory),
+            Err(_) => {
+                self.write_faults = self.write_faults.saturating_add(1);
+                Err(WriteError::Failed)
+            }
         }
     }
 
@@ -169,9 +191,9 @@ impl<R: Files + Print + Eprint + AllocGlobal + Drop> Room for FolderRoom<R> {
 
     #[tactic(auto, unfolding(crate::specs::Outside::streams))]
     fn show(&mut self, bytes: &[u8]) -> Result<usize, WriteError> {
-        match io::writer(&self.rt).write(bytes) {
-            Ok(n) if n > 0 || bytes.is_empty() => Ok(n),
-            _ => {
+        match taken(io::writer(&self.rt).write(bytes), bytes) {
+            Some(n) => Ok(n),
+            None => {
                 self.write_faults = self.write_faults.saturating_add(1);
                 Err(WriteError::Failed)
             }

@@ -3,14 +3,6 @@ use Rattle.std.specs.String.{string_bytes}
 use Rattle.room_edge.proofs.Names.{map-set_same}
 use Rattle.room_edge.proofs.folder.append_to.Goals as goal
 
-pub returns-in-Ok-clause-names : goal.returns-in-Ok-clause-names
-returns-in-Ok-clause-names g c =
-    map-set_same (λ m. string_bytes m.name) c.loop-at.made.items (c.loop-at.at - 1) c.index_mut-entry.result.now _ (omega (arith, c.loop-at.invariant.within, c.loop-at-test.true)) c.index_mut-entry.ensures.value refl ∙ c.loop-at.invariant.names
-
-pub returns-in_default-clause-names : goal.returns-in_default-clause-names
-returns-in_default-clause-names g c =
-    map-set_same (λ m. string_bytes m.name) c.loop-at.made.items (c.loop-at.at - 1) c.index_mut-entry.result.now _ (omega (arith, c.loop-at.invariant.within, c.loop-at-test.true)) c.index_mut-entry.ensures.value refl ∙ c.loop-at.invariant.names
-
-pub returns-in_default-2-clause-names : goal.returns-in_default-2-clause-names
-returns-in_default-2-clause-names g c =
+pub returns-then-eq-clause-names : goal.returns-then-eq-clause-names
+returns-then-eq-clause-names g c =
     map-set_same (λ m. string_bytes m.name) c.loop-at.made.items (c.loop-at.at - 1) c.index_mut-entry.result.now _ (omega (arith, c.loop-at.invariant.within, c.loop-at-test.true)) c.index_mut-entry.ensures.value refl ∙ c.loop-at.invariant.names
