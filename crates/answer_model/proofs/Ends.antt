@@ -1,12 +1,13 @@
 -- Outcomes that are met.
-use Rattle.std.proofs.Common.{◌≡◌, ℕ, zero, suc, Option, Some, None, [], ◌∷◌, refl, sym, ap, ◌∙◌, subst, arith, length, take, drop, codes, Contains}
+use Rattle.std.proofs.Common.{◌≡◌, ℕ, zero, suc, Option, Some, None, [], ◌∷◌, ◌++◌, ◌<◌, refl, sym, ap, ◌∙◌, subst, arith, length, take, drop, codes, Contains}
 use Rattle.std.specs.Fmt.{digits}
 use Rattle.clap.proofs.OnLiterals.{clap_on_literals}
-use Rattle.room_edge.specs.Outside.{streams}
+use Rattle.room_edge.specs.Outside.{Outside, streams}
+use Rattle.text_forms.specs.Lines.{ended}
 use Rattle.run_model.specs.Run.{run, run_from, next_cycle}
 use Rattle.text_forms.specs.Rows.{line_log}
 use Rattle.quantity.specs.Bytes.{Bytes}
-use Rattle.answer_model.specs.Asked.{Asked, file, asked, cdpp_app}
+use Rattle.answer_model.specs.Asked.{Asked, file, asked, cdpp_app, usage}
 use Rattle.answer_model.specs.AskedRows.{words, plain}
 use Rattle.answer_model.specs.Answer.{Files, Answer}
 use Rattle.answer_model.specs.Cdpp.{answer, run_on}
@@ -17,9 +18,9 @@ use Rattle.ma_lines.specs.Sections.{sections_of}
 use Rattle.rule_syntax.specs.Tokens.{tokens}
 use Rattle.rule_syntax.specs.Reading.{written_rule}
 use Rattle.rule_syntax.specs.RuleOf.{rule_of}
-use Rattle.answer_model.specs.Outcome.{Outcome, a_file, as_answered, reading_failed, writing_failed}
+use Rattle.answer_model.specs.Outcome.{Outcome, a_file, the_output, of_answer, as_answered, reading_failed, writing_failed, complaining_failed}
 use Rattle.answer_model.specs.Programs.{CdppEnds, CdppCauses}
-use Rattle.answer_model.specs.OutcomeRows.{before, cut, whole, unread, asks}
+use Rattle.answer_model.specs.OutcomeRows.{before, with_log, cut, not_made, not_shown, no_complaint, whole, unread, asks, asks_no_time}
 
 abbrev answered : Answer
 answered = shows (codes "end 00:00:00:100 cycles 2") ((codes "log.txt", line_log) ∷ []) just_model
@@ -35,28 +36,62 @@ is_asked : asked (words asks) ≡ Some plain_model
 unfolding cdpp_app clap_on_literals asked
 is_asked = refl
 
-abbrev made_part : Files
-made_part = (codes "log.txt", take 199 line_log) ∷ []
-
 abbrev bytes_in : Bytes × Bytes → ℕ
 bytes_in f = length f.1
 
-not_same : (m n : ℕ) → m ≡ 199 → n ≡ 225 → m ≡ n → ⊥
+not_same : (m n : ℕ) → m < 225 → n ≡ 225 → m ≡ n → ⊥
 not_same m n p q e = omega arith
 
-not_whole : ¬ Contains made_part (codes "log.txt", line_log)
-not_whole (zero, lt, e) = not_same (length (take 199 line_log)) (length line_log) refl refl (ap bytes_in e)
-not_whole (suc k, lt, e) = absurd (omega arith)
+-- files with this log alone
+abbrev log_of : Bytes → Files
+log_of part = (codes "log.txt", part) ∷ []
 
-cut_by : Outcome answered before cut 5
+not_whole : (part : Bytes) → length part < 225 → ¬ Contains (log_of part) (codes "log.txt", line_log)
+not_whole part short (zero, lt, e) = not_same (length part) (length line_log) short refl (ap bytes_in e)
+not_whole part short (suc k, lt, e) = absurd (omega arith)
+
+abbrev no_files : Files
+no_files = []
+
+none_is_whole : ¬ Contains no_files (codes "log.txt", line_log)
+none_is_whole (k, lt, e) = absurd (omega arith)
+
+-- a log that holds a beginning of its bytes
+abbrev cut_to : Bytes → Outside
+cut_to part = record (with_log ((codes "log.txt", part) ∷ []) [] (codes "write fault: log.txt\n")) { write_faults = 1 }
+
+cut_by : (part rest : Bytes) → line_log ≡ part ++ rest → length part < 225 → Outcome answered before (cut_to part) 5
 unfolding streams
-cut_by =
+cut_by part rest whole short =
     record {
-      did = record { tried = codes "m.ma" ∷ []; made = made_part; shown = []; complained = codes "write fault: log.txt\n" };
+      did = record { tried = codes "m.ma" ∷ []; made = (codes "log.txt", part) ∷ []; shown = []; complained = codes "write fault: log.txt\n" };
       more = record { made = refl; created = refl; shown = refl; complained = refl; tried = refl };
       inputs = ([], refl);
-      ending = writing_failed {name = codes "log.txt"} (omega arith) ((refl, (drop 199 line_log, refl), tt), (codes "end 00:00:00:100 cycles 2\n", refl)) (a_file {bytes = line_log} (0, omega arith, refl) not_whole) refl;
+      ending = writing_failed {name = codes "log.txt"} (omega arith) ((refl, (rest, whole), tt), (codes "end 00:00:00:100 cycles 2\n", refl)) (a_file {bytes = line_log} (0, omega arith, refl) (not_whole part short)) refl;
     }
+
+not_made_by : Outcome answered before not_made 5
+unfolding streams
+not_made_by =
+    record {
+      did = record { tried = codes "m.ma" ∷ []; made = []; shown = []; complained = codes "write fault: log.txt\n" };
+      more = record { made = refl; created = refl; shown = refl; complained = refl; tried = refl };
+      inputs = ([], refl);
+      ending = writing_failed {name = codes "log.txt"} (omega arith) (tt, (codes "end 00:00:00:100 cycles 2\n", refl)) (a_file {bytes = line_log} (0, omega arith, refl) none_is_whole) refl;
+    }
+
+not_shown_by : Outcome answered before not_shown 5
+unfolding streams
+not_shown_by =
+    record {
+      did = record { tried = codes "m.ma" ∷ []; made = (codes "log.txt", line_log) ∷ []; shown = []; complained = codes "write fault: standard output\n" };
+      more = record { made = refl; created = refl; shown = refl; complained = refl; tried = refl };
+      inputs = ([], refl);
+      ending = writing_failed {name = codes "standard output"} (omega arith) ((refl, ([], refl), tt), (codes "end 00:00:00:100 cycles 2\n", refl)) (the_output refl (λ e. nothing_is_shown (ap length e))) refl;
+    }
+  where
+    nothing_is_shown : ◌≡◌ {A = ℕ} 0 26 → ⊥
+    nothing_is_shown e = omega arith
 
 whole_by : Outcome answered before whole 0
 unfolding streams
@@ -68,8 +103,60 @@ whole_by =
       ending = as_answered refl refl refl;
     }
 
-pub cut_short : CdppEnds (words asks) boxes before cut 5
-cut_short = subst (λ a. Outcome a before cut 5) (sym is_answered) cut_by
+of_answered : (after : Outside) (status : ℕ) → Outcome answered before after status → CdppEnds (words asks) boxes before after status
+of_answered after status o = subst (λ a. Outcome a before after status) (sym is_answered) o
+
+pub first_append : CdppEnds (words asks) boxes before (cut 0) 5
+first_append = of_answered (cut 0) 5 (cut_by (take 0 line_log) (drop 0 line_log) refl (omega arith))
+
+pub second_append : CdppEnds (words asks) boxes before (cut 64) 5
+second_append = of_answered (cut 64) 5 (cut_by (take 64 line_log) (drop 64 line_log) refl (omega arith))
+
+pub third_append : CdppEnds (words asks) boxes before (cut 128) 5
+third_append = of_answered (cut 128) 5 (cut_by (take 128 line_log) (drop 128 line_log) refl (omega arith))
+
+pub fourth_append : CdppEnds (words asks) boxes before (cut 135) 5
+fourth_append = of_answered (cut 135) 5 (cut_by (take 135 line_log) (drop 135 line_log) refl (omega arith))
+
+pub fifth_append : CdppEnds (words asks) boxes before (cut 199) 5
+fifth_append = of_answered (cut 199) 5 (cut_by (take 199 line_log) (drop 199 line_log) refl (omega arith))
+
+pub no_log : CdppEnds (words asks) boxes before not_made 5
+no_log = of_answered not_made 5 not_made_by
+
+pub nothing_shown : CdppEnds (words asks) boxes before not_shown 5
+nothing_shown = of_answered not_shown 5 not_shown_by
+
+-- ---- words that are refused, and a complaint that failed
+
+abbrev usage_line : Bytes
+usage_line = ended (codes "usage: " ++ usage)
+
+abbrev refused_words : Answer
+refused_words = record { made = []; shown = []; complained = usage_line; status = 2; inputs = [] }
+
+is_refused : answer (words asks_no_time) (folder (model line_model)) boxes ≡ refused_words
+unfolding cdpp_app digits clap_on_literals asked answer
+is_refused = refl
+
+some_line : ◌≡◌ {A = Bytes} [] usage_line → ⊥
+some_line e = absurd (no_bytes (ap length e))
+  where
+    no_bytes : ◌≡◌ {A = ℕ} 0 (length usage_line) → ⊥
+    no_bytes h = omega arith
+
+no_complaint_by : Outcome refused_words before no_complaint 5
+unfolding streams
+no_complaint_by =
+    record {
+      did = record { tried = []; made = []; shown = []; complained = [] };
+      more = record { made = refl; created = refl; shown = refl; complained = refl; tried = refl };
+      inputs = ([], refl);
+      ending = complaining_failed {line = usage_line} (omega arith) (omega arith) (tt, ([], refl)) of_answer ((usage_line, refl), some_line);
+    }
+
+pub nothing_complained : CdppEnds (words asks_no_time) boxes before no_complaint 5
+nothing_complained = subst (λ a. Outcome a before no_complaint 5) (sym is_refused) no_complaint_by
 
 pub complete : CdppEnds (words asks) boxes before whole 0
 complete = subst (λ a. Outcome a before whole 0) (sym is_answered) whole_by
@@ -94,7 +181,7 @@ is_given (Some x) = 1
 not_none : {A : Type 0} (o : Option A) (x : A) → o ≡ Some x → o ≡ None → ⊥
 not_none o x e f = let one_is_none : ◌≡◌ {A = ℕ} 1 0 = sym (ap is_given e) ∙ ap is_given f in omega arith
 
-pub cut_causes : CdppCauses (words asks) before cut 5
+pub cut_causes : CdppCauses (words asks) before (cut 199) 5
 cut_causes =
     record {
       known = (4, omega arith, refl);

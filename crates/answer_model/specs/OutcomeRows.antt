@@ -1,5 +1,5 @@
--- Rooms in which a run of three cells was whole, was cut at its fifth append, and was not read.
-use Rattle.std.specs.Prelude.{Some, None, [], ◌∷◌, take, codes, true}
+-- Rooms in which a run of three cells was whole, was cut at each of its appends, was not created, not shown and not read; and in which a complaint failed.
+use Rattle.std.specs.Prelude.{ℕ, Some, None, [], ◌∷◌, take, codes, true}
 use Rattle.quantity.specs.Bytes.{Bytes}
 use Rattle.room_edge.specs.Outside.{Outside}
 use Rattle.text_forms.specs.Rows.{line_log}
@@ -37,22 +37,44 @@ with_log made shown complained =
       created = names made;
     }
 
--- the log lacks its end, and one line says so
-abbrev pub cut : Outside
-cut = record (with_log ((codes "log.txt", take 199 line_log) ∷ []) [] (codes "write fault: log.txt\n")) { write_faults = 1 }
+-- the log holds so many of its first bytes, and one line says that it lacks some
+abbrev pub cut : ℕ → Outside
+cut n = record (with_log ((codes "log.txt", take n line_log) ∷ []) [] (codes "write fault: log.txt\n")) { write_faults = 1 }
+
+-- no log could be made
+abbrev pub not_made : Outside
+not_made = record (with_log [] [] (codes "write fault: log.txt\n")) { write_faults = 1 }
 
 abbrev pub whole : Outside
 whole = with_log ((codes "log.txt", line_log) ∷ []) (codes "end 00:00:00:100 cycles 2\n") []
+
+-- the log is whole, and its end could not be shown
+abbrev pub not_shown : Outside
+not_shown = record (with_log ((codes "log.txt", line_log) ∷ []) [] (codes "write fault: standard output\n")) { write_faults = 1 }
 
 -- the first read failed
 abbrev pub unread : Outside
 unread = record (with_log [] [] (codes "read fault: m.ma\n")) { read_faults = 1 }
 
+-- words without a time are refused, and the complaint failed
+abbrev pub no_complaint : Outside
+no_complaint = record before { write_faults = 1; complain_faults = 1 }
+
+abbrev pub asks_no_time : Bytes
+asks_no_time = codes "cdpp -m m.ma"
+
 abbrev pub asks : Bytes
 asks = codes "cdpp -m m.ma -t 00:00:00:100 -l log.txt"
 
 pub record EndsAsSaid : Type 0 where
-  pub cut_short : CdppEnds (words asks) boxes before cut 5
-  pub cut_causes : CdppCauses (words asks) before cut 5
+  pub first_append : CdppEnds (words asks) boxes before (cut 0) 5
+  pub second_append : CdppEnds (words asks) boxes before (cut 64) 5
+  pub third_append : CdppEnds (words asks) boxes before (cut 128) 5
+  pub fourth_append : CdppEnds (words asks) boxes before (cut 135) 5
+  pub fifth_append : CdppEnds (words asks) boxes before (cut 199) 5
+  pub cut_causes : CdppCauses (words asks) before (cut 199) 5
+  pub no_log : CdppEnds (words asks) boxes before not_made 5
+  pub nothing_shown : CdppEnds (words asks) boxes before not_shown 5
+  pub nothing_complained : CdppEnds (words asks_no_time) boxes before no_complaint 5
   pub complete : CdppEnds (words asks) boxes before whole 0
   pub not_read : CdppEnds (words asks) boxes before unread 4

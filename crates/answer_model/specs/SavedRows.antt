@@ -1,11 +1,12 @@
 -- Runs that are served in some order, saved and resumed, from whole files.
 use Rattle.std.specs.Prelude.{◌≡◌, List, [], ◌∷◌, ◌++◌, codes}
 use Rattle.quantity.specs.Bytes.{Bytes}
-use Rattle.model_text.specs.Models.{line_model, queue_model, port_model}
+use Rattle.model_text.specs.Models.{line_model, blinker, queue_model, port_model}
 use Rattle.text_forms.specs.Rows.{lines, line_log, queue_log, two_frames}
 use Rattle.text_forms.specs.SavedRows.{line_saved, saved, fourth}
 use Rattle.answer_model.specs.Answer.{Files, Answer}
 use Rattle.answer_model.specs.WholeFiles.{to, holding, model, model_and, just_model, log, shows, complains, y, x, s}
+use Rattle.answer_model.specs.PortRows.{blinker_log, blinker_frames}
 use Rattle.answer_model.specs.CellRows.{left, right, third, cell, out_of_order, taken_in_order, model_and_events, with_port_rules, two_events, events}
 
 abbrev pub with_state : List Bytes → Bytes → Files
@@ -54,9 +55,40 @@ events_log =
 abbrev pub three_frames : Bytes
 three_frames = two_frames ++ lines (codes "Time: 00:00:00:200" ∷ codes "+------+" ∷ codes "| 0 0 0|" ∷ codes "+------+" ∷ [] ∷ [])
 
+-- a run that is served from this seed
+abbrev pub served_by : Bytes → Bytes → Files → Answer
+served_by seed text files = to (text ++ codes " -T " ++ seed) files
+
+abbrev pub three_events : Files
+three_events = model_and with_port_rules (events (two_events ++ codes "00:00:00:120 p 3" ∷ []))
+
+abbrev pub too_late : Answer
+too_late = complains 10 (codes "bad delay: g(0,0) at 00:00:00:120: -10.00000") (log (cell (codes "000") (codes "0") ∷ cell (codes "110") (codes "2") ∷ [])) model_and_events
+
+abbrev pub until_late : Bytes
+until_late = codes "cdpp -m m.ma -t 00:00:00:200 -e e -l log.txt"
+
+abbrev pub both_files : Bytes
+both_files = codes "cdpp -m m.ma -t 00:00:00:000 -l log.txt -o out.txt -L YXS"
+
+abbrev pub queue_files : Files
+queue_files = (codes "log.txt", queue_log) ∷ holding (codes "out.txt") (codes "00:00:00:000 o 8.00000" ∷ []) ∷ []
+
+abbrev pub blinks : Bytes
+blinks = codes "cdpp -m m.ma -t 00:00:00:300 -l log.txt -d f.txt -g Life -w 2"
+
+abbrev pub blinker_files : Files
+blinker_files = log blinker_log ++ holding (codes "f.txt") blinker_frames ∷ []
+
 pub record RunsAreServed : Type 0 where
   pub mark : to (codes "cdpp -m m.ma -t 00:00:00:000 -T 1") (model line_model) ≡ shows (codes "end 00:00:00:000 cycles 1 mark 582706") [] just_model
-  pub stop : to (codes "cdpp -m m.ma -t 00:00:00:200 -e e -l log.txt -T 1") (model_and with_port_rules (events (two_events ++ codes "00:00:00:120 p 3" ∷ []))) ≡ complains 10 (codes "bad delay: g(0,0) at 00:00:00:120: -10.00000") (log (cell (codes "000") (codes "0") ∷ cell (codes "110") (codes "2") ∷ [])) model_and_events
+  pub stop : served_by (codes "1") until_late three_events ≡ too_late
+  pub stop_of_other_seed : served_by (codes "2147483647") until_late three_events ≡ too_late
+  pub files_of_queue : (served_by (codes "1") both_files queue).made ≡ queue_files
+  pub status_of_queue : (served_by (codes "1") both_files queue).status ≡ 0
+  pub life : (served_by (codes "1") blinks (model blinker)).made ≡ blinker_files
+  pub life_of_other_seed : (served_by (codes "2147483647") blinks (model blinker)).made ≡ blinker_files
+  pub queue_of_other_seed : (served_by (codes "2147483647") both_files queue).made ≡ queue_files
 
 pub record RunsAreSaved : Type 0 where
   pub saves : to (codes "cdpp -m m.ma -t 00:00:00:100 -S s.txt") (model line_model) ≡ shows (codes "end 00:00:00:100 cycles 2") ((codes "s.txt", line_saved) ∷ []) just_model

@@ -4,8 +4,10 @@ use Rattle.std.specs.List.{flat_map, range_with_len}
 use Rattle.quantity.specs.Bytes.{Bytes}
 use Rattle.source_text.specs.Examples.{file}
 use Rattle.model_text.specs.declared.kind.Kind.{Kind}
-use Rattle.model_text.specs.declared.kind.Kind.TheVariants.{BadLine, DuplicateSection, NoTop, DuplicateKey, MissingKey, BadValue, UnknownComponent, DuplicateComponent, ComponentCycle, UnknownClass, OutOfStock, BadParameter, UnknownPort, SelfLink, PassThrough, DuplicateLink, BadRule, BadSort, RandomRefused, UnknownFunction, NotANeighbour, BadZone, BadInitial, TooLarge, NoSection, UnknownVariable, UnknownNeighbourPort}
+use Rattle.model_text.specs.declared.kind.Kind.TheVariants.{BadLine, DuplicateSection, NoTop, DuplicateKey, MissingKey, BadValue, UnknownComponent, DuplicateComponent, ComponentCycle, UnknownClass, OutOfStock, BadParameter, UnknownPort, SelfLink, PassThrough, DuplicateLink, TooManyRoutes, BadRule, BadSort, RandomRefused, UnknownFunction, NotANeighbour, BadZone, BadInitial, TooLarge, NoSection, UnknownVariable, UnknownNeighbourPort}
 use Rattle.model_text.specs.Refusals.{refusal, kind_text}
+use Rattle.ma_lines.specs.declared.section.Entry.{Entry}
+use Rattle.model_text.specs.Rules.{too_many}
 use Rattle.model_text.specs.Trees.{no_files}
 use Rattle.model_text.specs.ModelOf.{ModelOf, model, missing, refused, model_of}
 use Rattle.model_text.specs.Models.{line_model, port_model, cell_model, with_line, without_line}
@@ -16,7 +18,10 @@ refuses ls line kind = read ls ≡ refused (refusal line kind)
 
 pub record KindsHaveTexts : Type 0 where
   pub first : kind_text BadLine ≡ codes "1 BadLine"
+  pub second : kind_text DuplicateSection ≡ codes "2 DuplicateSection"
   pub self_link : kind_text SelfLink ≡ codes "15 SelfLink"
+  pub routes : kind_text TooManyRoutes ≡ codes "18 TooManyRoutes"
+  pub rule : kind_text BadRule ≡ codes "19 BadRule"
   pub last : kind_text UnknownNeighbourPort ≡ codes "31 UnknownNeighbourPort"
 
 -- ---- rows of the line model
@@ -126,6 +131,10 @@ pub record CutFilesAreRefused : Type 0 where
 abbrev pub nested : ℕ → List Bytes
 nested n = cell_rule (codes "{ " ++ replicate n 40 ++ codes "1" ++ replicate n 41 ++ codes " } 100 { t }")
 
+-- a rule of a section, at line 9
+abbrev pub some_rule : Entry
+some_rule = record { line = 9; key = codes "rule"; value = codes "0 100 { t }" }
+
 -- so many different offsets
 abbrev pub many_offsets : ℕ → List Bytes
 many_offsets n =
@@ -137,6 +146,8 @@ pub record LimitsAreKept : Type 0 where
   pub nested_deeper : refuses (nested 65) 10 TooLarge
   pub most_offsets : is_model (read (many_offsets 128)) ≡ true
   pub more_offsets : refuses (many_offsets 129) 3 TooLarge
+  pub most_rules : too_many (replicate 1024 some_rule) ≡ []
+  pub more_rules : too_many (replicate 1025 some_rule) ≡ refusal 9 TooLarge ∷ []
   pub delay : refuses (with_line 7 (codes "defaultdelaytime : 360000000") line_model) 7 BadValue
   pub most_variables : is_model (read (cell_model (codes "statevariables : a b c d e f g h" ∷ []) [])) ≡ true
   pub more_variables : refuses (cell_model (codes "statevariables : a b c d e f g h i" ∷ []) []) 7 BadValue

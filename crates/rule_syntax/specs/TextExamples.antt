@@ -1,11 +1,11 @@
 -- Rules that are read and refused.
-use Rattle.std.specs.Prelude.{◌++◌, replicate, ◌≡◌, ℕ, Some, None, List, [], ◌∷◌, ℤ, pos, negsuc, codes}
+use Rattle.std.specs.Prelude.{◌++◌, replicate, ◌≡◌, ℕ, zero, suc, true, false, Some, None, List, [], ◌∷◌, ℤ, pos, negsuc, codes}
 use Rattle.std.specs.declared.result.Result.TheVariants.{Ok, Err}
 use Rattle.quantity.specs.declared.place.Offset.{Offset}
 use Rattle.quantity.specs.declared.truth.Tri.TheVariants.{True}
 use Rattle.quantity.specs.declared.value.Value.TheVariants.{Num}
 use Rattle.quantity.specs.declared.value.Compare.TheVariants.{Equal, Greater}
-use Rattle.rule_syntax.specs.declared.node.Unary.TheVariants.{Minus, Not}
+use Rattle.rule_syntax.specs.declared.node.Unary.TheVariants.{Plus, Minus, Not}
 use Rattle.rule_syntax.specs.declared.node.Binary.TheVariants.{Imp, Or, And, Cmp, Add, Sub, Mul}
 use Rattle.rule_syntax.specs.declared.node.Count.TheVariants.{Ones}
 use Rattle.rule_syntax.specs.declared.node.Function.TheVariants.{Min}
@@ -14,7 +14,7 @@ use Rattle.rule_syntax.specs.Meaning.{whole}
 use Rattle.quantity.specs.Bytes.{Bytes}
 use Rattle.rule_syntax.specs.declared.refusal.RuleRefusal.{RuleRefusal}
 use Rattle.rule_syntax.specs.declared.refusal.RuleRefusal.TheVariants.{TooLarge, BadRule, BadSort, RandomRefused, UnknownFunction, NotANeighbour, UnknownVariable, UnknownNeighbourPort}
-use Rattle.rule_syntax.specs.Tokens.{word, number as number', mark, tokens}
+use Rattle.rule_syntax.specs.Tokens.{word, number as number', mark, tokens, is_large}
 use Rattle.rule_syntax.specs.Scope.{Names}
 use Rattle.rule_syntax.specs.RuleOf.{rule_of}
 
@@ -42,6 +42,25 @@ pub record DepthIsBounded : Type 0 where
   pub many : rule_of line (nested 12) ≡ Ok (always (number (whole 1)))
   pub too_many : refuses (nested 65) TooLarge
   pub most_and_no_rule : refuses (nested 64 ++ codes "1") BadRule
+
+-- so many times + 1
+abbrev pub added_ones : ℕ → Bytes
+added_ones zero = []
+added_ones (suc n) = codes " + 1" ++ added_ones n
+
+abbrev pub in_braces : Bytes → Bytes
+in_braces value = codes "{" ++ value ++ codes " } 100 { t }"
+
+-- the sum of so many ones, grouped to the left, behind a sign
+abbrev pub sum_of_ones : ℕ → Expr
+sum_of_ones zero = one Plus (number (whole 1))
+sum_of_ones (suc n) = two Add (sum_of_ones n) (number (whole 1))
+
+pub record TokensAreBounded : Type 0 where
+  pub many : rule_of line (in_braces (added_ones 40)) ≡ Ok (always (sum_of_ones 39))
+  pub too_many : refuses (in_braces (codes " 1" ++ added_ones 2045)) TooLarge
+  pub most : is_large (replicate 4096 (word (codes "t"))) ≡ false
+  pub one_more : is_large (replicate 4097 (word (codes "t"))) ≡ true
 
 pub record RulesAreRead : Type 0 where
   pub pieces : tokens (codes "a1.5<=$b :=1.") ≡ Some (word (codes "a1") ∷ number' (codes ".5") ∷ mark (codes "<=") ∷ mark (codes "$") ∷ word (codes "b") ∷ mark (codes ":=") ∷ number' (codes "1.") ∷ [])

@@ -1,6 +1,6 @@
 // Laws of rules as texts.
 ghost use Rattle.rule_syntax.specs.RuleOf.{FindsTheGrammar, HasOneOutcome, ReadsOneWay, ReadsSoundRules};
-ghost use Rattle.rule_syntax.specs.TextExamples.{DepthIsBounded, RulesAreRead};
+ghost use Rattle.rule_syntax.specs.TextExamples.{DepthIsBounded, RulesAreRead, TokensAreBounded};
 
 /// Texts of rules and what they are read to, or why they are refused.
 pub fn examples()
@@ -10,6 +10,11 @@ pub fn examples()
 /// At most 64 parentheses are open at once.
 pub fn depth_is_bounded()
     ensures { DepthIsBounded }
+{}
+
+/// A rule has at most 4096 tokens.
+pub fn tokens_are_bounded()
+    ensures { TokensAreBounded }
 {}
 
 /// The grammar is exact: what the reading of tokens finds is a phrase or a rule of the grammar, and each of the grammar is found.

@@ -1,5 +1,18 @@
-use Rattle.answer_model.proofs.Ends.{cut_short, cut_causes, complete, not_read}
+use Rattle.answer_model.proofs.Ends.{first_append, second_append, third_append, fourth_append, fifth_append, cut_causes, no_log, nothing_shown, nothing_complained, complete, not_read}
 use Rattle.answer_model.proofs.laws.ends_are_met.Goals as goal
 
 pub returns : goal.returns
-returns c = record { cut_short = cut_short; cut_causes = cut_causes; complete = complete; not_read = not_read }
+returns c =
+    record {
+      first_append = first_append;
+      second_append = second_append;
+      third_append = third_append;
+      fourth_append = fourth_append;
+      fifth_append = fifth_append;
+      cut_causes = cut_causes;
+      no_log = no_log;
+      nothing_shown = nothing_shown;
+      nothing_complained = nothing_complained;
+      complete = complete;
+      not_read = not_read;
+    }

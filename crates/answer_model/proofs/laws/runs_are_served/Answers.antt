@@ -21,4 +21,10 @@ returns c =
     record {
       mark = refl;
       stop = refl;
+      stop_of_other_seed = refl;
+      files_of_queue = refl;
+      status_of_queue = refl;
+      life = refl;
+      life_of_other_seed = refl;
+      queue_of_other_seed = refl;
     }

@@ -12,6 +12,9 @@ unfolding sections_of tokens written_rule rule_of model_of digits
 returns c =
     record {
       first = refl;
+      second = refl;
       self_link = refl;
+      routes = refl;
+      rule = refl;
       last = refl;
     }

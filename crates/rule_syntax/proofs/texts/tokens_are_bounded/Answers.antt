@@ -1,0 +1,9 @@
+use Rattle.std.proofs.Common.{refl}
+use Rattle.rule_syntax.specs.Tokens.{tokens}
+use Rattle.rule_syntax.specs.Reading.{written_rule}
+use Rattle.rule_syntax.specs.RuleOf.{rule_of}
+use Rattle.rule_syntax.proofs.texts.tokens_are_bounded.Goals as goal
+
+pub returns : goal.returns
+unfolding tokens written_rule rule_of
+returns c = record { many = refl; too_many = refl; most = refl; one_more = refl }
