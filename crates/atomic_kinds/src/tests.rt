@@ -9,6 +9,9 @@ use std::alloc::{AllocError, Global};
 use std::process::Abort;
 use std::test::Fail;
 
+mod restored;
+mod stories;
+
 fn at(ms: u32) -> Time
     ensures { result ≤ 359999999 }
 {
