@@ -22,7 +22,8 @@ pub(crate) fn signed_raw(most: usize, text: &[u8]) -> Option<i64>
     }
 }
 
-fn unsigned_raw(most: usize, text: &[u8]) -> Option<u64>
+/// The number without a sign, in hundred-thousandths, by the same rule.
+pub(crate) fn unsigned_raw(most: usize, text: &[u8]) -> Option<u64>
     requires { most ≤ 11 }
     ensures value { result ≡ unsigned_raw most text.now }
     ensures below { IfSome result (λ raw. raw < 10 ^ (most + 5)) }
