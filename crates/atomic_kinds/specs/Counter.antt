@@ -6,11 +6,10 @@ use Rattle.quantity.specs.declared.value.Value.{Value as AnyValue}
 use Rattle.quantity.specs.declared.value.Overflow.{Overflow}
 use Rattle.atomic_face.specs.declared.class.Class.TheVariants.{Counter}
 use Rattle.atomic_face.specs.declared.class.PortNo.{PortNo}
-use Rattle.atomic_face.specs.Words.{word_of}
+use Rattle.atomic_face.specs.Words.{word_of, word_or_none}
 use Rattle.atomic_face.specs.Classes.{Bag, CounterState, counter_input, counter_inputs, is_at}
 use Rattle.atomic_face.specs.Held.{Held}
 use Rattle.atomic_kinds.specs.declared.counter.CounterModel.{CounterModel}
-use Rattle.atomic_kinds.specs.Words.{word_or_none}
 
 abbrev pub counter_settings : CounterModel → List ℤ
 counter_settings c = pos c.delay ∷ word_of c.start ∷ word_of c.step ∷ []

@@ -4,11 +4,10 @@ use Rattle.std.specs.declared.result.Result.{Result}
 use Rattle.std.specs.declared.result.Result.TheVariants.{Ok, Err}
 use Rattle.quantity.specs.declared.value.Overflow.{Overflow}
 use Rattle.atomic_face.specs.declared.class.Class.TheVariants.{Generator}
-use Rattle.atomic_face.specs.Words.{word_of}
+use Rattle.atomic_face.specs.Words.{word_of, word_or_none}
 use Rattle.atomic_face.specs.Classes.{GeneratorState, generator_internal, generator_settings}
 use Rattle.atomic_face.specs.Held.{Held}
 use Rattle.atomic_kinds.specs.declared.generator.GeneratorModel.{GeneratorModel}
-use Rattle.atomic_kinds.specs.Words.{word_or_none}
 
 abbrev pub settings_in : GeneratorModel → List ℤ
 settings_in g = pos g.start ∷ pos g.period ∷ word_of g.value ∷ word_of g.step ∷ word_or_none g.count ∷ []

@@ -1,4 +1,3 @@
-pub mod Words
 pub mod Parameters
 pub mod Counter
 pub mod Generator

@@ -3,7 +3,9 @@ ghost use Rattle.std.specs.Prelude.{◌≡◌, ◌≤◌};
 ghost use Rattle.atomic_face.specs.Settings.{first_line_off};
 
 use crate::parameters::{Form, least, line_off, time_setting, value_setting};
-use crate::words::{due_of, give, is_at, number, put, sum, time, time_word, value_of, value_word};
+use atomic_face::words::{
+    due_of, give, is_at, number, put, sum, time, time_word, value_of, value_word,
+};
 use atomic_face::{
     AdvanceRefusal, AtomicModel, Class, Params, PortNo, RestoreRefusal, SettleRefusal,
 };

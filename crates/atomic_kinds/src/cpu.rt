@@ -6,7 +6,7 @@ ghost use Rattle.atomic_face.specs.Settings.{first_line_off};
 ghost use Rattle.atomic_kinds.specs.Pairs.{given_at, pair_words, word_pairs, HasPair, LacksPair, ReadsPair, ReadsPairs};
 
 use crate::parameters::{Form, line_off, time_setting};
-use crate::words::{is_at, put, time, time_of, time_word, value_of, value_word};
+use atomic_face::words::{is_at, put, time, time_of, time_word, value_of, value_word};
 use atomic_face::{
     AdvanceRefusal, AtomicModel, Class, Params, PortNo, RestoreRefusal, SettleRefusal,
 };

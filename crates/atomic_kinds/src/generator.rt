@@ -3,12 +3,12 @@ ghost use Rattle.std.specs.Prelude.{◌≡◌, ◌≤◌};
 ghost use Rattle.atomic_face.specs.BoxStates.{is_left, is_zero_word};
 ghost use Rattle.atomic_face.specs.Classes.{is_none_left, one_less};
 ghost use Rattle.atomic_face.specs.Settings.{first_line_off};
-ghost use Rattle.atomic_kinds.specs.Words.{word_or_none, Reads};
+ghost use Rattle.atomic_face.specs.Words.{word_or_none, Reads};
 
 use crate::parameters::{
     Form, count_setting, least, line_off, period_setting, time_setting, value_setting,
 };
-use crate::words::{
+use atomic_face::words::{
     NONE, due_if, give, is_at, number, number_word, put, sum, time, time_word, value_of, value_word,
 };
 use atomic_face::{

@@ -6,7 +6,6 @@ mod cpu;
 mod generator;
 mod parameters;
 mod queue;
-mod words;
 
 pub use counter::CounterModel;
 pub use cpu::CpuModel;

@@ -3,11 +3,8 @@ ghost use Rattle.std.specs.Prelude.{◌≡◌, ◌≤◌, ℕ, ◌∷◌, [], ma
 ghost use Rattle.std.specs.List.{find};
 ghost use Rattle.std.specs.Option.{is_some, option_copied, option_map};
 ghost use Rattle.std.specs.Str.{bytes_eq};
-ghost use Rattle.quantity.specs.Times.{time_in};
 ghost use Rattle.atomic_face.specs.Settings.{parameter, is_off, lines_off_of, least_line, setting_of, time_word, period_word, value_word, count_word};
-ghost use Rattle.atomic_face.specs.Words.{word_of};
-ghost use Rattle.atomic_face.specs.Words.{no_time};
-ghost use Rattle.atomic_kinds.specs.Words.{word_or_none};
+ghost use Rattle.atomic_face.specs.Words.{no_time, word_of, word_or_none};
 ghost use Rattle.atomic_kinds.specs.Parameters.{word_in, least_of};
 
 use atomic_face::{Param, Params};
@@ -58,26 +55,18 @@ fn is_of_form(form: Form, text: &[u8]) -> bool
     ensures { result ≡ is_some (word_in form text.now) }
 {
     match form {
-        Form::Time => time(text).is_some(),
+        Form::Time => Time::parse(text).is_some(),
         Form::Period => period(text).is_some(),
         Form::Value => Value::parse(text).is_some(),
         Form::Count => count(text).is_some(),
     }
 }
 
-/// The time that is written so, at most 99:59:59:999.
-fn time(text: &[u8]) -> Option<Time>
-    ensures value { result ≡ time_in text.now }
-    ensures bounded { IfSome result (λ t. t ≤ 359999999) }
-{
-    Time::parse(text)
-}
-
 fn period(text: &[u8]) -> Option<Time>
     ensures value { option_map (λ t. pos t) result ≡ period_word text.now }
     ensures bounded { IfSome result (λ t. t ≤ 359999999) }
 {
-    let time = time(text)?;
+    let time = Time::parse(text)?;
     if time.ms() == 0 {
         return None;
     }
@@ -112,7 +101,7 @@ pub(crate) fn time_setting(params: &Params, key: &[u8], default: Time) -> Time
     let Some(entry) = entry_of(params, key) else {
         return default;
     };
-    time(entry.value.as_bytes()).unwrap_or(default)
+    Time::parse(entry.value.as_bytes()).unwrap_or(default)
 }
 
 pub(crate) fn period_setting(params: &Params, key: &[u8], default: Time) -> Time

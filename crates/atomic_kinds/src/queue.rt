@@ -6,7 +6,7 @@ ghost use Rattle.atomic_face.specs.Words.{word_of};
 ghost use Rattle.atomic_kinds.specs.Phases.{phase_number, ReadsPhase, ReadsValues};
 
 use crate::parameters::{Form, line_off, time_setting};
-use crate::words::{NONE, give, is_at, put, time, time_of, time_word, value_of, value_word};
+use atomic_face::words::{NONE, give, is_at, put, time, time_of, time_word, value_of, value_word};
 use atomic_face::{
     AdvanceRefusal, AtomicModel, Class, Params, PortNo, RestoreRefusal, SettleRefusal,
 };

@@ -1,8 +1,8 @@
 // The classes through boxes in a stock, at values worked out by hand.
 ghost use Rattle.std.specs.Prelude.{◌≡◌, ◌<◌, ◌≤◌, length, IfOk};
 
-use crate::words::{number, time};
 use crate::{CounterModel, CpuModel, GeneratorModel, QueueModel};
+use atomic_face::words::{number, time};
 use atomic_face::{AtomicModel, BoxNo, Class, Param, Params, PortNo, Stock, StockRefusal};
 use quantity::{Text, Time, Value};
 use std::alloc::{AllocError, Global};

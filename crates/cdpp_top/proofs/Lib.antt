@@ -4,4 +4,3 @@ pub mod Runs
 pub mod Logs
 pub mod Texts
 pub mod Outcomes
-pub mod TimeBound

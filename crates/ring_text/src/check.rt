@@ -5,13 +5,13 @@ ghost use Rattle.std.specs.List.{list_all};
 ghost use Rattle.std.specs.Option.{option_map_or};
 ghost use Rattle.std.specs.Bool.{then_some};
 ghost use Rattle.quantity.specs.Digits.{is_between, number_in};
-ghost use Rattle.quantity.specs.Names as names;
 ghost use Rattle.quantity.specs.Written.{number_at_most};
 ghost use Rattle.ring_text.specs.Parts as spec;
 ghost use Rattle.ring_text.specs.Shown.{ring_shown, rule_shown};
 
 use crate::parts::{RingParts, RuleParts};
 use quantity::digits::whole_number;
+use quantity::name::is_name;
 
 /// The most cells of a ring, and the most rules.
 const MOST: usize = 1024;
@@ -33,24 +33,6 @@ pub fn delay_of(text: &[u8]) -> Option<u32>
     } else {
         None
     }
-}
-
-fn is_of_name(c: u8) -> bool
-    ensures { result ≡ names.is_of_name c }
-{
-    c.is_ascii_lowercase() || c.is_ascii_digit() || matches!(c, b'_' | b'-' | b'.')
-}
-
-fn are_of_name(text: &[u8]) -> bool
-    ensures { result ≡ list_all names.is_of_name text.now }
-{
-    text.iter().all(|c| is_of_name(*c))
-}
-
-fn is_name(text: &[u8]) -> bool
-    ensures { result ≡ names.is_name text.now }
-{
-    has_length(text.len(), 64) && are_of_name(text)
 }
 
 fn is_free_name(text: &[u8]) -> bool

@@ -1,21 +1,20 @@
 -- The words of settings give the plain settings back.
-use Rattle.std.proofs.Common.{◌≡◌, ℕ, suc, zero, ◌+◌, ◌*◌, ◌≤◌, ◌<◌, Bool, true, false, Option, Some, None, List, [], ◌∷◌, ◌++◌, length, map, drop, ℤ, pos, refl, sym, ap, ◌∙◌, arith, subst, cond, get_or, IfSome, All}
+use Rattle.std.proofs.Common.{◌≡◌, ℕ, suc, zero, ◌+◌, ◌*◌, ◌≤◌, ◌<◌, Bool, true, false, Option, Some, None, List, [], ◌∷◌, ◌++◌, length, map, drop, ℤ, pos, refl, sym, ap, ◌∙◌, arith, subst, cond, get_or}
 use Rattle.std.specs.Prelude.{not, nat_lt, ◌&&◌, slice_get}
-use Rattle.std.proofs.lemmas.Option.{same_Some, slice_get-map}
 use Rattle.std.proofs.lemmas.Bool.Decides.{nat_tests}
 use Rattle.std.specs.List.{flat_map, find}
-use Rattle.std.specs.Option.{option_map, option_and_then, unwrap_or, is_some, ForSome}
+use Rattle.std.specs.Option.{option_map, unwrap_or, is_some}
 use Rattle.quantity.specs.declared.value.Value.{Value}
 use Rattle.atomic_face.specs.declared.class.PortNo.{PortNo}
 use Rattle.atomic_face.specs.Words.{no_time, word_of}
 use Rattle.atomic_face.specs.BoxStates.{has_hold, is_below, is_due, is_none_word, is_table, is_value_word}
-use Rattle.atomic_face.specs.Classes.{no_hold, hold_of, holds_in, takes_in, table_input, table_settings, taken, takes}
+use Rattle.atomic_face.specs.Classes.{holds_in, takes_in, table_input, table_settings, taken, takes}
 use Rattle.state_tables.specs.declared.settings.Hold.{Hold}
 use Rattle.state_tables.specs.declared.settings.Take.{Take}
 use Rattle.state_tables.specs.declared.settings.TableSettings.{TableSettings}
 use Rattle.state_tables.specs.declared.moves.Standing.{Standing}
-use Rattle.state_tables.specs.Settings.{hold_words, take_words, words_of, AreSettings, IsHoldOf}
-use Rattle.state_tables.specs.Holds.{hold_at, AreShort}
+use Rattle.state_tables.specs.Settings.{hold_words, take_words, words_of}
+use Rattle.state_tables.specs.Holds.{hold_at}
 use Rattle.state_tables.specs.Moves.{leads, plain_hold, plain_take, plain_settings, plain_state}
 
 three_more : (n : ℕ) → 3 * suc n ≡ suc (suc (suc (3 * n)))

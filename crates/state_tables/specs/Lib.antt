@@ -1,6 +1,5 @@
 pub mod Settings
 pub mod Reading
-pub mod Words
 pub mod Holds
 pub mod Moves
 pub mod Table

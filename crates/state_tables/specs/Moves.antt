@@ -2,7 +2,7 @@
 use Rattle.std.specs.Prelude.{ℕ, ◌==◌, ◌&&◌, ◌||◌, Bool, Option, Some, None, map, ℤ, pos}
 use Rattle.quantity.specs.declared.value.Value.{Value}
 use Rattle.atomic_face.specs.declared.class.PortNo.{PortNo}
-use Rattle.atomic_face.specs.Words.{word_of}
+use Rattle.atomic_face.specs.Words.{word_of, word_or_none}
 use Rattle.atomic_face.specs.Classes.{any_word, no_hold, same_word}
 use Rattle.atomic_face.specs.Classes.{Hold as PlainHold, Take as PlainTake, TableSettings as PlainSettings, TableState as PlainState}
 use Rattle.state_tables.specs.declared.settings.Hold.{Hold}
@@ -10,7 +10,6 @@ use Rattle.state_tables.specs.declared.settings.Take.{Take}
 use Rattle.state_tables.specs.declared.settings.TableSettings.{TableSettings}
 use Rattle.state_tables.specs.declared.moves.Standing.{Standing}
 use Rattle.state_tables.specs.Settings.{shown_word, wanted_word}
-use Rattle.state_tables.specs.Words.{word_or_none}
 
 abbrev pub plain_hold : Option Hold → PlainHold
 plain_hold None = no_hold

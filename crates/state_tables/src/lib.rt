@@ -5,7 +5,6 @@ mod moves;
 mod read;
 pub mod settings;
 mod table;
-mod words;
 
 pub use settings::{Hold, Shown, TableSettings, Take, Wanted};
 pub use table::TableModel;

@@ -6,8 +6,8 @@ ghost use Rattle.atomic_face.specs.Words.{word_of};
 ghost use Rattle.state_tables.specs.Holds.{hold_at, AreShort};
 
 use crate::settings::{Hold, Shown, TableSettings, Take, Wanted};
-use crate::words::{is_at, number, value_word};
 use atomic_face::PortNo;
+use atomic_face::words::{is_at, number, value_word};
 use quantity::{Time, Value};
 
 /// Where a table stands: the number of its state, when the hold of that is over, and the value that

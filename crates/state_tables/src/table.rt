@@ -5,7 +5,7 @@ ghost use Rattle.state_tables.specs.Holds.{AreShort};
 use crate::moves::Standing;
 use crate::read::read_settings;
 use crate::settings::{Shown, TableSettings};
-use crate::words::{due_if, give, put, time, time_word, value_of, value_word};
+use atomic_face::words::{due_if, give, put, time, time_word, value_of, value_word};
 use atomic_face::{
     AdvanceRefusal, AtomicModel, Class, Params, PortNo, RestoreRefusal, SettleRefusal,
 };
@@ -77,7 +77,7 @@ impl TableModel {
     ghost use Rattle.atomic_face.specs.Settings.{settings_of};
     ghost use Rattle.state_tables.specs.Settings.{words_of, AreSettings};
     ghost use Rattle.state_tables.specs.Table.{held_table, state_words};
-    ghost use Rattle.state_tables.specs.Words.{Reads};
+    ghost use Rattle.atomic_face.specs.Words.{Reads};
 
     /// A table as no parameters settle it: in its one state, which it holds for ever.
     pub fn new(alloc: Global) -> Result<TableModel, OutOfMemory>

@@ -5,7 +5,7 @@ ghost use Rattle.quantity.specs.Bytes.{is_among};
 ghost use Rattle.atomic_face.specs.Settings.{are_once, once_keys};
 
 use crate::TableModel;
-use crate::words::{number, time};
+use atomic_face::words::{number, time};
 use atomic_face::{
     AtomicModel, BoxNo, Class, Param, Params, PortNo, RestoreRefusal, SettleRefusal, Stock,
 };

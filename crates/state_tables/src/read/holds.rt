@@ -10,9 +10,10 @@ ghost use Rattle.state_tables.specs.Reading.{hold_lines, hold_read, holds_with, 
 
 use crate::read::entries::least;
 use crate::read::names::number_in;
-use crate::read::words::{four_words, shown_of, time_of};
+use crate::read::words::{four_words, shown_of};
 use crate::settings::Hold;
 use atomic_face::{Param, SettleRefusal};
+use quantity::Time;
 use std::alloc::{AllocError, Global};
 
 /// What each of the states holds, the first hold of each, and the least line of a hold that is off its
@@ -92,7 +93,7 @@ fn hold_of(names: &[&[u8]], text: &[u8]) -> Option<(u8, Hold)>
 {
     let (state, time, shown, next) = four_words(text)?;
     let state = number_in(names, state)?;
-    let time = time_of(time)?;
+    let time = Time::parse(time)?;
     let shown = shown_of(shown)?;
     let next = number_in(names, next)?;
     Some((state, Hold { time, shown, next }))

@@ -3,7 +3,7 @@ ghost use Rattle.std.specs.Prelude.{◌≡◌, ◌<◌, ◌≤◌, ℕ, IfOk, If
 ghost use Rattle.std.specs.List.{list_all, list_any, position};
 ghost use Rattle.std.specs.Str.{bytes_eq};
 ghost use Rattle.quantity.specs.Bytes.{has_repeat, words};
-ghost use Rattle.quantity.specs.Names.{is_name, is_of_name};
+ghost use Rattle.quantity.specs.Names.{is_name};
 ghost use Rattle.atomic_face.specs.declared.class.Class.TheVariants.{Table};
 ghost use Rattle.atomic_face.specs.Settings.{first_line_off};
 ghost use Rattle.atomic_face.specs.TableSettings.{are_states, number_in, states_of};
@@ -11,7 +11,7 @@ ghost use Rattle.source_text.specs.Shown.{texts};
 
 use crate::read::entries::entry_with;
 use atomic_face::{Param, SettleRefusal};
-use quantity::name::is_of_name;
+use quantity::name::is_name;
 use source_text::words::words;
 use std::alloc::Global;
 
@@ -53,18 +53,6 @@ fn all_are_names(names: &[&[u8]]) -> bool
     ensures { result ≡ list_all (λ name. is_name name.now) names.now }
 {
     names.iter().all(|name| is_name(name))
-}
-
-fn is_name(text: &[u8]) -> bool
-    ensures { result ≡ is_name text.now }
-{
-    1 <= text.len() && text.len() <= 64 && all_are_of_name(text)
-}
-
-fn all_are_of_name(text: &[u8]) -> bool
-    ensures { result ≡ list_all is_of_name text.now }
-{
-    text.iter().all(|byte| is_of_name(*byte))
 }
 
 fn has_repeat(names: &[&[u8]]) -> bool

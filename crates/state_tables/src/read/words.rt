@@ -1,13 +1,12 @@
 // The words of a hold or a take.
-ghost use Rattle.std.specs.Prelude.{◌≡◌, ◌≢◌, ◌≤◌, [], ◌∷◌, length, IfSome, MatchOption, codes, pos};
+ghost use Rattle.std.specs.Prelude.{◌≡◌, ◌≢◌, [], ◌∷◌, length, MatchOption, codes, pos};
 ghost use Rattle.std.specs.Option.{option_map};
 ghost use Rattle.quantity.specs.Bytes.{words};
-ghost use Rattle.quantity.specs.Times.{time_in};
 ghost use Rattle.atomic_face.specs.TableSettings.{value_or};
 ghost use Rattle.state_tables.specs.Settings.{shown_word, wanted_word};
 
 use crate::settings::{Shown, Wanted};
-use quantity::{Time, Value};
+use quantity::Value;
 use source_text::words::next_word;
 
 /// The words of a text that has four.
@@ -22,14 +21,6 @@ pub(crate) fn four_words(text: &[u8]) -> Option<(&[u8], &[u8], &[u8], &[u8])>
         return None;
     }
     Some((first, second, third, fourth))
-}
-
-/// The time that is written so, at most 99:59:59:999.
-pub(crate) fn time_of(text: &[u8]) -> Option<Time>
-    ensures value { result ≡ time_in text.now }
-    ensures bounded { IfSome result (λ t. t ≤ 359999999) }
-{
-    Time::parse(text)
 }
 
 /// What a state gives: a value, or `last`.

@@ -1,10 +1,9 @@
-use Rattle.std.proofs.Common.{◌≡◌, ℕ, ◌<◌, Bool, true, false, cond, nat_lt, Some, None, List, [], length, refl, sym, ap, ◌∙◌, subst, arith}
+use Rattle.std.proofs.Common.{◌≡◌, ℕ, ◌<◌, Bool, true, false, cond, nat_lt, Some, None, List, [], length, refl, subst, arith}
 use Rattle.std.specs.List.{position, position_or_len}
 use Rattle.std.proofs.lemmas.Bool.Decides.{nat_tests}
 use Rattle.std.proofs.lemmas.List.{length-set}
 use Rattle.std.proofs.lemmas.Option.{same_Some}
 use Rattle.atomic_face.specs.declared.class.Class.TheVariants.{Queue}
-use Rattle.atomic_face.specs.Held.{Held}
 use Rattle.atomic_face.specs.Stocked.{Stocked, is_free}
 use Rattle.atomic_kinds.proofs.tests.taken.Goals as goal
 

@@ -1,22 +1,23 @@
 // Values and times, and the numbers that stand for them in a state.
 ghost use Rattle.std.specs.Prelude.{◌≡◌, ◌≤◌, ◌^◌, ◌++◌, [], ◌∷◌, pos, unsigned_abs, OnOk, OnErr};
-ghost use Rattle.atomic_face.specs.Words.{word_of, value_in};
-ghost use Rattle.atomic_face.specs.BoxStates.{is_due, is_time_word, is_value_word};
+ghost use Rattle.std.specs.Result.{result_ok};
+ghost use Rattle.quantity.specs.Arithmetic.{sum_of};
+ghost use Rattle.atomic_face.specs.Words.{word_of, word_or_none, value_in, Reads};
+ghost use Rattle.atomic_face.specs.BoxStates.{is_due, is_due_word, is_time_word, is_value_word};
 ghost use Rattle.atomic_face.specs.Classes.{is_at, outputs};
-ghost use Rattle.state_tables.specs.Words.{word_or_none, Reads};
 
-use atomic_face::PortNo;
-use quantity::{OutOfMemory, Raw, Time, Value};
+use crate::PortNo;
+use quantity::{OutOfMemory, Overflow, Raw, Time, Value};
 use std::alloc::AllocError;
 
 /// The number of `?`.
 const UNDEFINED: i64 = 10_000_000_000_000_000;
 
-/// The number of no time.
-const NONE: i64 = -1;
+/// The number of no time, and of no count.
+pub const NONE: i64 = -1;
 
 /// So many milliseconds.
-pub(crate) fn time(ms: u32) -> Time
+pub fn time(ms: u32) -> Time
     requires { ms ≤ 719999998 }
     ensures { result ≡ ms }
 {
@@ -27,7 +28,7 @@ pub(crate) fn time(ms: u32) -> Time
 }
 
 /// So many hundred-thousandths.
-pub(crate) fn number(raw: i64) -> Value
+pub fn number(raw: i64) -> Value
     requires { unsigned_abs raw ≤ 10 ^ 15 }
     ensures { result ≡ Value.Num raw }
 {
@@ -37,7 +38,7 @@ pub(crate) fn number(raw: i64) -> Value
     }
 }
 
-pub(crate) fn value_word(value: Value) -> i64
+pub fn value_word(value: Value) -> i64
     ensures value { result ≡ word_of value }
     ensures bounded { unsigned_abs result ≤ 10 ^ 16 }
 {
@@ -48,7 +49,7 @@ pub(crate) fn value_word(value: Value) -> i64
 }
 
 /// The value of this number; None where it is the number of none.
-pub(crate) fn value_of(word: i64) -> Option<Value>
+pub fn value_of(word: i64) -> Option<Value>
     ensures { Reads is_value_word word_of word result }
 {
     if word == UNDEFINED {
@@ -60,7 +61,7 @@ pub(crate) fn value_of(word: i64) -> Option<Value>
     }
 }
 
-pub(crate) fn time_word(time: Option<Time>) -> i64
+pub fn time_word(time: Option<Time>) -> i64
     ensures { result ≡ word_or_none time }
 {
     match time {
@@ -69,15 +70,37 @@ pub(crate) fn time_word(time: Option<Time>) -> i64
     }
 }
 
+pub fn number_word(number: Option<u32>) -> i64
+    ensures { result ≡ word_or_none number }
+{
+    match number {
+        Some(number) => i64::from(number),
+        None => NONE,
+    }
+}
+
 /// The time of this number; None where it is the number of none.
-fn time_of(word: i64) -> Option<Time>
+pub fn time_of(word: i64) -> Option<Time>
     ensures { Reads is_time_word (λ t. pos t) word result }
 {
     Time::new(u32::try_from(word).ok()?)
 }
 
+/// The time, or that there is none, of this number; None where it says neither.
+pub fn due_of(word: i64) -> Option<Option<Time>>
+    ensures { Reads is_due_word word_or_none word result }
+{
+    if word == NONE {
+        return Some(None);
+    }
+    match time_of(word) {
+        Some(time) => Some(Some(time)),
+        None => None,
+    }
+}
+
 /// The time of this number where one is wanted, and else that there is none; None for other numbers.
-pub(crate) fn due_if(wanted: bool, word: i64) -> Option<Option<Time>>
+pub fn due_if(wanted: bool, word: i64) -> Option<Option<Time>>
     ensures { Reads (is_due wanted) word_or_none word result }
 {
     if !wanted {
@@ -90,7 +113,7 @@ pub(crate) fn due_if(wanted: bool, word: i64) -> Option<Option<Time>>
 }
 
 /// Whether this is the time that is due.
-pub(crate) fn is_at(now: Time, due: Option<Time>) -> bool
+pub fn is_at(now: Time, due: Option<Time>) -> bool
     ensures { result ≡ is_at now due }
 {
     match due {
@@ -99,17 +122,30 @@ pub(crate) fn is_at(now: Time, due: Option<Time>) -> bool
     }
 }
 
+/// The sum of two values, which their numbers stand for. Overflow where it is too large.
+// By reference, since the check does not see a value copied that is used again.
+pub fn sum(a: &Value, b: &Value) -> Result<Value, Overflow>
+    ensures { result_ok result ≡ sum_of (value_in (word_of a.now)) (value_in (word_of b.now)) }
+{
+    // Both are bounded, so that neither has the number of `?`.
+    let _ = a.known();
+    let _ = b.known();
+    a.add(*b)
+}
+
 /// Appends a value at the port `out`. A refusal leaves `into` as it was.
-pub(crate) fn give(value: &Value, into: &mut Vec<(PortNo, Value)>) -> Result<(), OutOfMemory>
+pub fn give(value: &Value, into: &mut Vec<(PortNo, Value)>) -> Result<(), OutOfMemory>
     ensures ok { OnOk result (into.new.items ≡ into.old.items ++ outputs (value.now ∷ [])) }
+    ensures by_word { OnOk result (into.new.items ≡ into.old.items ++ outputs (value_in (word_of value.now) ∷ [])) }
     ensures err { OnErr result (into.new.items ≡ into.old.items) }
 {
+    let _ = value.known();
     into.push((PortNo(0), *value)).map_err(AllocError::from)?;
     Ok(())
 }
 
 /// Appends these numbers. A refusal leaves `into` as it was.
-pub(crate) fn put(words: &[i64], into: &mut Vec<i64>) -> Result<(), OutOfMemory>
+pub fn put(words: &[i64], into: &mut Vec<i64>) -> Result<(), OutOfMemory>
     ensures ok { OnOk result (into.new.items ≡ into.old.items ++ words.now) }
     ensures err { OnErr result (into.new.items ≡ into.old.items) }
 {
