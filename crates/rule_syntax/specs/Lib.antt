@@ -10,3 +10,12 @@ pub mod Reading
 pub mod Scope
 pub mod RuleOf
 pub mod TextExamples
+pub mod Shown
+pub mod Terms
+pub mod Descent
+pub mod Between
+pub mod RulesRead
+pub mod TokenSteps
+pub mod FunctionWords
+pub mod AtomParts
+pub mod CellParts

@@ -1,0 +1,12 @@
+use Rattle.std.proofs.Common.{◌∙◌}
+use Rattle.rule_syntax.proofs.Places.{small_position}
+use Rattle.rule_syntax.specs.Shown.{cell_of}
+use Rattle.rule_syntax.specs.Scope.{same_offset, offset_of}
+use Rattle.rule_syntax.proofs.scope.offset_number.Goals as goal
+
+pub small-requires : goal.small-requires
+small-requires c =
+    small_position (same_offset (offset_of (cell_of c.args.cell.now).place)) c.args.names.now.offsets.items _ (rw c.deref.ensures.value at c.place_at.ensures) c.requires.offsets
+
+pub returns : goal.returns
+returns c = c.small.ensures ∙ (rw c.deref.ensures.value at c.place_at.ensures)

@@ -1,0 +1,135 @@
+-- What is known of a rule when it is read.
+use Rattle.std.specs.Prelude.{◌≡◌, ◌&&◌, not, ℕ, Bool, true, false, ⊤, Option, Some, None, List, [], ◌∷◌, ◌++◌, map, length, codes}
+use Rattle.std.specs.Bool.{then_some}
+use Rattle.std.specs.Borrow.{Bor}
+use Rattle.std.specs.List.{flat_map, list_all}
+use Rattle.std.specs.Option.{option_map, option_or, unwrap_or}
+use Rattle.std.specs.Str.{bytes_eq}
+use Rattle.quantity.specs.Bytes.{Bytes, is_empty}
+use Rattle.rule_syntax.specs.Expression.{Expr, expr_of, rule_of}
+use Rattle.rule_syntax.specs.Grammar.{at_out}
+use Rattle.rule_syntax.specs.Phrases.{Phrase, Assigned, Written}
+use Rattle.rule_syntax.specs.Reading.{Part, and_on, block, cell_phrase_before, given_in, number_before, question_before}
+use Rattle.rule_syntax.specs.RuleOf.{has_port_twice}
+use Rattle.rule_syntax.specs.Scope.{Names, Named, a_port, a_variable, named_by, named_in, numbered, port_number, rule_in, variable_number, has_right_sorts}
+use Rattle.rule_syntax.specs.Shown.{tokens_of}
+use Rattle.rule_syntax.specs.Sound.{a_number, is_sort, sort_of}
+use Rattle.rule_syntax.specs.Terms.{Misses}
+use Rattle.rule_syntax.specs.Tokens.{Token, word, mark, is_mark}
+use Rattle.rule_syntax.specs.declared.named.Kind.{Kind}
+use Rattle.rule_syntax.specs.declared.named.Kind.TheVariants.{Port, Variable}
+use Rattle.rule_syntax.specs.declared.named.NamedValue.{NamedValue}
+use Rattle.rule_syntax.specs.declared.named.NamedValues.{NamedValues}
+use Rattle.rule_syntax.specs.declared.node.Give.{Give}
+use Rattle.rule_syntax.specs.declared.node.SetVariable.{SetVariable}
+use Rattle.rule_syntax.specs.declared.assigned.NamedFront.{NamedFront}
+use Rattle.rule_syntax.specs.declared.token.Token as T
+use Rattle.rule_syntax.specs.declared.written.ReadRule.{ReadRule}
+
+-- a rule that was read is what a written rule is in a group, with all that it is judged by
+pub record IsRead (names : Names) (r : ReadRule) (w : Written) : Type 0 where
+  pub tree : rule_of r.tree ≡ rule_in names w
+  pub misses : Misses names r.lacks (named_by w)
+  pub repeats : r.port_twice ≡ has_port_twice w
+  pub sorted : r.right_sorts ≡ has_right_sorts (length names.offsets) (rule_in names w)
+
+-- the same, where the tokens are a rule
+abbrev pub AreRead : Names → Option Written → Option ReadRule → Type 0
+AreRead names None None = ⊤
+AreRead names None (Some r) = ⊥
+AreRead names (Some w) None = ⊥
+AreRead names (Some w) (Some r) = IsRead names r w
+
+-- ---- values for ports, or for variables
+
+abbrev pub mark_for : Kind → Bytes
+mark_for Port = codes "~"
+mark_for Variable = codes "$"
+
+abbrev pub number_for : Names → Kind → Bytes → ℕ
+number_for names Port w = unwrap_or (port_number names w) 0
+number_for names Variable w = unwrap_or (variable_number names w) 0
+
+abbrev pub named_for : Kind → Bytes → Named
+named_for Port w = a_port w
+named_for Variable w = a_variable w
+
+abbrev pub phrase_for : Bytes → Phrase → Assigned
+phrase_for w x = record { name = w; phrase = x }
+
+abbrev pub value_for : Names → Kind → Assigned → ℕ × Expr
+value_for names kind x = (number_for names kind x.name, numbered names x.phrase)
+
+abbrev pub names_for : Kind → Assigned → List Named
+names_for kind x = named_for kind x.name ∷ named_in x.phrase
+
+abbrev pub is_number : ℕ → ℕ × Expr → Bool
+is_number offsets v = is_sort a_number (sort_of v.1 offsets)
+
+abbrev pub words_of : List NamedValue → List Bytes
+words_of vs = map (λ (v : NamedValue). v.word.now) vs
+
+abbrev pub values_of : List NamedValue → List (ℕ × Expr)
+values_of vs = map (λ (v : NamedValue). (v.number, expr_of v.value)) vs
+
+abbrev pub give_of : NamedValue → Give
+give_of v = record { port = v.number; value = v.value }
+
+abbrev pub set_of : NamedValue → SetVariable
+set_of v = record { variable = v.number; value = v.value }
+
+-- values that were read are what assigned phrases are in a group
+pub record AreNamed (names : Names) (kind : Kind) (vs : NamedValues) (xs : List Assigned) : Type 0 where
+  pub words : words_of vs.list.items ≡ map (λ (x : Assigned). x.name) xs
+  pub values : values_of vs.list.items ≡ map (value_for names kind) xs
+  pub misses : Misses names vs.lacks (flat_map (names_for kind) xs)
+  pub sorted : vs.are_numbers ≡ list_all (is_number (length names.offsets)) (map (value_for names kind) xs)
+
+-- the same, where there are any
+abbrev pub AreValues : Names → Kind → Option (List Assigned) → Option NamedValues → Type 0
+AreValues names kind None None = ⊤
+AreValues names kind None (Some vs) = ⊥
+AreValues names kind (Some xs) None = ⊥
+AreValues names kind (Some xs) (Some vs) = AreNamed names kind vs xs
+
+-- parts of tokens, where there are any
+abbrev pub shown_parts : List (Bor (List T.Token)) → List (List Token)
+shown_parts parts = map (λ (p : Bor (List T.Token)). tokens_of p.now) parts
+
+abbrev pub some_parts : Option (List (List Token)) → Option (List (List Token))
+some_parts parts = and_on parts (λ ps. then_some (not (is_empty ps)) ps)
+
+-- a value is added where there is one
+abbrev pub IsAdded : Names → Kind → Option Assigned → NamedValues → NamedValues → Bool → Type 0
+IsAdded names kind None old new is = is ≡ false
+IsAdded names kind (Some x) old new is = (is ≡ true) × ((xs : List Assigned) → AreNamed names kind old xs → AreNamed names kind new (xs ++ x ∷ []))
+
+-- values and the tokens behind them are what was read at the front of tokens
+abbrev pub IsNamedFront : Names → Kind → Part (List Assigned) → Option NamedFront → Type 0
+IsNamedFront names kind None None = ⊤
+IsNamedFront names kind None (Some f) = ⊥
+IsNamedFront names kind (Some p) None = ⊥
+IsNamedFront names kind (Some p) (Some f) = AreNamed names kind f.values p.0 × (tokens_of f.rest.now ≡ p.1)
+
+-- a mark and a word, then :=, and the tokens behind them
+abbrev pub word_before : Bytes → List Token → Option (Bytes × List Token)
+word_before kind (mark m ∷ word w ∷ mark a ∷ ts) = then_some (bytes_eq m kind && bytes_eq a (codes ":=")) (w, ts)
+word_before kind ts = None
+
+-- := is the third token
+abbrev pub holds_sets : List Token → Bool
+holds_sets (d ∷ w ∷ a ∷ ts) = is_mark (codes ":=") a
+holds_sets ts = false
+
+-- values in a block, and a value that is none
+abbrev pub braced_value : List Token → Part (List Assigned)
+braced_value ts = and_on (block (codes "{") (codes "}") ts) (λ b. option_map (λ xs. (xs, b.1)) (given_in b.0))
+
+abbrev pub question_or_cell : List Token → Part Phrase
+question_or_cell ts = option_or (question_before ts) (cell_phrase_before ts)
+
+abbrev pub plain_before : List Token → Part Phrase
+plain_before ts = option_or (number_before ts) (question_or_cell ts)
+
+abbrev pub plain_value : List Token → Part (List Assigned)
+plain_value ts = option_map (λ x. (at_out x.0, x.1)) (plain_before ts)

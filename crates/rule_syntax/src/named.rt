@@ -1,0 +1,189 @@
+// Values for ports and variables, with numbers in the place of names.
+ghost use Rattle.std.specs.Prelude.{◌≡◌, [], ◌∷◌, ◌++◌, List, map, IfOk, OnOk};
+ghost use Rattle.std.specs.List.{list_any};
+ghost use Rattle.std.specs.Str.{bytes_eq};
+ghost use Rattle.quantity.specs.Bytes.{has_repeat};
+ghost use Rattle.rule_syntax.specs.Grammar.{at_out};
+ghost use Rattle.rule_syntax.specs.Phrases.{Assigned, Phrase};
+ghost use Rattle.rule_syntax.specs.RulesRead.{AreNamed, give_of, mark_for, named_for, number_for, set_of, phrase_for, words_of};
+ghost use Rattle.rule_syntax.specs.Shown.{AreFew, names_of, text_of};
+ghost use Rattle.rule_syntax.specs.Sound.{a_number, a_truth, is_sort};
+ghost use Rattle.rule_syntax.specs.Terms.{Misses, Stands, sort_or_none};
+ghost use Rattle.rule_syntax.specs.declared.named.NamedValue.{NamedValue as AnyValue};
+
+use crate::names::Names;
+use crate::node::{Give, Node, SetVariable};
+use crate::scope::{port_number, variable_number};
+use crate::term::{Lacks, Sort, Term};
+use crate::token::Mark;
+use quantity::OutOfMemory;
+use std::alloc::{AllocError, Global};
+
+/// What a value is for.
+#[derive(Clone, Copy, PartialEq, Eq, Debug)]
+pub(crate) enum Kind {
+    Port,
+    Variable,
+}
+
+impl Kind {
+    /// Whether this mark stands in front of the word.
+    pub(crate) fn is_marked(self, mark: Mark) -> bool
+        ensures { result ≡ bytes_eq (text_of mark) (mark_for self) }
+    {
+        match self {
+            Kind::Port => mark == Mark::Tilde,
+            Kind::Variable => mark == Mark::Dollar,
+        }
+    }
+
+    /// The number of the port or the variable; 0 where the group has none of this word.
+    fn number(self, names: &Names, word: &[u8]) -> u8
+        requires { AreFew (names_of names.now) }
+        ensures { result ≡ number_for (names_of names.now) self word.now }
+    {
+        match self {
+            Kind::Port => port_number(names, word).unwrap_or(0),
+            Kind::Variable => variable_number(names, word).unwrap_or(0),
+        }
+    }
+
+    /// Whether the group lacks this port or variable.
+    fn lacks(self, names: &Names, word: &[u8]) -> Lacks
+        requires { AreFew (names_of names.now) }
+        ensures { Misses (names_of names.now) result (named_for self word.now ∷ []) }
+    {
+        match self {
+            Kind::Port => Lacks::of_port(names, word),
+            Kind::Variable => Lacks::of_variable(names, word),
+        }
+    }
+}
+
+/// A value for a port or a variable of this word.
+#[derive(Drop)]
+pub(crate) struct NamedValue<'a> {
+    pub word: &'a [u8],
+    /// The port's or variable's number, or 0 where the group has none of this word.
+    pub number: u8,
+    pub value: Node,
+}
+
+/// Values for ports, or for variables, and what they are judged by.
+#[derive(Drop)]
+pub(crate) struct NamedValues<'a> {
+    pub list: Vec<NamedValue<'a>>,
+    pub lacks: Lacks,
+    pub are_numbers: bool,
+}
+
+impl<'a> NamedValues<'a> {
+    /// No values.
+    pub(crate) fn none(alloc: Global) -> NamedValues<'a>
+        ensures { (names kind : _) → AreNamed names kind result [] }
+    {
+        NamedValues {
+            list: Vec::new(alloc),
+            lacks: Lacks::nothing(),
+            are_numbers: true,
+        }
+    }
+
+    /// One value for the port `out`.
+    pub(crate) fn at_out(
+        alloc: Global,
+        names: &Names,
+        term: Term,
+    ) -> Result<NamedValues<'a>, OutOfMemory>
+        requires { AreFew (names_of names.now) }
+        ensures { IfOk result (λ values. (x : Phrase) → Stands (names_of names.now) term x → AreNamed (names_of names.now) Kind.Port values (at_out x)) }
+    {
+        let mut values = NamedValues::none(alloc);
+        values.add(names, Kind::Port, b"out".as_slice(), term)?;
+        Ok(values)
+    }
+
+    /// Puts a value behind the others.
+    pub(crate) fn add(
+        &mut self,
+        names: &Names,
+        kind: Kind,
+        word: &'a [u8],
+        term: Term,
+    ) -> Result<(), OutOfMemory>
+        requires { AreFew (names_of names.now) }
+        ensures { OnOk result ((xs : List Assigned) (x : Phrase) → AreNamed (names_of names.now) kind self.old xs → Stands (names_of names.now) term x → AreNamed (names_of names.now) kind self.new (xs ++ phrase_for word.now x ∷ [])) }
+    {
+        self.are_numbers &= is_number(&term);
+        self.lacks = self.lacks.and(kind.lacks(names, word)).and(term.lacks);
+        let value = NamedValue {
+            word,
+            number: kind.number(names, word),
+            value: term.node,
+        };
+        self.list.push(value).map_err(AllocError::from)?;
+        Ok(())
+    }
+}
+
+pub(crate) fn is_number(term: &Term) -> bool
+    ensures { result ≡ is_sort a_number (sort_or_none term.now.sort) }
+{
+    matches!(term.sort, Some(Sort::Number))
+}
+
+pub(crate) fn is_truth(term: &Term) -> bool
+    ensures { result ≡ is_sort a_truth (sort_or_none term.now.sort) }
+{
+    matches!(term.sort, Some(Sort::Truth))
+}
+
+/// Whether a word stands twice.
+// It recurs once for each value, and a value takes at least five of a rule's 4096 tokens.
+pub(crate) fn has_repeat(values: &[NamedValue<'_>]) -> bool
+    ensures { result ≡ has_repeat (words_of values.now) }
+{
+    let Some((first, rest)) = values.split_first() else {
+        return false;
+    };
+    is_among(rest, first.word) || has_repeat(rest)
+}
+
+fn is_among(values: &[NamedValue<'_>], word: &[u8]) -> bool
+    ensures { result ≡ list_any (λ (value : AnyValue). bytes_eq word.now value.word.now) values.now }
+{
+    values.iter().any(|value| word == value.word)
+}
+
+/// The values for ports, without their words.
+pub(crate) fn gives(alloc: Global, values: Vec<NamedValue<'_>>) -> Result<Vec<Give>, OutOfMemory>
+    ensures { IfOk result (λ gives. gives.items ≡ map give_of values.entry.items) }
+{
+    let mut gives = Vec::new(alloc);
+    for value in values {
+        let give = Give {
+            port: value.number,
+            value: value.value,
+        };
+        gives.push(give).map_err(AllocError::from)?;
+    }
+    Ok(gives)
+}
+
+/// The values for variables, without their words.
+pub(crate) fn sets(
+    alloc: Global,
+    values: Vec<NamedValue<'_>>,
+) -> Result<Vec<SetVariable>, OutOfMemory>
+    ensures { IfOk result (λ sets. sets.items ≡ map set_of values.entry.items) }
+{
+    let mut sets = Vec::new(alloc);
+    for value in values {
+        let set = SetVariable {
+            variable: value.number,
+            value: value.value,
+        };
+        sets.push(set).map_err(AllocError::from)?;
+    }
+    Ok(sets)
+}
