@@ -10,6 +10,7 @@ use std::process::Abort;
 
 mod expressions;
 mod rules;
+mod texts;
 
 // So many hundred-thousandths.
 fn raw(raw: i64) -> Value {
