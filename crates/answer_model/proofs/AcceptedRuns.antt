@@ -12,7 +12,7 @@ use Rattle.quantity.specs.declared.value.Value.TheVariants.{Undefined, Num}
 use Rattle.quantity.specs.Arithmetic.{IsBounded}
 use Rattle.quantity.specs.Bytes.{has_repeat}
 use Rattle.quantity.specs.Names.{is_name}
-use Rattle.rule_syntax.specs.Phrases.{out}
+use Rattle.rule_tree.specs.Phrases.{out}
 use Rattle.cell_grid.specs.Space.{cell_count, place_of}
 use Rattle.model_tree.specs.Tree.{Word, Group, Tree, Trees, coupled, cells, atomic, nil, cons, Leaf, atomic_leaf, cell_leaf, leaf_count, leaves_from, all_leaves_from, leaves, ins_of}
 use Rattle.model_tree.specs.Faces.{face_of_coupled, face_of_group}

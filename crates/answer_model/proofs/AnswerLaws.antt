@@ -1,8 +1,8 @@
 -- What holds of all answers, stage by stage.
 use Rattle.std.proofs.Common.{◌≡◌, ℕ, Bool, true, false, cond, ◌++◌, Option, Some, None, List, [], ◌∷◌, codes, arith, length, nat_lt, Result, Ok, Err, refl}
 use Rattle.quantity.specs.Bytes.{Bytes}
-use Rattle.rule_syntax.specs.declared.outcome.RuleStop.{RuleStop}
-use Rattle.rule_syntax.specs.declared.outcome.RuleStop.TheVariants.{NoTrueRule, Overflow, BadDelay}
+use Rattle.rule_tree.specs.declared.outcome.RuleStop.{RuleStop}
+use Rattle.rule_tree.specs.declared.outcome.RuleStop.TheVariants.{NoTrueRule, Overflow, BadDelay}
 use Rattle.room_edge.specs.Outside.{Folder}
 use Rattle.atomic_face.specs.declared.class.Class.{Class}
 use Rattle.model_tree.specs.Tree.{Word, Tree, ins_of}

@@ -22,8 +22,8 @@ use Rattle.source_text.specs.Lines.{Files, Line, lines_of, filled_lines}
 use Rattle.ma_lines.specs.declared.section.Entry.{Entry}
 use Rattle.ma_lines.specs.Sections.{Section}
 use Rattle.rule_syntax.specs.declared.refusal.RuleRefusal.{RuleRefusal}
-use Rattle.rule_syntax.specs.Expression.{Rule}
-use Rattle.rule_syntax.specs.Scope.{Names}
+use Rattle.rule_tree.specs.Expression.{Rule}
+use Rattle.rule_tree.specs.Scope.{Names}
 use Rattle.rule_syntax.specs.RuleOf.{rule_of, FindsTheGrammar}
 use Rattle.cell_grid.specs.Space.{Space, cell_count}
 use Rattle.cell_grid.specs.Initial.{Row, is_row, row_of, digit_value, digits_row, values_row, row_digits, row_values, map_file, cell_value, cell_line, cells_file, filled, with_row, with_cell, with_rows, with_map, with_cells}

@@ -8,13 +8,13 @@ use Rattle.std.proofs.lemmas.List.Elements.{All-nil, All-cons}
 use Rattle.quantity.specs.Bytes.{Bytes}
 use Rattle.rule_syntax.specs.declared.refusal.RuleRefusal.{RuleRefusal}
 use Rattle.rule_syntax.specs.declared.refusal.RuleRefusal.TheVariants.{BadRule, BadSort, NotANeighbour, TooLarge, UnknownVariable, UnknownNeighbourPort}
-use Rattle.rule_syntax.specs.Expression.{Rule}
-use Rattle.rule_syntax.specs.Phrases as P
-use Rattle.rule_syntax.specs.Phrases.{Phrase, Assigned, Written, Level, phrases}
+use Rattle.rule_tree.specs.Expression.{Rule}
+use Rattle.rule_tree.specs.Phrases as P
+use Rattle.rule_tree.specs.Phrases.{Phrase, Assigned, Written, Level, phrases}
 use Rattle.rule_syntax.specs.Tokens.{Token, tokens, words_in, is_large}
 use Rattle.rule_syntax.specs.Grammar.{IsPhrase, IsList, IsNumber, AreAssigned, IsValue, AreSets, IsDelay, IsRule}
 use Rattle.rule_syntax.specs.Reading.{written_rule}
-use Rattle.rule_syntax.specs.Scope.{Names, port_number, variable_number, named_by, is_no_neighbour, is_no_variable, is_no_port, numbered, all_numbered, rule_in, has_right_sorts}
+use Rattle.rule_tree.specs.Scope.{Names, port_number, variable_number, named_by, is_no_neighbour, is_no_variable, is_no_port, numbered, all_numbered, rule_in, has_right_sorts}
 use Rattle.rule_syntax.specs.RuleOf.{words_refused, unless, and_on, where_true, has_port_twice, judged, rule_of, FindsTheGrammar}
 use Rattle.run_model.specs.Bounds.{HasBoundedNumbers, HaveBoundedNumbers, IsBoundedPart, IsBoundedRule}
 use Rattle.answer_model.proofs.BoundedTexts.{unsigned_bounded, negated_bounded}

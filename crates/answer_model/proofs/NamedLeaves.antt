@@ -14,13 +14,13 @@ use Rattle.quantity.specs.Bytes.{Bytes, is_byte, is_among, words, has_repeat}
 use Rattle.quantity.specs.Digits.{has_length}
 use Rattle.quantity.specs.Names.{is_of_name, is_name}
 use Rattle.rule_syntax.specs.Tokens.{is_of_word}
-use Rattle.rule_syntax.specs.Phrases.{looked_up}
+use Rattle.rule_tree.specs.Phrases.{looked_up}
 use Rattle.source_text.specs.Lines.{Files}
 use Rattle.source_text.specs.Tuples.{NamedTuple, parts_of}
 use Rattle.ma_lines.specs.declared.section.Entry.{Entry}
 use Rattle.ma_lines.specs.Entries.{keeps_letters}
 use Rattle.ma_lines.specs.Sections.{Section}
-use Rattle.rule_syntax.specs.Meaning.{coordinates}
+use Rattle.rule_tree.specs.Meaning.{coordinates}
 use Rattle.cell_grid.specs.Space.{Space, cell_count, plane_count, dims_of, place_of}
 use Rattle.cell_grid.specs.Places.{cell_in}
 use Rattle.atomic_face.specs.declared.class.Class.{Class}

@@ -7,9 +7,9 @@ use Rattle.quantity.specs.Arithmetic.{same_value}
 use Rattle.quantity.specs.Bytes.{Bytes}
 use Rattle.quantity.specs.Times.{time_text}
 use Rattle.quantity.specs.ValueTexts.{text5}
-use Rattle.rule_syntax.specs.declared.outcome.RuleStop.{RuleStop}
-use Rattle.rule_syntax.specs.declared.outcome.RuleStop.TheVariants.{NoTrueRule, Overflow, BadDelay}
-use Rattle.rule_syntax.specs.Meaning.{whole}
+use Rattle.rule_tree.specs.declared.outcome.RuleStop.{RuleStop}
+use Rattle.rule_tree.specs.declared.outcome.RuleStop.TheVariants.{NoTrueRule, Overflow, BadDelay}
+use Rattle.rule_tree.specs.Meaning.{whole}
 use Rattle.model_tree.specs.Tree.{Tree, leaves, leaf_count}
 use Rattle.run_model.specs.Run.{Event, PortRecord, Cycle, Verdict, done, too_many, stop}
 use Rattle.text_forms.specs.LogLine.{leaf_text}

@@ -7,8 +7,8 @@ use Rattle.std.proofs.Math.Nat.{div-one, mod-eq_of_lt, mod_self}
 use Rattle.std.proofs.lemmas.Bool.{cases_eq}
 use Rattle.std.proofs.lemmas.Bool.Decides.{nat_tests}
 use Rattle.std.proofs.lemmas.Int.{ints}
-use Rattle.rule_syntax.specs.declared.node.Count.TheVariants.{Ones}
-use Rattle.rule_syntax.specs.Meaning.{Sight, outs, counted, value_at}
+use Rattle.rule_tree.specs.declared.node.Count.TheVariants.{Ones}
+use Rattle.rule_tree.specs.Meaning.{Sight, outs, counted, value_at}
 use Rattle.cell_grid.specs.declared.grid.Border.TheVariants.{Wrapped}
 use Rattle.cell_grid.specs.Space.{Space, neighbour}
 use Rattle.model_tree.specs.declared.group.DelayKind.TheVariants.{Transport}

@@ -3,7 +3,7 @@ use Rattle.std.proofs.Common.{◌≡◌, ℕ, ◌+◌, ◌<◌, List, [], ◌∷
 use Rattle.std.proofs.lemmas.List.{map-set, get_or-map, set-get_or}
 use Rattle.quantity.specs.Arithmetic.{same_value}
 use Rattle.quantity.specs.declared.value.Value.{Value}
-use Rattle.rule_syntax.specs.Meaning.{whole, how_many}
+use Rattle.rule_tree.specs.Meaning.{whole, how_many}
 use mir.Val.{bool_byte}
 use Rattle.run_model.specs.CellStep.{PortState, CellState}
 use Rattle.cell_engine.specs.declared.port.Port.{Port}

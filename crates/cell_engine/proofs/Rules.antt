@@ -5,10 +5,10 @@ use Rattle.std.proofs.lemmas.Bool.Decides.{nat_tests}
 use Rattle.std.proofs.lemmas.Int.{ints}
 use Rattle.quantity.specs.Arithmetic.{is_zero}
 use Rattle.quantity.specs.Truth.{tri_of}
-use Rattle.rule_syntax.specs.declared.outcome.Answer.TheVariants.{Logic}
-use Rattle.rule_syntax.specs.declared.node.Count.TheVariants.{Ones}
-use Rattle.rule_syntax.specs.Meaning.{Sight, outs, whole, counted, meaning, truth_in}
-use Rattle.rule_syntax.specs.Chosen.{Given, chosen, given, delay_of, with_delay, if_true, unless_overflow}
+use Rattle.rule_tree.specs.declared.outcome.Answer.TheVariants.{Logic}
+use Rattle.rule_tree.specs.declared.node.Count.TheVariants.{Ones}
+use Rattle.rule_tree.specs.Meaning.{Sight, outs, whole, counted, meaning, truth_in}
+use Rattle.rule_tree.specs.Chosen.{Given, chosen, given, delay_of, with_delay, if_true, unless_overflow}
 use Rattle.cell_engine.specs.declared.plain.PlainRule.{PlainRule}
 use Rattle.cell_engine.specs.Ring.{ones_condition, ring_rule}
 use Rattle.cell_engine.specs.Beside.{fits, first_fit}

@@ -1,7 +1,7 @@
 -- The ring in shorter words: the cells beside a cell, how many are 1, and the rule that is true.
 use Rattle.std.specs.Prelude.{ℕ, ◌+◌, ◌-◌, Bool, true, ◌==◌, Option, Some, None, List, [], ◌∷◌, map, if◌then◌else◌}
 use Rattle.quantity.specs.declared.value.Value.{Value}
-use Rattle.rule_syntax.specs.Meaning.{whole, value_at, how_many}
+use Rattle.rule_tree.specs.Meaning.{whole, value_at, how_many}
 use Rattle.model_tree.specs.declared.group.DelayKind.TheVariants.{Transport}
 use Rattle.run_model.specs.CellStep.{PortState, CellState, initial_port, took}
 use Rattle.cell_engine.specs.declared.plain.PlainRule.{PlainRule}

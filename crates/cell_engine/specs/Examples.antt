@@ -1,6 +1,6 @@
 -- The run of a ring of three cells.
 use Rattle.std.specs.Prelude.{◌≡◌, Some, None, [], ◌∷◌, length, codes}
-use Rattle.rule_syntax.specs.Meaning.{whole}
+use Rattle.rule_tree.specs.Meaning.{whole}
 use Rattle.run_model.specs.Run.{run}
 use Rattle.cell_engine.specs.Ring.{Ring, ring_tree}
 

@@ -4,10 +4,10 @@ use Rattle.quantity.specs.declared.place.Offset.{Offset}
 use Rattle.quantity.specs.declared.truth.Tri.TheVariants.{True}
 use Rattle.quantity.specs.declared.value.Compare.TheVariants.{Equal}
 use Rattle.quantity.specs.declared.value.Value.{Value}
-use Rattle.rule_syntax.specs.declared.node.Binary.TheVariants.{Cmp}
-use Rattle.rule_syntax.specs.declared.node.Count.TheVariants.{Ones}
-use Rattle.rule_syntax.specs.Expression.{Rule, Expr, number, truth, two, counted}
-use Rattle.rule_syntax.specs.Meaning.{whole}
+use Rattle.rule_tree.specs.declared.node.Binary.TheVariants.{Cmp}
+use Rattle.rule_tree.specs.declared.node.Count.TheVariants.{Ones}
+use Rattle.rule_tree.specs.Expression.{Rule, Expr, number, truth, two, counted}
+use Rattle.rule_tree.specs.Meaning.{whole}
 use Rattle.cell_grid.specs.declared.grid.Border.TheVariants.{Wrapped}
 use Rattle.model_tree.specs.declared.group.DelayKind.TheVariants.{Transport}
 use Rattle.model_tree.specs.Tree.{Word, Group, Tree, coupled, cells, cons, nil}

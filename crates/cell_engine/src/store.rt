@@ -2,7 +2,7 @@
 ghost use Rattle.std.specs.Prelude.{◌≡◌, ℕ, ◌+◌, ◌<◌, ◌≤◌, [], ◌∷◌, length, map, take, OnOk, OnErr, IfOk, IsTrue, Ok, Some, slice_set, slice_index_or};
 ghost use Rattle.quantity.specs.declared.value.Value.{Value as AnyValue};
 ghost use Rattle.atomic_face.specs.Classes.{out_port};
-ghost use Rattle.rule_syntax.specs.Meaning.{whole};
+ghost use Rattle.rule_tree.specs.Meaning.{whole};
 ghost use Rattle.run_model.specs.CellStep.{initial_cell, cell_next, cell_emitted, cell_output, least};
 ghost use Rattle.run_model.specs.Cycle.{next_of_all};
 ghost use Rattle.cell_engine.specs.Beside as beside;

@@ -11,7 +11,7 @@ use Rattle.quantity.specs.declared.value.Value.TheVariants.{Undefined}
 use Rattle.quantity.specs.Bytes.{Bytes, words, has_repeat, is_among}
 use Rattle.quantity.specs.Digits.{has_length, is_between}
 use Rattle.quantity.specs.Literals.{value_in}
-use Rattle.rule_syntax.specs.Phrases.{out}
+use Rattle.rule_tree.specs.Phrases.{out}
 use Rattle.ma_lines.specs.Sections.{Section}
 use Rattle.model_text.specs.Keyed.{value_of}
 use Rattle.model_text.specs.Walk.{groups}

@@ -13,9 +13,9 @@ use Rattle.std.specs.Result.{result_ok}
 use Rattle.std.specs.Str.{bytes_eq}
 use Rattle.quantity.specs.Bytes.{is_empty, has_repeat}
 use Rattle.rule_syntax.specs.declared.refusal.RuleRefusal.{RuleRefusal}
-use Rattle.rule_syntax.specs.Phrases.{out}
-use Rattle.rule_syntax.specs.Expression.{Rule}
-use Rattle.rule_syntax.specs.Scope.{Names, extent_of, is_sound}
+use Rattle.rule_tree.specs.Phrases.{out}
+use Rattle.rule_tree.specs.Expression.{Rule}
+use Rattle.rule_tree.specs.Scope.{Names, extent_of, is_sound}
 use Rattle.rule_syntax.specs.RuleOf.{rule_of}
 use Rattle.cell_grid.specs.Space.{cell_count}
 use Rattle.source_text.specs.Lines.{Files}

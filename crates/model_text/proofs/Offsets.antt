@@ -6,7 +6,7 @@ use Rattle.std.proofs.lemmas.Bool.{and_parts}
 use Rattle.quantity.specs.declared.place.Offset.{Offset}
 use Rattle.cell_grid.specs.Space.{Space, dims_of}
 use Rattle.cell_grid.specs.Places.{is_near, is_offset}
-use Rattle.rule_syntax.specs.Scope.{offset_of, same_offset}
+use Rattle.rule_tree.specs.Scope.{offset_of, same_offset}
 use Rattle.ma_lines.specs.Sections.{Section}
 use Rattle.model_tree.specs.Sound.{is_near_offset, offsets_differ}
 use Rattle.model_text.specs.Keyed.{entries_of}

@@ -8,10 +8,10 @@ use Rattle.quantity.specs.declared.value.Value.{Value}
 use Rattle.quantity.specs.declared.value.Value.TheVariants.{Undefined, Num}
 use Rattle.quantity.specs.declared.value.Compare.TheVariants.{Equal}
 use Rattle.quantity.specs.declared.truth.Tri.TheVariants.{True}
-use Rattle.rule_syntax.specs.declared.node.Binary.TheVariants.{Cmp}
-use Rattle.rule_syntax.specs.declared.node.Count.TheVariants.{Ones}
-use Rattle.rule_syntax.specs.Expression.{Expr, Rule, number, truth, counted, two}
-use Rattle.rule_syntax.specs.Meaning.{whole}
+use Rattle.rule_tree.specs.declared.node.Binary.TheVariants.{Cmp}
+use Rattle.rule_tree.specs.declared.node.Count.TheVariants.{Ones}
+use Rattle.rule_tree.specs.Expression.{Expr, Rule, number, truth, counted, two}
+use Rattle.rule_tree.specs.Meaning.{whole}
 use Rattle.cell_grid.specs.declared.grid.Border.TheVariants.{Wrapped}
 use Rattle.atomic_face.specs.declared.class.Class.{Class}
 use Rattle.atomic_face.specs.declared.class.Class.TheVariants.{Queue, Generator, Cpu, Counter, Table}

@@ -2,7 +2,7 @@
 use Rattle.std.specs.Prelude.{◌≡◌, ℕ, Option, Some, None, List, [], ◌∷◌, map, negsuc, if◌then◌else◌, codes}
 use Rattle.std.specs.Str.{bytes_eq}
 use Rattle.quantity.specs.declared.value.Value.TheVariants.{Num}
-use Rattle.rule_syntax.specs.Meaning.{whole}
+use Rattle.rule_tree.specs.Meaning.{whole}
 use Rattle.quantity.specs.Bytes.{Bytes}
 use Rattle.source_text.specs.Lines.{Files}
 use Rattle.source_text.specs.Examples.{file}

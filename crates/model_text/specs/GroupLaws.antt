@@ -2,7 +2,7 @@
 use Rattle.std.specs.Prelude.{◌≡◌, ◌≤◌, ◌&&◌, nat_lt, true, false, None, List, ◌∷◌, map, length, codes}
 use Rattle.std.specs.List.{list_all, filter_map, AllByRecursion}
 use Rattle.quantity.specs.Bytes.{has_repeat}
-use Rattle.rule_syntax.specs.Phrases.{out}
+use Rattle.rule_tree.specs.Phrases.{out}
 use Rattle.cell_grid.specs.Space.{cell_count}
 use Rattle.source_text.specs.Lines.{Files}
 use Rattle.ma_lines.specs.Sections.{Section}

@@ -8,7 +8,7 @@ use Rattle.model_text.specs.declared.kind.Kind.TheVariants.{DuplicateKey, Missin
 use Rattle.model_text.specs.Refusals.{Refusal, refusal}
 use Rattle.ma_lines.specs.declared.section.Entry.{Entry}
 use Rattle.ma_lines.specs.Sections.{Section}
-use Rattle.rule_syntax.specs.Phrases.{looked_up}
+use Rattle.rule_tree.specs.Phrases.{looked_up}
 use Rattle.atomic_face.specs.declared.class.Class.{Class}
 use Rattle.atomic_face.specs.ClassNames.{class_named}
 use Rattle.atomic_face.specs.Settings.{once_keys}

@@ -18,7 +18,7 @@ use Rattle.model_text.specs.declared.kind.Kind.TheVariants.{UnknownPort}
 use Rattle.model_text.specs.Refusals.{Refusal, refusal, kind_of_link}
 use Rattle.ma_lines.specs.declared.section.Entry.{Entry}
 use Rattle.ma_lines.specs.Sections.{Section}
-use Rattle.rule_syntax.specs.Phrases.{out}
+use Rattle.rule_tree.specs.Phrases.{out}
 use Rattle.model_text.specs.Keyed.{entries_of, texts_of, Item, least}
 use Rattle.model_text.specs.Walk.{is_group, children_of, name_of, is_atomic, section_of, reached}
 use Rattle.model_text.specs.Forms.{ends_of}

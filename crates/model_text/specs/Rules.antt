@@ -6,7 +6,7 @@ use Rattle.std.specs.List.{filter_map, flat_map, position}
 use Rattle.std.specs.Option.{option_map, is_some, unwrap_or}
 use Rattle.std.specs.Result.{result_ok}
 use Rattle.std.specs.Str.{bytes_eq}
-use Rattle.rule_syntax.specs.Expression.{Rule}
+use Rattle.rule_tree.specs.Expression.{Rule}
 use Rattle.cell_grid.specs.Region.{Region}
 use Rattle.cell_grid.specs.Space.{dims_of}
 use Rattle.model_tree.specs.Pull.{distinct}
@@ -16,7 +16,7 @@ use Rattle.model_text.specs.Refusals.{Refusal, refusal, kind_of_rule}
 use Rattle.ma_lines.specs.declared.section.Entry.{Entry}
 use Rattle.ma_lines.specs.Sections.{Section}
 use Rattle.rule_syntax.specs.declared.refusal.RuleRefusal.{RuleRefusal}
-use Rattle.rule_syntax.specs.Scope.{Names}
+use Rattle.rule_tree.specs.Scope.{Names}
 use Rattle.rule_syntax.specs.RuleOf.{rule_of}
 use Rattle.model_text.specs.Keyed.{section_named, entries_of, texts_of, Item, least}
 use Rattle.model_text.specs.Walk.{groups}

@@ -15,7 +15,7 @@ use Rattle.model_text.specs.declared.kind.Kind.TheVariants.{BadValue, BadZone, B
 use Rattle.model_text.specs.Refusals.{Refusal, refusal}
 use Rattle.ma_lines.specs.declared.section.Entry.{Entry}
 use Rattle.ma_lines.specs.Sections.{Section}
-use Rattle.rule_syntax.specs.Scope.{offset_of, same_offset}
+use Rattle.rule_tree.specs.Scope.{offset_of, same_offset}
 use Rattle.model_text.specs.Keyed.{entries_of, value_of, is_value, least, at_entry, each_entry}
 use Rattle.model_text.specs.Walk.{groups}
 use Rattle.model_text.specs.Forms.{tuples_of, PortRuleText, port_rule_text}

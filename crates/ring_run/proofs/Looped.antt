@@ -8,7 +8,7 @@ use Rattle.std.proofs.lemmas.Grind.{flat_map-append}
 use Rattle.std.proofs.lemmas.Bool.{cases_eq}
 use Rattle.quantity.specs.declared.value.Value.{Value}
 use Rattle.quantity.specs.Arithmetic.{same_value}
-use Rattle.rule_syntax.specs.Meaning.{whole, how_many, value_at}
+use Rattle.rule_tree.specs.Meaning.{whole, how_many, value_at}
 use Rattle.model_tree.specs.declared.group.DelayKind.TheVariants.{Transport}
 use Rattle.run_model.specs.CellStep.{PortState, CellState, took}
 use Rattle.cell_engine.specs.declared.plain.PlainRule.{PlainRule}

@@ -1,7 +1,7 @@
 -- A ring's text that is read, and texts that are not.
 use Rattle.std.specs.Prelude.{◌≡◌, ◌++◌, Some, None, [], ◌∷◌, codes, replicate}
 use Rattle.quantity.specs.Bytes.{Bytes}
-use Rattle.rule_syntax.specs.Meaning.{whole}
+use Rattle.rule_tree.specs.Meaning.{whole}
 use Rattle.cell_engine.specs.Ring.{Ring}
 use Rattle.ring_text.specs.Reading.{ring_in}
 

@@ -7,7 +7,7 @@ use Rattle.quantity.specs.declared.value.Value.{Value}
 use Rattle.quantity.specs.Bytes.{Bytes}
 use Rattle.quantity.specs.Digits.{is_between, has_length, are_digits, number_in}
 use Rattle.quantity.specs.Names.{is_name}
-use Rattle.rule_syntax.specs.Meaning.{whole}
+use Rattle.rule_tree.specs.Meaning.{whole}
 use Rattle.model_tree.specs.Tree.{Word}
 use Rattle.cell_engine.specs.declared.plain.PlainRule.{PlainRule}
 use Rattle.cell_engine.specs.Ring.{Ring}

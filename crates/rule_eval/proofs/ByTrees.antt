@@ -6,11 +6,11 @@ use Rattle.std.specs.declared.result.Result.{Result}
 use Rattle.quantity.specs.declared.truth.Tri.{Tri}
 use Rattle.quantity.specs.declared.truth.Tri.TheVariants.{True, False, Undef}
 use Rattle.quantity.specs.declared.value.Value.{Value}
-use Rattle.rule_syntax.specs.declared.outcome.Answer.{Answer}
-use Rattle.rule_syntax.specs.declared.outcome.RuleStop.{RuleStop}
-use Rattle.rule_syntax.specs.Expression.{Expr, Rule}
-use Rattle.rule_syntax.specs.Meaning.{Sight, number_in, truth_in, meaning}
-use Rattle.rule_syntax.specs.Chosen.{Chosen, unless_overflow, after, with_delay, delay_of, if_true, values_of, variables_after, given, chosen}
+use Rattle.rule_tree.specs.declared.outcome.Answer.{Answer}
+use Rattle.rule_tree.specs.declared.outcome.RuleStop.{RuleStop}
+use Rattle.rule_tree.specs.Expression.{Expr, Rule}
+use Rattle.rule_tree.specs.Meaning.{Sight, number_in, truth_in, meaning}
+use Rattle.rule_tree.specs.Chosen.{Chosen, unless_overflow, after, with_delay, delay_of, if_true, values_of, variables_after, given, chosen}
 use Rattle.rule_eval.specs.declared.given.Given.{Given}
 use Rattle.rule_eval.specs.Machine.{pushed}
 use Rattle.rule_eval.specs.Code.{code_of}

@@ -1,8 +1,8 @@
 -- Room on the stack for the rest of code.
 use Rattle.std.proofs.Common.{◌≡◌, ℕ, ◌+◌, ◌<◌, ◌≤◌, List, [], ◌∷◌, ◌++◌, length, map, drop, get_or, max, refl, sym, subst, ap, arith, length-append}
 use Rattle.std.proofs.Math.Nat.{le-max_left, le-max_right, max-le}
-use Rattle.rule_syntax.specs.Expression as E
-use Rattle.rule_syntax.specs.Expression.{Expr, Exprs, Rule}
+use Rattle.rule_tree.specs.Expression as E
+use Rattle.rule_tree.specs.Expression.{Expr, Exprs, Rule}
 use Rattle.rule_eval.specs.declared.code.Op.{Op}
 use Rattle.rule_eval.specs.declared.code.Op.TheVariants.{Number, Truth, Neighbour, Variable, Now, PortValue, Counted, One, Two, Call}
 use Rattle.rule_eval.specs.Code.{code_of, codes_of as codes_of_all, count_of}

@@ -4,9 +4,9 @@ use Rattle.std.specs.declared.result.Result.{Result}
 use Rattle.std.specs.Prelude.{pos, negsuc, ◌&&◌, ◌==◌, ◌%◌, ◌/◌, nat_le, Bool, true, false, if◌then◌else◌}
 use Rattle.quantity.specs.declared.value.Value.{Value}
 use Rattle.quantity.specs.declared.value.Value.TheVariants.{Undefined, Num}
-use Rattle.rule_syntax.specs.declared.outcome.RuleStop.{RuleStop}
-use Rattle.rule_syntax.specs.Meaning.{Sight}
-use Rattle.rule_syntax.specs.Chosen.{after, delay_of}
+use Rattle.rule_tree.specs.declared.outcome.RuleStop.{RuleStop}
+use Rattle.rule_tree.specs.Meaning.{Sight}
+use Rattle.rule_tree.specs.Chosen.{after, delay_of}
 use Rattle.rule_eval.specs.declared.numbered.NumberedCode.{NumberedCode}
 use Rattle.rule_eval.specs.declared.given.Given.{Given}
 use Rattle.rule_eval.specs.Seen.{whole_number_in}

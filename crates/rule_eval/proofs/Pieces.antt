@@ -12,7 +12,7 @@ use Rattle.std.proofs.lemmas.Option.{unwrap_or-slice_get}
 use Rattle.quantity.specs.declared.value.Value.{Value}
 use Rattle.quantity.specs.declared.value.Value.TheVariants.{Undefined, Num}
 use Rattle.quantity.specs.Arithmetic.{same_value}
-use Rattle.rule_syntax.specs.Meaning.{value_at, how_many, whole, state_count}
+use Rattle.rule_tree.specs.Meaning.{value_at, how_many, whole, state_count}
 use Rattle.rule_eval.specs.Seen.{piece}
 
 -- the value at a place of a piece

@@ -3,7 +3,7 @@ use Rattle.std.proofs.Common.{◌≡◌, ℕ, ◌+◌, ◌-◌, ◌<◌, ◌≤�
 use Rattle.std.proofs.lemmas.Bool.{cases_lt}
 use Rattle.std.proofs.lemmas.List.{reverse-reverse, length-reverse, reverse-append, take-append-drop, length-drop, take_all, drop_all}
 use Rattle.std.proofs.Math.Seq.{take-append_seam, drop-append_seam, drop-cons}
-use Rattle.rule_syntax.specs.declared.outcome.Answer.{Answer}
+use Rattle.rule_tree.specs.declared.outcome.Answer.{Answer}
 use Rattle.rule_eval.specs.Machine.{pushed}
 
 pub reverse-snoc : (xs : List Answer) (x : Answer) → reverse (xs ++ x ∷ []) ≡ x ∷ reverse xs

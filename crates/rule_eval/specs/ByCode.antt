@@ -5,11 +5,11 @@ use Rattle.std.specs.declared.result.Result.TheVariants.{Ok, Err}
 use Rattle.quantity.specs.declared.truth.Tri.{Tri}
 use Rattle.quantity.specs.declared.truth.Tri.TheVariants.{True, False, Undef}
 use Rattle.quantity.specs.declared.value.Value.{Value}
-use Rattle.rule_syntax.specs.declared.outcome.Answer.{Answer}
-use Rattle.rule_syntax.specs.declared.outcome.RuleStop.{RuleStop}
-use Rattle.rule_syntax.specs.declared.outcome.RuleStop.TheVariants.{NoTrueRule, Overflow, BadDelay}
-use Rattle.rule_syntax.specs.Meaning.{Sight, number_in, truth_in}
-use Rattle.rule_syntax.specs.Chosen.{after, delay_of}
+use Rattle.rule_tree.specs.declared.outcome.Answer.{Answer}
+use Rattle.rule_tree.specs.declared.outcome.RuleStop.{RuleStop}
+use Rattle.rule_tree.specs.declared.outcome.RuleStop.TheVariants.{NoTrueRule, Overflow, BadDelay}
+use Rattle.rule_tree.specs.Meaning.{Sight, number_in, truth_in}
+use Rattle.rule_tree.specs.Chosen.{after, delay_of}
 use Rattle.rule_eval.specs.declared.code.Op.{Op}
 use Rattle.rule_eval.specs.Ran.{answer_of}
 use Rattle.rule_eval.specs.RuleCodes.{Codes}

@@ -3,9 +3,9 @@ use Rattle.std.specs.Prelude.{◌≡◌, ℕ, Option, Some, None, ◌==◌, if�
 use Rattle.std.specs.declared.result.Result.{Result}
 use Rattle.std.specs.declared.result.Result.TheVariants.{Ok, Err}
 use Rattle.quantity.specs.declared.value.Value.{Value}
-use Rattle.rule_syntax.specs.declared.outcome.RuleStop.{RuleStop}
-use Rattle.rule_syntax.specs.Chosen as rules
-use Rattle.rule_syntax.specs.Chosen.{Chosen}
+use Rattle.rule_tree.specs.declared.outcome.RuleStop.{RuleStop}
+use Rattle.rule_tree.specs.Chosen as rules
+use Rattle.rule_tree.specs.Chosen.{Chosen}
 use Rattle.rule_eval.specs.ByCode.{Made, Outcome}
 use Rattle.rule_eval.specs.declared.given.Given.{Given}
 

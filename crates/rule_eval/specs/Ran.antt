@@ -3,11 +3,11 @@ use Rattle.std.specs.Prelude.{Option, Some, None, List, [], ◌∷◌}
 use Rattle.std.specs.declared.result.Result.{Result}
 use Rattle.std.specs.declared.result.Result.TheVariants.{Ok, Err}
 use Rattle.quantity.specs.declared.value.Value.TheVariants.{Undefined}
-use Rattle.rule_syntax.specs.declared.outcome.Answer.{Answer}
-use Rattle.rule_syntax.specs.declared.outcome.Answer.TheVariants.{Num}
-use Rattle.rule_syntax.specs.declared.outcome.RuleStop.{RuleStop}
-use Rattle.rule_syntax.specs.declared.outcome.RuleStop.TheVariants.{Overflow}
-use Rattle.rule_syntax.specs.Meaning.{Sight}
+use Rattle.rule_tree.specs.declared.outcome.Answer.{Answer}
+use Rattle.rule_tree.specs.declared.outcome.Answer.TheVariants.{Num}
+use Rattle.rule_tree.specs.declared.outcome.RuleStop.{RuleStop}
+use Rattle.rule_tree.specs.declared.outcome.RuleStop.TheVariants.{Overflow}
+use Rattle.rule_tree.specs.Meaning.{Sight}
 use Rattle.rule_eval.specs.declared.code.Op.{Op}
 use Rattle.rule_eval.specs.Machine.{exec}
 

@@ -1,7 +1,7 @@
 -- The codes of a rule, and what they answer.
 use Rattle.std.specs.Prelude.{ℕ, ◌+◌, max, List, [], ◌∷◌, map}
-use Rattle.rule_syntax.specs.Expression as E
-use Rattle.rule_syntax.specs.Expression.{Expr, Exprs, Rule}
+use Rattle.rule_tree.specs.Expression as E
+use Rattle.rule_tree.specs.Expression.{Expr, Exprs, Rule}
 use Rattle.rule_eval.specs.declared.code.Op.{Op}
 use Rattle.rule_eval.specs.Code.{code_of}
 use Rattle.rule_eval.specs.Depth.{depth_of}

@@ -3,7 +3,7 @@ use Rattle.std.specs.Prelude.{◌≡◌, ◌≤◌, ℕ, ◌+◌, ◌*◌, ◌/�
 use Rattle.std.specs.List.{range_with_len}
 use Rattle.quantity.specs.declared.value.Value.{Value}
 use Rattle.quantity.specs.declared.value.Value.TheVariants.{Undefined, Num}
-use Rattle.rule_syntax.specs.Meaning.{Sight}
+use Rattle.rule_tree.specs.Meaning.{Sight}
 use Rattle.rule_eval.specs.declared.view.View.{View}
 
 -- the ports of a neighbour: out and the further ones

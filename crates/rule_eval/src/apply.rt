@@ -4,13 +4,13 @@ ghost use Rattle.std.specs.Result.{result_ok};
 ghost use Rattle.quantity.specs.declared.value.Value.{Value as AnyValue};
 ghost use Rattle.quantity.specs.Arithmetic.{test_of, is_even, is_odd, is_whole};
 ghost use Rattle.quantity.specs.Truth.{tri_of};
-ghost use Rattle.rule_syntax.specs.Meaning.{Sight, number_in, truth_in, as_answer, one_meaning, two_meaning, by_truth, is_undefined, call_meaning};
+ghost use Rattle.rule_tree.specs.Meaning.{Sight, number_in, truth_in, as_answer, one_meaning, two_meaning, by_truth, is_undefined, call_meaning};
 ghost use Rattle.rule_eval.specs.Seen.{IsView, seen};
 
 use crate::seen::{cell_position, state_count};
 use crate::view::View;
 use quantity::{Overflow, Tri, Value};
-use rule_syntax::{Answer, Binary, Function, Unary};
+use rule_tree::{Answer, Binary, Function, Unary};
 
 pub(crate) fn number_in(answer: Answer) -> Value
     ensures { result ≡ number_in answer }

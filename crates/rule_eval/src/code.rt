@@ -1,10 +1,10 @@
 // Postfix code of expressions.
 ghost use Rattle.std.specs.Prelude.{◌≡◌, [], ◌∷◌, ◌++◌, OnOk, IfOk};
 ghost use Rattle.rule_eval.specs.Code.{code_of, codes_of_nodes};
-ghost use Rattle.rule_syntax.specs.Expression.{expr_of};
+ghost use Rattle.rule_tree.specs.Expression.{expr_of};
 
 use quantity::{OutOfMemory, Tri, Value};
-use rule_syntax::{Binary, Count, Function, Node, Unary};
+use rule_tree::{Binary, Count, Function, Node, Unary};
 use std::alloc::{AllocError, Global};
 
 /// One step on a stack of answers, the topmost last: operands are taken off, and the answer is put on.

@@ -1,7 +1,7 @@
 // Evaluation of rules on a stack.
 ghost use Rattle.std.specs.Prelude.{◌≡◌, ◌≤◌, List, All, map, length, vec_capacity, slice_set};
-ghost use Rattle.rule_syntax.specs.Expression.{Rule};
-ghost use Rattle.rule_syntax.specs.Chosen.{chosen};
+ghost use Rattle.rule_tree.specs.Expression.{Rule};
+ghost use Rattle.rule_tree.specs.Chosen.{chosen};
 ghost use Rattle.rule_eval.specs.Seen.{IsView, seen, sight_of};
 ghost use Rattle.rule_eval.specs.Depth.{depth_of};
 ghost use Rattle.rule_eval.specs.RuleCodes.{codes_of, deepest, rule_depth};
@@ -19,7 +19,7 @@ use crate::seen::whole_number;
 use crate::stack::Stack;
 use crate::view::View;
 use quantity::{Time, Tri, Value};
-use rule_syntax::{Answer, RuleStop};
+use rule_tree::{Answer, RuleStop};
 
 /// What the first true rule gives over a view, by port, and its delay; `changed` then holds the variables after
 /// its sets. Without a true rule, where an evaluated part is too large, and where the delay is no whole number of

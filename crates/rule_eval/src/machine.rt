@@ -1,7 +1,7 @@
 // The steps of postfix code on a stack of answers, and code as a whole.
 ghost use Rattle.std.specs.Prelude.{◌≡◌, ◌+◌, ◌-◌, ◌<◌, ◌≤◌, List, [], ◌∷◌, Some, None, MatchOption, MatchResult, OnOk, reverse, take, drop, vec_len, vec_capacity};
 ghost use Rattle.quantity.specs.declared.value.Value.{Value as AnyValue};
-ghost use Rattle.rule_syntax.specs.Meaning.{one_meaning, two_meaning, call_meaning};
+ghost use Rattle.rule_tree.specs.Meaning.{one_meaning, two_meaning, call_meaning};
 ghost use Rattle.rule_eval.specs.Seen.{IsView, seen};
 ghost use Rattle.rule_eval.specs.Machine.{pushed, on_top, act};
 ghost use Rattle.rule_eval.specs.Depth.{height_after, depth_of};
@@ -12,7 +12,7 @@ use crate::code::Op;
 use crate::seen::{counted, neighbour, value_at, whole};
 use crate::view::View;
 use quantity::{Overflow, Value};
-use rule_syntax::{Answer, Binary, Function, RuleStop, Unary};
+use rule_tree::{Answer, Binary, Function, RuleStop, Unary};
 
 fn push(answers: &mut Vec<Answer>, answer: Answer)
     requires { vec_len answers.old < vec_capacity answers.old }

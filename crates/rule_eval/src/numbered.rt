@@ -1,15 +1,15 @@
 // Code for a port or a variable.
 ghost use Rattle.std.specs.Prelude.{◌≡◌, ◌<◌, [], ◌∷◌, ◌++◌, IfOk, OnOk, map};
-ghost use Rattle.rule_syntax.specs.Expression.{expr_of};
-ghost use Rattle.rule_syntax.specs.declared.node.Give.{Give as AnyGive};
-ghost use Rattle.rule_syntax.specs.declared.node.SetVariable.{SetVariable as AnySet};
+ghost use Rattle.rule_tree.specs.Expression.{expr_of};
+ghost use Rattle.rule_tree.specs.declared.node.Give.{Give as AnyGive};
+ghost use Rattle.rule_tree.specs.declared.node.SetVariable.{SetVariable as AnySet};
 ghost use Rattle.rule_eval.specs.Depth.{depth_of, height_after};
 ghost use Rattle.rule_eval.specs.RuleCodes.{coded, deepest};
 ghost use Rattle.rule_eval.specs.Numbered.{plain};
 
 use crate::code::{Op, postfix};
 use quantity::OutOfMemory;
-use rule_syntax::{Give, SetVariable};
+use rule_tree::{Give, SetVariable};
 use std::alloc::{AllocError, Global};
 
 /// The code of a value for a port or a variable, by its number.

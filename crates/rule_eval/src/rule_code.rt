@@ -1,13 +1,13 @@
 // A rule as postfix code.
 ghost use Rattle.std.specs.Prelude.{◌≡◌, ◌≤◌, IfOk, map};
-ghost use Rattle.rule_syntax.specs.Expression.{rule_of};
+ghost use Rattle.rule_tree.specs.Expression.{rule_of};
 ghost use Rattle.rule_eval.specs.RuleCodes.{codes_of, rule_depth, rule_nodes};
 ghost use Rattle.rule_eval.specs.Numbered.{plain};
 
 use crate::code::{Op, postfix};
 use crate::numbered::{NumberedCode, codes_of_gives, codes_of_sets, deepest, depth_of};
 use quantity::OutOfMemory;
-use rule_syntax::RuleTree;
+use rule_tree::RuleTree;
 use std::alloc::Global;
 use std::marker::Model;
 

@@ -2,12 +2,12 @@
 ghost use Rattle.std.specs.Prelude.{◌≡◌, ◌≤◌, ◌^◌, List, [], slice_get};
 ghost use Rattle.std.specs.Option.{unwrap_or};
 ghost use Rattle.quantity.specs.Arithmetic.{same_value};
-ghost use Rattle.rule_syntax.specs.Meaning.{value_at, whole, outs, how_many, counted, state_count, coordinates, cell_position};
+ghost use Rattle.rule_tree.specs.Meaning.{value_at, whole, outs, how_many, counted, state_count, coordinates, cell_position};
 ghost use Rattle.rule_eval.specs.Seen.{IsView, neighbours_of, seen, sight_of, whole_number_in};
 
 use crate::view::View;
 use quantity::{Place, Raw, Value};
-use rule_syntax::Count;
+use rule_tree::Count;
 
 /// The value that stands at this place, or `?`.
 pub(crate) fn value_at(values: &[Value], k: usize) -> Value

@@ -2,7 +2,7 @@
 ghost use Rattle.std.specs.Prelude.{◌≡◌, IfOk};
 
 use quantity::OutOfMemory;
-use rule_syntax::Answer;
+use rule_tree::Answer;
 use std::alloc::Global;
 use std::marker::Model;
 

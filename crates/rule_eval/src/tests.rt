@@ -4,7 +4,7 @@ ghost use Rattle.rule_eval.specs.Seen.{IsView};
 
 use super::*;
 use quantity::{Compare, OutOfMemory, Place, Raw, Time, Tri, Value};
-use rule_syntax::{Binary, Count, Function, Give, Node, RuleStop, RuleTree, SetVariable, Unary};
+use rule_tree::{Binary, Count, Function, Give, Node, RuleStop, RuleTree, SetVariable, Unary};
 use std::alloc::{AllocError, Global};
 use std::process::Abort;
 

@@ -4,7 +4,7 @@ use Rattle.std.specs.List.{find, AllByRecursion}
 use Rattle.std.specs.Option.{option_map}
 use Rattle.std.specs.Str.{bytes_eq}
 use Rattle.quantity.specs.Bytes.{Bytes}
-use Rattle.rule_syntax.specs.Phrases.{looked_up}
+use Rattle.rule_tree.specs.Phrases.{looked_up}
 use Rattle.rule_syntax.proofs.Sound.{same_bytes}
 
 pub absent : {A : Type 0} (table : List (Bytes × A)) (w : Bytes) → AllByRecursion (λ (p : Bytes × A). bytes_eq p.0 w ≡ false) table → None ≡ looked_up table w

@@ -3,9 +3,9 @@ use Rattle.std.proofs.Common.{◌≡◌, ℕ, ◌<◌, ◌≤◌, true, false, O
 use Rattle.std.specs.Prelude.{codes}
 use Rattle.std.specs.List.{AllByRecursion}
 use Rattle.quantity.specs.Bytes.{Bytes, is_among}
-use Rattle.rule_syntax.specs.declared.node.Binary.{Binary}
+use Rattle.rule_tree.specs.declared.node.Binary.{Binary}
 use Rattle.rule_syntax.specs.Tokens.{Token, word, number, mark, is_mark}
-use Rattle.rule_syntax.specs.Phrases.{Phrase, Level, expr, disj, conj, neg, comp, sum, prod, signed, primary, tighter, left_of, operator_words, operator_marks, looked_up}
+use Rattle.rule_tree.specs.Phrases.{Phrase, Level, expr, disj, conj, neg, comp, sum, prod, signed, primary, tighter, left_of, operator_words, operator_marks, looked_up}
 use Rattle.rule_syntax.specs.Grammar.{Joins, IsPhrase}
 use Rattle.rule_syntax.specs.Reading.{operator_in, ends, ends_operand}
 use Rattle.rule_syntax.proofs.Nesting.{lookup_all}

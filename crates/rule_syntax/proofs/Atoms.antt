@@ -5,11 +5,11 @@ use Rattle.std.specs.Option.{option_map, option_or, option_and_then}
 use Rattle.std.specs.Bool.{then_some}
 use Rattle.std.specs.Str.{bytes_eq}
 use Rattle.quantity.specs.Bytes.{Bytes, is_empty}
-use Rattle.rule_syntax.specs.declared.node.Count.{Count}
-use Rattle.rule_syntax.specs.declared.node.Function.{Function}
+use Rattle.rule_tree.specs.declared.node.Count.{Count}
+use Rattle.rule_tree.specs.declared.node.Function.{Function}
 use Rattle.rule_syntax.specs.Tokens.{Token, word, number, mark, is_mark}
-use Rattle.rule_syntax.specs.Phrases as P
-use Rattle.rule_syntax.specs.Phrases.{Cell, Phrase, expr, out, counts, functions, looked_up}
+use Rattle.rule_tree.specs.Phrases as P
+use Rattle.rule_tree.specs.Phrases.{Cell, Phrase, expr, out, counts, functions, looked_up}
 use Rattle.rule_syntax.specs.Grammar.{IsInt, IsCell, IsPhrase}
 use Rattle.rule_syntax.specs.Reading.{is_closed, block_begins, cell_before, whole_cell, constants, is_port_value, atom, without_last, closes, without_last_close, enclosed}
 use Rattle.rule_syntax.proofs.Nesting.{lookup_all, last_append, CutOf, in_first, in_second, cut_of, nested_closed}

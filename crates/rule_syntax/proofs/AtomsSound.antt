@@ -7,10 +7,10 @@ use Rattle.std.specs.Str.{bytes_eq}
 use Rattle.quantity.specs.declared.value.Value.TheVariants.{Undefined, Num}
 use Rattle.quantity.specs.Bytes.{Bytes}
 use Rattle.quantity.specs.Literals.{unsigned_literal}
-use Rattle.rule_syntax.specs.declared.node.Function.{Function}
+use Rattle.rule_tree.specs.declared.node.Function.{Function}
 use Rattle.rule_syntax.specs.Tokens.{Token, word, number, mark, is_mark}
-use Rattle.rule_syntax.specs.Phrases as P
-use Rattle.rule_syntax.specs.Phrases.{Phrase, Level, primary, looked_up, counts, functions}
+use Rattle.rule_tree.specs.Phrases as P
+use Rattle.rule_tree.specs.Phrases.{Phrase, Level, primary, looked_up, counts, functions}
 use Rattle.rule_syntax.specs.Grammar.{IsPhrase}
 use Rattle.rule_syntax.specs.Grammar as G
 use Rattle.rule_syntax.specs.Reading.{constants, word_phrase, is_port_value, cell_before, cell_phrase_before}

@@ -7,7 +7,7 @@ use Rattle.std.specs.Bool.{then_some}
 use Rattle.quantity.specs.Bytes.{Bytes, all_there}
 use Rattle.quantity.specs.Digits.{with_sign_of, has_length}
 use Rattle.rule_syntax.specs.Tokens.{Token, number, mark, is_mark}
-use Rattle.rule_syntax.specs.Phrases.{Cell, out}
+use Rattle.rule_tree.specs.Phrases.{Cell, out}
 use Rattle.rule_syntax.specs.Grammar.{IsInt, IsPort, IsCell}
 use Rattle.rule_syntax.specs.Reading.{has, block, int_in, port_in, places_in, cell_before}
 use Rattle.rule_syntax.proofs.Sound.{take_more, drop_more}

@@ -5,7 +5,7 @@ use Rattle.std.specs.Option.{option_map, option_or, option_and_then}
 use Rattle.quantity.specs.Bytes.{Bytes}
 use Rattle.quantity.specs.Digits.{whole_number, with_sign_of}
 use Rattle.rule_syntax.specs.Tokens.{Token, number, mark, is_mark}
-use Rattle.rule_syntax.specs.Phrases.{Cell}
+use Rattle.rule_tree.specs.Phrases.{Cell}
 use Rattle.rule_syntax.specs.Grammar.{IsInt, IsCell}
 use Rattle.rule_syntax.specs.Reading.{Part, and_on, is_sign, port_in, places_in, cell_before}
 use Rattle.rule_syntax.specs.Shown.{plane_of}

@@ -3,9 +3,9 @@ use Rattle.std.proofs.Common.{◌≡◌, ◌<◌, ◌≤◌, Bool, true, false, 
 use Rattle.std.specs.Prelude.{◌&&◌}
 use Rattle.std.specs.List.{last_or, filter}
 use Rattle.std.specs.Option.{is_some}
-use Rattle.rule_syntax.specs.declared.node.Binary.{Binary}
+use Rattle.rule_tree.specs.declared.node.Binary.{Binary}
 use Rattle.rule_syntax.specs.Tokens.{Token, word, number, mark}
-use Rattle.rule_syntax.specs.Phrases.{Phrase, Level, expr, disj, conj, neg, comp, sum, prod, signed, primary, tighter, left_of, operator_marks}
+use Rattle.rule_tree.specs.Phrases.{Phrase, Level, expr, disj, conj, neg, comp, sum, prod, signed, primary, tighter, left_of, operator_marks}
 use Rattle.rule_syntax.specs.Grammar.{Joins, IsPhrase}
 use Rattle.rule_syntax.specs.Reading.{Cut, cuts, cut_later, is_closed, ends, ends_operand, operator_in, joins_at, last_join}
 use Rattle.rule_syntax.proofs.Nesting.{lookup_all, last_append, nested_closed, plain_closed}

@@ -1,7 +1,7 @@
 -- The reading from left to right finds the phrase that all tokens are.
 use Rattle.std.proofs.Common.{◌≡◌, ◌≤◌, ℕ, suc, Option, Some, None, List, [], ◌∷◌, refl, sym, ap, subst, ◌∙◌, append-nil, length}
 use Rattle.rule_syntax.specs.Tokens.{Token}
-use Rattle.rule_syntax.specs.Phrases.{Phrase, expr}
+use Rattle.rule_tree.specs.Phrases.{Phrase, expr}
 use Rattle.rule_syntax.specs.Grammar.{IsPhrase}
 use Rattle.rule_syntax.specs.Reading.{Part, phrase_of}
 use Rattle.rule_syntax.specs.Descent.{reading, whole}

@@ -6,11 +6,11 @@ use Rattle.std.specs.Bool.{then_some}
 use Rattle.std.specs.Str.{bytes_eq}
 use Rattle.std.proofs.lemmas.Bool.Decides.{nat_tests}
 use Rattle.quantity.specs.Bytes.{Bytes}
-use Rattle.rule_syntax.specs.declared.node.Count.{Count}
-use Rattle.rule_syntax.specs.declared.node.Function.{Function}
+use Rattle.rule_tree.specs.declared.node.Count.{Count}
+use Rattle.rule_tree.specs.declared.node.Function.{Function}
 use Rattle.rule_syntax.specs.Tokens.{Token, word, number, mark, is_mark}
-use Rattle.rule_syntax.specs.Phrases as P
-use Rattle.rule_syntax.specs.Phrases.{Cell, Phrase, Level, expr, primary, out, phrases, counts, functions, looked_up, argument_count}
+use Rattle.rule_tree.specs.Phrases as P
+use Rattle.rule_tree.specs.Phrases.{Cell, Phrase, Level, expr, primary, out, phrases, counts, functions, looked_up, argument_count}
 use Rattle.rule_syntax.specs.Grammar.{IsInt, IsCell, IsPhrase}
 use Rattle.rule_syntax.specs.Reading.{is_closed, block_begins, cell_before, cell_phrase_before, word_phrase, called}
 use Rattle.rule_syntax.specs.Descent.{Reader, then_on, closed, variable_before, port_value_before, atom_before, opening_before, opened, primary_before, list_before}

@@ -6,13 +6,13 @@ use Rattle.std.specs.Bool.{then_some}
 use Rattle.quantity.specs.Bytes.{Bytes}
 use Rattle.quantity.specs.declared.truth.Tri.TheVariants.{True, False}
 use Rattle.quantity.specs.declared.value.Value.TheVariants.{Undefined, Num}
-use Rattle.rule_syntax.specs.declared.node.Unary.{Unary}
-use Rattle.rule_syntax.specs.declared.node.Unary.TheVariants.{Plus, Minus, Not}
-use Rattle.rule_syntax.specs.declared.node.Binary.{Binary}
-use Rattle.rule_syntax.specs.declared.node.Function.{Function}
+use Rattle.rule_tree.specs.declared.node.Unary.{Unary}
+use Rattle.rule_tree.specs.declared.node.Unary.TheVariants.{Plus, Minus, Not}
+use Rattle.rule_tree.specs.declared.node.Binary.{Binary}
+use Rattle.rule_tree.specs.declared.node.Function.{Function}
 use Rattle.rule_syntax.specs.Tokens.{Token, word, number, mark, is_mark}
-use Rattle.rule_syntax.specs.Phrases as P
-use Rattle.rule_syntax.specs.Phrases.{Cell, Phrase, Level, expr, disj, conj, neg, comp, sum, prod, signed, primary, tighter, left_of, phrases, functions, looked_up, argument_count}
+use Rattle.rule_tree.specs.Phrases as P
+use Rattle.rule_tree.specs.Phrases.{Cell, Phrase, Level, expr, disj, conj, neg, comp, sum, prod, signed, primary, tighter, left_of, phrases, functions, looked_up, argument_count}
 use Rattle.rule_syntax.specs.Grammar.{Joins, IsCell, IsPhrase, IsList}
 use Rattle.rule_syntax.specs.Grammar as G
 use Rattle.rule_syntax.specs.Descent.{Reader, then_on, mapped, joined, chained, not_in, sign_in, prefixed, listed, list_before, sum_before, comp_before, atom_before, primary_before, at_level, reading}

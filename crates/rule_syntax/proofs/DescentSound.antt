@@ -5,13 +5,13 @@ use Rattle.std.specs.Prelude.{◌==◌, codes}
 use Rattle.std.specs.Option.{option_map, option_or}
 use Rattle.std.specs.Bool.{then_some}
 use Rattle.quantity.specs.Bytes.{Bytes}
-use Rattle.rule_syntax.specs.declared.node.Unary.{Unary}
-use Rattle.rule_syntax.specs.declared.node.Unary.TheVariants.{Plus, Minus, Not}
-use Rattle.rule_syntax.specs.declared.node.Binary.{Binary}
-use Rattle.rule_syntax.specs.declared.node.Function.{Function}
+use Rattle.rule_tree.specs.declared.node.Unary.{Unary}
+use Rattle.rule_tree.specs.declared.node.Unary.TheVariants.{Plus, Minus, Not}
+use Rattle.rule_tree.specs.declared.node.Binary.{Binary}
+use Rattle.rule_tree.specs.declared.node.Function.{Function}
 use Rattle.rule_syntax.specs.Tokens.{Token, word, number, mark, is_mark, is_word}
-use Rattle.rule_syntax.specs.Phrases as P
-use Rattle.rule_syntax.specs.Phrases.{Phrase, phrases, Level, expr, disj, conj, neg, comp, sum, prod, signed, primary, tighter, left_of, functions, looked_up, argument_count}
+use Rattle.rule_tree.specs.Phrases as P
+use Rattle.rule_tree.specs.Phrases.{Phrase, phrases, Level, expr, disj, conj, neg, comp, sum, prod, signed, primary, tighter, left_of, functions, looked_up, argument_count}
 use Rattle.rule_syntax.specs.Grammar.{Joins, IsPhrase, IsList, tight, negated}
 use Rattle.rule_syntax.specs.Grammar as G
 use Rattle.rule_syntax.specs.Reading.{Part, operator_in, called}

@@ -3,10 +3,10 @@ use Rattle.std.proofs.Common.{◌≡◌, ℕ, zero, suc, ◌<◌, ◌≤◌, fal
 use Rattle.std.specs.Prelude.{codes}
 use Rattle.std.specs.List.{AllByRecursion}
 use Rattle.quantity.specs.Bytes.{Bytes}
-use Rattle.rule_syntax.specs.declared.node.Binary.{Binary}
+use Rattle.rule_tree.specs.declared.node.Binary.{Binary}
 use Rattle.rule_syntax.specs.Tokens.{Token, word, number, mark, is_mark}
-use Rattle.rule_syntax.specs.Phrases as P
-use Rattle.rule_syntax.specs.Phrases.{Phrase, Level, expr, disj, conj, neg, comp, sum, prod, signed, primary, tighter, operator_words, operator_marks, looked_up, out}
+use Rattle.rule_tree.specs.Phrases as P
+use Rattle.rule_tree.specs.Phrases.{Phrase, Level, expr, disj, conj, neg, comp, sum, prod, signed, primary, tighter, operator_words, operator_marks, looked_up, out}
 use Rattle.rule_syntax.specs.Grammar.{Joins}
 use Rattle.rule_syntax.specs.Reading.{operator_in, port_in}
 use Rattle.rule_syntax.specs.Descent.{Reader, then_on, joined}

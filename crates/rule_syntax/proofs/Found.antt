@@ -8,13 +8,13 @@ use Rattle.std.proofs.lemmas.Bool.Decides.{nat_tests}
 use Rattle.quantity.specs.declared.truth.Tri.TheVariants.{True, False}
 use Rattle.quantity.specs.declared.value.Value.TheVariants.{Undefined, Num}
 use Rattle.quantity.specs.Bytes.{Bytes, parts_outside, all_there, in_front}
-use Rattle.rule_syntax.specs.declared.node.Unary.{Unary}
-use Rattle.rule_syntax.specs.declared.node.Unary.TheVariants.{Plus, Minus, Not}
-use Rattle.rule_syntax.specs.declared.node.Binary.{Binary}
-use Rattle.rule_syntax.specs.declared.node.Function.{Function}
+use Rattle.rule_tree.specs.declared.node.Unary.{Unary}
+use Rattle.rule_tree.specs.declared.node.Unary.TheVariants.{Plus, Minus, Not}
+use Rattle.rule_tree.specs.declared.node.Binary.{Binary}
+use Rattle.rule_tree.specs.declared.node.Function.{Function}
 use Rattle.rule_syntax.specs.Tokens.{Token, word, number, mark, is_mark}
-use Rattle.rule_syntax.specs.Phrases as P
-use Rattle.rule_syntax.specs.Phrases.{Phrase, Level, expr, disj, conj, neg, comp, sum, prod, signed, primary, tighter, left_of, phrases, argument_count, looked_up, functions}
+use Rattle.rule_tree.specs.Phrases as P
+use Rattle.rule_tree.specs.Phrases.{Phrase, Level, expr, disj, conj, neg, comp, sum, prod, signed, primary, tighter, left_of, phrases, argument_count, looked_up, functions}
 use Rattle.rule_syntax.specs.Grammar.{Joins, IsPhrase, IsList}
 use Rattle.rule_syntax.specs.Grammar as G
 use Rattle.rule_syntax.specs.Reading.{Cut, operator_in, last_join, both, after_not, after_sign, atom, Enclosed, enclosed, called, arguments, phrase_within, phrase_of}

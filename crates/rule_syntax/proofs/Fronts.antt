@@ -7,15 +7,15 @@ use Rattle.quantity.specs.Bytes.{Bytes}
 use Rattle.quantity.specs.Literals.{unsigned_literal}
 use Rattle.quantity.specs.declared.value.Value.{Value}
 use Rattle.quantity.specs.declared.value.Value.TheVariants.{Undefined, Num}
-use Rattle.rule_syntax.specs.declared.node.Count.{Count}
+use Rattle.rule_tree.specs.declared.node.Count.{Count}
 use Rattle.rule_syntax.specs.declared.front.Front.{Front}
 use Rattle.rule_syntax.specs.declared.term.Term.{Term}
-use Rattle.rule_syntax.specs.Scope.{Names}
+use Rattle.rule_tree.specs.Scope.{Names}
 use Rattle.rule_syntax.specs.Tokens.{Token, word, number, mark, is_word}
 use Rattle.rule_syntax.specs.declared.token.Token as T
 use Rattle.rule_syntax.specs.declared.token.Token.TheVariants.{Word, Number}
-use Rattle.rule_syntax.specs.Phrases as P
-use Rattle.rule_syntax.specs.Phrases.{Phrase, counts, looked_up}
+use Rattle.rule_tree.specs.Phrases as P
+use Rattle.rule_tree.specs.Phrases.{Phrase, counts, looked_up}
 use Rattle.rule_syntax.specs.Reading.{Part, and_on, question_before}
 use Rattle.rule_syntax.specs.Descent.{atom_before, port_value_before, word_before}
 use Rattle.rule_syntax.specs.AtomParts.{after_mark, after_word, behind_this_port}

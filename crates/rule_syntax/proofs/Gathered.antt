@@ -4,10 +4,10 @@ use Rattle.std.specs.Borrow.{Bor}
 use Rattle.std.specs.Option.{option_map}
 use Rattle.std.proofs.lemmas.List.{drop_all, drop_more}
 use Rattle.quantity.specs.Bytes.{all_there, in_front}
-use Rattle.rule_syntax.specs.Phrases.{Assigned}
+use Rattle.rule_tree.specs.Phrases.{Assigned}
 use Rattle.rule_syntax.specs.Reading.{assigned}
 use Rattle.rule_syntax.specs.RulesRead.{AreNamed, AreValues, IsAdded, mark_for, shown_parts}
-use Rattle.rule_syntax.specs.Scope.{Names}
+use Rattle.rule_tree.specs.Scope.{Names}
 use Rattle.rule_syntax.specs.Shown.{tokens_of}
 use Rattle.rule_syntax.specs.declared.named.Kind.{Kind}
 use Rattle.rule_syntax.specs.declared.named.NamedValues.{NamedValues}

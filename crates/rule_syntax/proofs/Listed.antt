@@ -8,11 +8,11 @@ use Rattle.quantity.specs.Bytes.{Bytes}
 use Rattle.rule_syntax.specs.declared.term.Term.{Term}
 use Rattle.rule_syntax.specs.declared.front.Front.{Front}
 use Rattle.rule_syntax.specs.declared.between.Arguments.{Arguments}
-use Rattle.rule_syntax.specs.declared.node.Function.{Function}
+use Rattle.rule_tree.specs.declared.node.Function.{Function}
 use Rattle.rule_syntax.specs.Tokens.{Token, is_mark}
-use Rattle.rule_syntax.specs.Phrases as P
-use Rattle.rule_syntax.specs.Phrases.{Phrase, phrases, argument_count}
-use Rattle.rule_syntax.specs.Scope.{Names}
+use Rattle.rule_tree.specs.Phrases as P
+use Rattle.rule_tree.specs.Phrases.{Phrase, phrases, argument_count}
+use Rattle.rule_tree.specs.Scope.{Names}
 use Rattle.rule_syntax.specs.Reading.{Part, called}
 use Rattle.rule_syntax.specs.Descent.{Reader, then_on, closed, listed, list_before}
 use Rattle.rule_syntax.specs.AtomParts.{after_mark}

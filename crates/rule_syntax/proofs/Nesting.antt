@@ -7,7 +7,7 @@ use Rattle.std.specs.Option.{option_map}
 use Rattle.std.specs.Str.{bytes_eq}
 use Rattle.quantity.specs.Bytes.{Bytes}
 use Rattle.rule_syntax.specs.Tokens.{Token, mark, is_mark, parentheses_after}
-use Rattle.rule_syntax.specs.Phrases.{looked_up}
+use Rattle.rule_tree.specs.Phrases.{looked_up}
 use Rattle.rule_syntax.specs.Reading.{is_closed}
 use Rattle.rule_syntax.proofs.Sound.{none_some, same_bytes}
 

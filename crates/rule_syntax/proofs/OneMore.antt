@@ -4,11 +4,11 @@ use Rattle.std.specs.Prelude.{◌&&◌, ◌||◌}
 use Rattle.std.specs.List.{flat_map, list_all, list_any}
 use Rattle.std.specs.Str.{bytes_eq}
 use Rattle.quantity.specs.Bytes.{Bytes, has_repeat}
-use Rattle.rule_syntax.specs.Expression.{expr_of}
-use Rattle.rule_syntax.specs.Phrases.{Phrase, Assigned}
+use Rattle.rule_tree.specs.Expression.{expr_of}
+use Rattle.rule_tree.specs.Phrases.{Phrase, Assigned}
 use Rattle.rule_syntax.specs.RulesRead.{AreNamed, is_number, named_for, names_for, number_for, phrase_for, value_for, values_of, words_of}
-use Rattle.rule_syntax.specs.Scope.{Names, Named, named_in}
-use Rattle.rule_syntax.specs.Sound.{a_number, is_sort}
+use Rattle.rule_tree.specs.Scope.{Names, Named, named_in}
+use Rattle.rule_tree.specs.Sound.{a_number, is_sort}
 use Rattle.rule_syntax.specs.Terms.{Misses, Stands, sort_or_none}
 use Rattle.rule_syntax.specs.declared.named.Kind.{Kind}
 use Rattle.rule_syntax.specs.declared.named.NamedValue.{NamedValue}

@@ -1,16 +1,16 @@
 -- The outcome that is found is the one of the grammar.
 use Rattle.std.proofs.Common.{◌≡◌, Bool, true, false, Option, Some, None, List, refl, sym, subst, ◌∙◌}
 use Rattle.std.specs.declared.result.Result.{Result}
-use Rattle.rule_syntax.specs.Expression.{Rule}
+use Rattle.rule_tree.specs.Expression.{Rule}
 use Rattle.std.specs.Option.{ok_or}
 use Rattle.quantity.specs.Bytes.{Bytes}
 use Rattle.rule_syntax.specs.declared.refusal.RuleRefusal.{RuleRefusal}
 use Rattle.rule_syntax.specs.declared.refusal.RuleRefusal.TheVariants.{BadRule, TooLarge}
 use Rattle.rule_syntax.specs.Tokens.{Token, tokens, words_in, is_large}
-use Rattle.rule_syntax.specs.Phrases.{Written}
+use Rattle.rule_tree.specs.Phrases.{Written}
 use Rattle.rule_syntax.specs.Grammar.{IsRule}
 use Rattle.rule_syntax.specs.Reading.{written_rule}
-use Rattle.rule_syntax.specs.Scope.{Names}
+use Rattle.rule_tree.specs.Scope.{Names}
 use Rattle.rule_syntax.proofs.Rules.{rules_are_found}
 use Rattle.rule_syntax.proofs.RulesFound.{rule_found}
 use Rattle.rule_syntax.specs.RuleOf.{words_refused, unless, and_on, where_true, judged, rule_of, Readable, RuleIs, no_token, strange_word, large, no_rule, a_rule, HasOneOutcome}

@@ -1,13 +1,13 @@
 -- Operands and the operators between them, read from the left.
 use Rattle.std.proofs.Common.{◌≡◌, ◌<◌, ◌≤◌, ◌+◌, ℕ, zero, suc, Option, Some, None, List, [], ◌∷◌, length, refl, sym, ap, subst, ◌∙◌, arith}
 use Rattle.std.specs.Option.{option_map}
-use Rattle.rule_syntax.specs.declared.node.Binary.{Binary}
+use Rattle.rule_tree.specs.declared.node.Binary.{Binary}
 use Rattle.rule_syntax.specs.declared.term.Term.{Term}
 use Rattle.rule_syntax.specs.declared.front.Front.{Front}
 use Rattle.rule_syntax.specs.Tokens.{Token}
-use Rattle.rule_syntax.specs.Phrases as P
-use Rattle.rule_syntax.specs.Phrases.{Phrase, Level}
-use Rattle.rule_syntax.specs.Scope.{Names}
+use Rattle.rule_tree.specs.Phrases as P
+use Rattle.rule_tree.specs.Phrases.{Phrase, Level}
+use Rattle.rule_tree.specs.Scope.{Names}
 use Rattle.rule_syntax.specs.Reading.{Part, operator_in}
 use Rattle.rule_syntax.specs.Descent.{Reader, then_on, joined}
 use Rattle.rule_syntax.specs.Between.{operator_before, most_operators, operands_before}

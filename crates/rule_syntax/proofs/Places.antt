@@ -5,7 +5,7 @@ use Rattle.std.specs.List.{position, position_or_len}
 use Rattle.std.proofs.lemmas.Bool.Decides.{nat_tests}
 use Rattle.quantity.specs.Arithmetic.{is_zero}
 use Rattle.quantity.specs.declared.place.Offset.{Offset}
-use Rattle.rule_syntax.specs.Scope.{same_offset, offset_of}
+use Rattle.rule_tree.specs.Scope.{same_offset, offset_of}
 use Rattle.rule_syntax.specs.Shown.{plane_of}
 
 pub all_of : (r a b c x y z : Bool) → r ≡ (a && b && c) → a ≡ x → b ≡ y → c ≡ z → r ≡ (x && y && z)

@@ -1,12 +1,12 @@
 -- An operand behind signs.
 use Rattle.std.proofs.Common.{◌≡◌, Option, Some, None, List, [], ◌∷◌, ◌++◌, refl, sym, ap, subst, ◌∙◌}
-use Rattle.rule_syntax.specs.declared.node.Unary.{Unary}
+use Rattle.rule_tree.specs.declared.node.Unary.{Unary}
 use Rattle.rule_syntax.specs.declared.term.Term.{Term}
 use Rattle.rule_syntax.specs.declared.front.Front.{Front}
 use Rattle.rule_syntax.specs.Tokens.{Token}
-use Rattle.rule_syntax.specs.Phrases as P
-use Rattle.rule_syntax.specs.Phrases.{Phrase}
-use Rattle.rule_syntax.specs.Scope.{Names}
+use Rattle.rule_tree.specs.Phrases as P
+use Rattle.rule_tree.specs.Phrases.{Phrase}
+use Rattle.rule_tree.specs.Scope.{Names}
 use Rattle.rule_syntax.specs.Reading.{Part}
 use Rattle.rule_syntax.specs.Descent.{Reader, mapped, prefixed}
 use Rattle.rule_syntax.specs.Between.{signs_before, behind_signs, with_signs}

@@ -3,11 +3,11 @@ use Rattle.std.proofs.Common.{◌≡◌, ◌<◌, ◌≤◌, ℕ, zero, suc, Opt
 use Rattle.std.specs.Option.{option_or}
 use Rattle.rule_syntax.specs.declared.level.Level as L
 use Rattle.rule_syntax.specs.declared.level.Level.TheVariants.{Expression, Disjunction, Conjunction, Negation, Comparison, Sum, Product, Signed, Primary}
-use Rattle.rule_syntax.specs.declared.node.Function.{Function}
+use Rattle.rule_tree.specs.declared.node.Function.{Function}
 use Rattle.rule_syntax.specs.declared.front.Front.{Front}
 use Rattle.rule_syntax.specs.Tokens.{Token}
-use Rattle.rule_syntax.specs.Phrases.{Phrase, expr, comp, primary}
-use Rattle.rule_syntax.specs.Scope.{Names}
+use Rattle.rule_tree.specs.Phrases.{Phrase, expr, comp, primary}
+use Rattle.rule_tree.specs.Scope.{Names}
 use Rattle.rule_syntax.specs.Reading.{Part}
 use Rattle.rule_syntax.specs.Descent.{Reader, then_on, atom_before, opening_before, opened, primary_before, enclosed_before, call_before, prefixed, at_level, reading}
 use Rattle.rule_syntax.specs.Between.{sign_at}

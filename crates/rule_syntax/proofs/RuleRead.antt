@@ -4,17 +4,17 @@ use Rattle.std.specs.Option.{option_map}
 use Rattle.std.specs.declared.result.Result.{Result}
 use Rattle.std.specs.declared.result.Result.TheVariants.{Ok, Err}
 use Rattle.quantity.specs.Bytes.{Bytes}
-use Rattle.rule_syntax.specs.declared.node.RuleTree.{RuleTree}
+use Rattle.rule_tree.specs.declared.node.RuleTree.{RuleTree}
 use Rattle.rule_syntax.specs.declared.refusal.RuleRefusal.{RuleRefusal}
 use Rattle.rule_syntax.specs.declared.refusal.RuleRefusal.TheVariants.{BadRule, Memory, TooLarge}
 use Rattle.rule_syntax.specs.declared.written.ReadRule.{ReadRule}
-use Rattle.rule_syntax.specs.Expression as E
-use Rattle.rule_syntax.specs.Expression.{Rule}
-use Rattle.rule_syntax.specs.Phrases.{Written}
+use Rattle.rule_tree.specs.Expression as E
+use Rattle.rule_tree.specs.Expression.{Rule}
+use Rattle.rule_tree.specs.Phrases.{Written}
 use Rattle.rule_syntax.specs.Reading.{written_rule}
 use Rattle.rule_syntax.specs.RuleOf.{words_refused, judged, rule_of, Readable, RuleIs}
 use Rattle.rule_syntax.specs.RulesRead.{IsRead, AreRead}
-use Rattle.rule_syntax.specs.Scope.{Names, extent_of, is_sound}
+use Rattle.rule_tree.specs.Scope.{Names, extent_of, is_sound}
 use Rattle.rule_syntax.specs.Shown.{tokens_of}
 use Rattle.rule_syntax.specs.declared.token.Token as T
 use Rattle.rule_syntax.specs.Tokens.{Token, tokens, words_in, is_large}

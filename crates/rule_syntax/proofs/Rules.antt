@@ -11,8 +11,8 @@ use Rattle.quantity.specs.Bytes.{Bytes, all_there, is_empty}
 use Rattle.quantity.specs.Literals.{unsigned_literal}
 use Rattle.quantity.specs.Digits.{with_sign_of}
 use Rattle.rule_syntax.specs.Tokens.{Token, word, number, mark, is_mark}
-use Rattle.rule_syntax.specs.Phrases as P
-use Rattle.rule_syntax.specs.Phrases.{Phrase, Assigned, Written, expr}
+use Rattle.rule_tree.specs.Phrases as P
+use Rattle.rule_tree.specs.Phrases.{Phrase, Assigned, Written, expr}
 use Rattle.rule_syntax.specs.Grammar.{IsPhrase, IsNumber, AreAssigned, braced, at_out, IsValue, AreSets, IsDelay, IsRule}
 use Rattle.rule_syntax.specs.Grammar as G
 use Rattle.rule_syntax.specs.Reading.{is_sign, cell_before, block, and_on, number_before, phrase_of, phrase_block, assigned, ended_parts, all_assigned, block_begins, given_in, question_before, cell_phrase_before, value_before, sets_in, sets_block, sets_before, delay_before, last_block, written_rule}

@@ -9,20 +9,20 @@ use Rattle.std.proofs.lemmas.Bool.{and_parts}
 use Rattle.std.proofs.lemmas.Bool.Decides.{nat_tests}
 use Rattle.std.proofs.Common.{◌⊎◌, inl, inr, append_assoc, append-nil, ◌*◌}
 use Rattle.std.specs.Prelude.{nat_le, ◌&&◌, ◌||◌, ◌==◌, ◌+◌, not, take, drop, ℤ, pos}
-use Rattle.rule_syntax.specs.declared.node.Function.{Function}
+use Rattle.rule_tree.specs.declared.node.Function.{Function}
 use Rattle.std.specs.Option.{option_map, option_or, option_and_then, unwrap_or}
 use Rattle.std.specs.Str.{bytes_eq}
 use Rattle.quantity.specs.declared.value.Value.TheVariants.{Undefined, Num}
-use Rattle.rule_syntax.specs.declared.node.Unary.{Unary}
-use Rattle.rule_syntax.specs.declared.node.Unary.TheVariants.{Plus, Minus, Not}
-use Rattle.rule_syntax.specs.declared.node.Binary.{Binary}
+use Rattle.rule_tree.specs.declared.node.Unary.{Unary}
+use Rattle.rule_tree.specs.declared.node.Unary.TheVariants.{Plus, Minus, Not}
+use Rattle.rule_tree.specs.declared.node.Binary.{Binary}
 use Rattle.std.specs.Prelude.{codes}
 use Rattle.quantity.specs.Digits.{whole_number, with_sign_of, has_length}
 use Rattle.quantity.specs.Literals.{unsigned_literal}
 use Rattle.quantity.specs.Bytes.{Bytes, parts_outside, all_there, in_front, is_empty}
 use Rattle.rule_syntax.specs.Tokens.{Token, word, number, mark, is_mark, is_word, parentheses_after}
-use Rattle.rule_syntax.specs.Phrases as P
-use Rattle.rule_syntax.specs.Phrases.{Phrase, Level, expr, disj, conj, neg, comp, sum, prod, signed, primary, tighter, left_of, looked_up, counts, functions, phrases, argument_count}
+use Rattle.rule_tree.specs.Phrases as P
+use Rattle.rule_tree.specs.Phrases.{Phrase, Level, expr, disj, conj, neg, comp, sum, prod, signed, primary, tighter, left_of, looked_up, counts, functions, phrases, argument_count}
 use Rattle.rule_syntax.specs.Grammar.{IsPhrase, IsList, IsInt, IsPort, IsCell, tight, joined, negated, Joins}
 use Rattle.rule_syntax.specs.Grammar as G
 use Rattle.rule_syntax.specs.Reading.{Cut, cuts, cut_later, joins_at, last_join, operator_in, both, after_not, after_sign, constants, word_phrase, without_last, closes, without_last_close, Enclosed, enclosed, called, arguments, has, block, int_in, is_sign, signed_int, port_in, places_in, cell_before, whole_cell, is_port_value, atom, phrase_of, phrase_within}

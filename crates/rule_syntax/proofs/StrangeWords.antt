@@ -12,7 +12,7 @@ use Rattle.quantity.specs.Bytes.{Bytes, is_among}
 use Rattle.rule_syntax.specs.declared.refusal.RuleRefusal.{RuleRefusal}
 use Rattle.rule_syntax.specs.declared.refusal.RuleRefusal.TheVariants.{RandomRefused, UnknownFunction}
 use Rattle.rule_syntax.specs.declared.token.Token as T
-use Rattle.rule_syntax.specs.Phrases.{first_texts, functions, looked_up}
+use Rattle.rule_tree.specs.Phrases.{first_texts, functions, looked_up}
 use Rattle.rule_syntax.specs.RuleOf.{language}
 use Rattle.rule_syntax.specs.Shown.{token_of, tokens_of}
 use Rattle.rule_syntax.specs.TokenSteps.{names_next, plain_words}

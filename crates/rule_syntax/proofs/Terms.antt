@@ -6,20 +6,20 @@ use Rattle.std.specs.List.{list_any}
 use Rattle.std.specs.Cmp.Lexicographic.{pointwise}
 use Rattle.std.proofs.lemmas.List.Folds.{list_any-append}
 use mathlib.Core.Former.{Count}
-use Rattle.rule_syntax.specs.declared.node.Binary.{Binary}
-use Rattle.rule_syntax.specs.declared.node.Function.{Function}
-use Rattle.rule_syntax.specs.declared.node.Node.{Node, Row_of-Node, end_of-Node, more_of-Node, items-the_row-Node, items_hidden-the_row-Node-0}
-use Rattle.rule_syntax.specs.declared.node.Node.TheVariants.{Call as Call_of, Call'}
+use Rattle.rule_tree.specs.declared.node.Binary.{Binary}
+use Rattle.rule_tree.specs.declared.node.Function.{Function}
+use Rattle.rule_tree.specs.declared.node.Node.{Node, Row_of-Node, end_of-Node, more_of-Node, items-the_row-Node, items_hidden-the_row-Node-0}
+use Rattle.rule_tree.specs.declared.node.Node.TheVariants.{Call as Call_of, Call'}
 use Rattle.rule_syntax.specs.declared.term.Lacks.{Lacks}
 use Rattle.rule_syntax.specs.declared.term.Sort as T
 use Rattle.rule_syntax.specs.declared.term.Term.{Term}
-use Rattle.rule_syntax.specs.Expression as E
-use Rattle.rule_syntax.specs.Expression.{Exprs, expr_of, exprs_of}
-use Rattle.rule_syntax.specs.Phrases as P
-use Rattle.rule_syntax.specs.Phrases.{Phrase, phrases}
-use Rattle.rule_syntax.specs.Scope.{Names, Named, named_in, all_named_in, numbered, all_numbered, is_no_neighbour, is_no_variable, is_no_port}
-use Rattle.rule_syntax.specs.Sound as S
-use Rattle.rule_syntax.specs.Sound.{Signature, same_sorts, applied, in_front, is_sort, same_sort, sort_of, sorts_of, binary_signature, function_signature}
+use Rattle.rule_tree.specs.Expression as E
+use Rattle.rule_tree.specs.Expression.{Exprs, expr_of, exprs_of}
+use Rattle.rule_tree.specs.Phrases as P
+use Rattle.rule_tree.specs.Phrases.{Phrase, phrases}
+use Rattle.rule_tree.specs.Scope.{Names, Named, named_in, all_named_in, numbered, all_numbered, is_no_neighbour, is_no_variable, is_no_port}
+use Rattle.rule_tree.specs.Sound as S
+use Rattle.rule_tree.specs.Sound.{Signature, same_sorts, applied, in_front, is_sort, same_sort, sort_of, sorts_of, binary_signature, function_signature}
 use Rattle.rule_syntax.specs.Terms.{Misses, Stands, AllStand, sort_shown, sort_or_none}
 
 -- ---- what is lacking

@@ -7,8 +7,8 @@ use Rattle.quantity.specs.Bytes.{is_empty}
 use Rattle.rule_syntax.specs.declared.front.Front.{Front}
 use Rattle.rule_syntax.specs.declared.term.Term.{Term}
 use Rattle.rule_syntax.specs.declared.token.Token as T
-use Rattle.rule_syntax.specs.Phrases.{Phrase, expr}
-use Rattle.rule_syntax.specs.Scope.{Names}
+use Rattle.rule_tree.specs.Phrases.{Phrase, expr}
+use Rattle.rule_tree.specs.Scope.{Names}
 use Rattle.rule_syntax.specs.Reading.{Part, phrase_of}
 use Rattle.rule_syntax.specs.Descent.{at_level, reading, whole}
 use Rattle.rule_syntax.specs.Shown.{tokens_of}

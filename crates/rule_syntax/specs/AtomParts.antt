@@ -4,7 +4,7 @@ use Rattle.std.specs.Option.{option_or}
 use Rattle.std.specs.Bool.{then_some}
 use Rattle.quantity.specs.Bytes.{Bytes}
 use Rattle.rule_syntax.specs.Tokens.{Token, is_mark, is_word}
-use Rattle.rule_syntax.specs.Phrases.{Phrase}
+use Rattle.rule_tree.specs.Phrases.{Phrase}
 use Rattle.rule_syntax.specs.Reading.{Part, and_on, question_before, cell_phrase_before}
 use Rattle.rule_syntax.specs.Descent.{variable_before}
 

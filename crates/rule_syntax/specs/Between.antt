@@ -1,14 +1,14 @@
 -- What a descent reads between phrases: operators, signs and marks.
 use Rattle.std.specs.Prelude.{ℕ, ⊤, ◌≡◌, Option, Some, None, List, [], ◌∷◌, length}
 use Rattle.std.specs.Option.{option_map}
-use Rattle.rule_syntax.specs.declared.node.Unary.{Unary}
-use Rattle.rule_syntax.specs.declared.node.Binary.{Binary}
-use Rattle.rule_syntax.specs.declared.node.Function.{Function}
+use Rattle.rule_tree.specs.declared.node.Unary.{Unary}
+use Rattle.rule_tree.specs.declared.node.Binary.{Binary}
+use Rattle.rule_tree.specs.declared.node.Function.{Function}
 use Rattle.rule_syntax.specs.declared.between.Arguments.{Arguments}
 use Rattle.rule_syntax.specs.Tokens.{Token}
-use Rattle.rule_syntax.specs.Phrases as P
-use Rattle.rule_syntax.specs.Phrases.{Phrase, Level, neg, comp}
-use Rattle.rule_syntax.specs.Scope.{Names}
+use Rattle.rule_tree.specs.Phrases as P
+use Rattle.rule_tree.specs.Phrases.{Phrase, Level, neg, comp}
+use Rattle.rule_tree.specs.Scope.{Names}
 use Rattle.rule_syntax.specs.Reading.{Part, operator_in, called}
 use Rattle.rule_syntax.specs.Descent.{Reader, then_on, joined, closed, not_in, sign_in}
 use Rattle.rule_syntax.specs.Shown.{tokens_of}

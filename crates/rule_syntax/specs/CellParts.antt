@@ -3,7 +3,7 @@ use Rattle.std.specs.Prelude.{Option, Some, None, List, ◌∷◌, ℤ, pos, if�
 use Rattle.std.specs.Option.{option_map, option_or}
 use Rattle.quantity.specs.Digits.{whole_number, with_sign_of}
 use Rattle.rule_syntax.specs.Tokens.{Token, number, mark}
-use Rattle.rule_syntax.specs.Phrases.{Cell}
+use Rattle.rule_tree.specs.Phrases.{Cell}
 use Rattle.rule_syntax.specs.Reading.{Part, and_on, is_sign, port_in}
 use Rattle.rule_syntax.specs.Shown.{plane_of}
 use Rattle.rule_syntax.specs.AtomParts.{after_mark}

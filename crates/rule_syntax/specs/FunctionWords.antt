@@ -1,8 +1,8 @@
 -- The word of each function.
 use Rattle.std.specs.Prelude.{codes}
 use Rattle.quantity.specs.Bytes.{Bytes}
-use Rattle.rule_syntax.specs.declared.node.Function.{Function}
-use Rattle.rule_syntax.specs.declared.node.Function.TheVariants.{StateCount, CellPos, If, Ifu, Abs, Sign, Sqrt, Trunc, Round, Fractional, Min, Max, Remainder, Even, Odd, IsInt, IsUndefined}
+use Rattle.rule_tree.specs.declared.node.Function.{Function}
+use Rattle.rule_tree.specs.declared.node.Function.TheVariants.{StateCount, CellPos, If, Ifu, Abs, Sign, Sqrt, Trunc, Round, Fractional, Min, Max, Remainder, Even, Odd, IsInt, IsUndefined}
 
 abbrev pub function_word : Function → Bytes
 function_word StateCount = codes "statecount"

@@ -2,16 +2,16 @@
 use Rattle.std.specs.Prelude.{◌≡◌, ℕ, Some, List, [], ◌∷◌, ◌++◌, length, ℤ, pos, neg_ℤ, codes}
 use Rattle.quantity.specs.declared.truth.Tri.TheVariants.{True, False}
 use Rattle.quantity.specs.declared.value.Value.TheVariants.{Undefined, Num}
-use Rattle.rule_syntax.specs.declared.node.Unary.TheVariants.{Plus, Minus, Not}
-use Rattle.rule_syntax.specs.declared.node.Binary.{Binary}
-use Rattle.rule_syntax.specs.declared.node.Count.{Count}
-use Rattle.rule_syntax.specs.declared.node.Function.{Function}
+use Rattle.rule_tree.specs.declared.node.Unary.TheVariants.{Plus, Minus, Not}
+use Rattle.rule_tree.specs.declared.node.Binary.{Binary}
+use Rattle.rule_tree.specs.declared.node.Count.{Count}
+use Rattle.rule_tree.specs.declared.node.Function.{Function}
 use Rattle.quantity.specs.Bytes.{Bytes}
 use Rattle.quantity.specs.Digits.{whole_number}
 use Rattle.quantity.specs.Literals.{unsigned_literal}
 use Rattle.rule_syntax.specs.Tokens.{Token, word, number, mark}
-use Rattle.rule_syntax.specs.Phrases as P
-use Rattle.rule_syntax.specs.Phrases.{Cell, Phrase, Phrases, nil, cons, phrases, Assigned, Written, out, Level, expr, disj, conj, neg, comp, sum, prod, signed, primary, tighter, left_of, operator_words, operator_marks, counts, functions, looked_up, argument_count}
+use Rattle.rule_tree.specs.Phrases as P
+use Rattle.rule_tree.specs.Phrases.{Cell, Phrase, Phrases, nil, cons, phrases, Assigned, Written, out, Level, expr, disj, conj, neg, comp, sum, prod, signed, primary, tighter, left_of, operator_words, operator_marks, counts, functions, looked_up, argument_count}
 
 -- a token that joins two phrases of a level
 abbrev pub Joins : Level → Token → Binary → Type 0

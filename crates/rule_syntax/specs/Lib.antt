@@ -1,13 +1,6 @@
-pub mod Expression
-pub mod Meaning
-pub mod Chosen
-pub mod Sound
-pub mod Examples
 pub mod Tokens
-pub mod Phrases
 pub mod Grammar
 pub mod Reading
-pub mod Scope
 pub mod RuleOf
 pub mod TextExamples
 pub mod Shown

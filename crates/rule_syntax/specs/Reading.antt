@@ -6,16 +6,16 @@ use Rattle.std.specs.Bool.{then_some}
 use Rattle.std.specs.Str.{bytes_eq}
 use Rattle.quantity.specs.declared.truth.Tri.TheVariants.{True, False}
 use Rattle.quantity.specs.declared.value.Value.TheVariants.{Undefined, Num}
-use Rattle.rule_syntax.specs.declared.node.Unary.{Unary}
-use Rattle.rule_syntax.specs.declared.node.Unary.TheVariants.{Plus, Minus, Not}
-use Rattle.rule_syntax.specs.declared.node.Binary.{Binary}
-use Rattle.rule_syntax.specs.declared.node.Function.{Function}
+use Rattle.rule_tree.specs.declared.node.Unary.{Unary}
+use Rattle.rule_tree.specs.declared.node.Unary.TheVariants.{Plus, Minus, Not}
+use Rattle.rule_tree.specs.declared.node.Binary.{Binary}
+use Rattle.rule_tree.specs.declared.node.Function.{Function}
 use Rattle.quantity.specs.Bytes.{Bytes, is_empty, parts_outside, all_there}
 use Rattle.quantity.specs.Digits.{whole_number, with_sign_of, has_length}
 use Rattle.quantity.specs.Literals.{unsigned_literal}
 use Rattle.rule_syntax.specs.Tokens.{Token, word, number, mark, is_mark, is_word, parentheses_after}
-use Rattle.rule_syntax.specs.Phrases as P
-use Rattle.rule_syntax.specs.Phrases.{Cell, Phrase, Phrases, phrases, Assigned, Written, out, Level, expr, disj, conj, neg, comp, sum, prod, signed, primary, tighter, left_of, operator_words, operator_marks, counts, functions, looked_up, argument_count}
+use Rattle.rule_tree.specs.Phrases as P
+use Rattle.rule_tree.specs.Phrases.{Cell, Phrase, Phrases, phrases, Assigned, Written, out, Level, expr, disj, conj, neg, comp, sum, prod, signed, primary, tighter, left_of, operator_words, operator_marks, counts, functions, looked_up, argument_count}
 use Rattle.rule_syntax.specs.Grammar.{at_out}
 
 -- ---- cuts

@@ -5,15 +5,15 @@ use Rattle.std.specs.declared.result.Result.TheVariants.{Ok, Err}
 use Rattle.std.specs.List.{list_any, find}
 use Rattle.std.specs.Option.{ok_or, option_and_then}
 use Rattle.std.specs.Bool.{then_some}
-use Rattle.rule_syntax.specs.Expression.{Rule}
+use Rattle.rule_tree.specs.Expression.{Rule}
 use Rattle.quantity.specs.Bytes.{Bytes, is_among, has_repeat}
 use Rattle.rule_syntax.specs.declared.refusal.RuleRefusal.{RuleRefusal}
 use Rattle.rule_syntax.specs.declared.refusal.RuleRefusal.TheVariants.{BadRule, BadSort, RandomRefused, UnknownFunction, NotANeighbour, UnknownVariable, UnknownNeighbourPort, TooLarge}
 use Rattle.rule_syntax.specs.Tokens.{Token, tokens, words_in, is_large}
-use Rattle.rule_syntax.specs.Phrases.{Phrase, expr, Assigned, Written, counts, functions, first_texts}
+use Rattle.rule_tree.specs.Phrases.{Phrase, expr, Assigned, Written, counts, functions, first_texts}
 use Rattle.rule_syntax.specs.Grammar.{IsPhrase, IsRule}
 use Rattle.rule_syntax.specs.Reading.{phrase_of, written_rule}
-use Rattle.rule_syntax.specs.Scope.{Names, named_by, is_no_neighbour, is_no_variable, is_no_port, rule_in, has_right_sorts, extent_of, is_sound}
+use Rattle.rule_tree.specs.Scope.{Names, named_by, is_no_neighbour, is_no_variable, is_no_port, rule_in, has_right_sorts, extent_of, is_sound}
 
 abbrev pub random_names : List Bytes
 random_names =

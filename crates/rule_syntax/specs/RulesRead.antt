@@ -6,22 +6,22 @@ use Rattle.std.specs.List.{flat_map, list_all}
 use Rattle.std.specs.Option.{option_map, option_or, unwrap_or}
 use Rattle.std.specs.Str.{bytes_eq}
 use Rattle.quantity.specs.Bytes.{Bytes, is_empty}
-use Rattle.rule_syntax.specs.Expression.{Expr, expr_of, rule_of}
+use Rattle.rule_tree.specs.Expression.{Expr, expr_of, rule_of}
 use Rattle.rule_syntax.specs.Grammar.{at_out}
-use Rattle.rule_syntax.specs.Phrases.{Phrase, Assigned, Written}
+use Rattle.rule_tree.specs.Phrases.{Phrase, Assigned, Written}
 use Rattle.rule_syntax.specs.Reading.{Part, and_on, block, cell_phrase_before, given_in, number_before, question_before}
 use Rattle.rule_syntax.specs.RuleOf.{has_port_twice}
-use Rattle.rule_syntax.specs.Scope.{Names, Named, a_port, a_variable, named_by, named_in, numbered, port_number, rule_in, variable_number, has_right_sorts}
+use Rattle.rule_tree.specs.Scope.{Names, Named, a_port, a_variable, named_by, named_in, numbered, port_number, rule_in, variable_number, has_right_sorts}
 use Rattle.rule_syntax.specs.Shown.{tokens_of}
-use Rattle.rule_syntax.specs.Sound.{a_number, is_sort, sort_of}
+use Rattle.rule_tree.specs.Sound.{a_number, is_sort, sort_of}
 use Rattle.rule_syntax.specs.Terms.{Misses}
 use Rattle.rule_syntax.specs.Tokens.{Token, word, mark, is_mark}
 use Rattle.rule_syntax.specs.declared.named.Kind.{Kind}
 use Rattle.rule_syntax.specs.declared.named.Kind.TheVariants.{Port, Variable}
 use Rattle.rule_syntax.specs.declared.named.NamedValue.{NamedValue}
 use Rattle.rule_syntax.specs.declared.named.NamedValues.{NamedValues}
-use Rattle.rule_syntax.specs.declared.node.Give.{Give}
-use Rattle.rule_syntax.specs.declared.node.SetVariable.{SetVariable}
+use Rattle.rule_tree.specs.declared.node.Give.{Give}
+use Rattle.rule_tree.specs.declared.node.SetVariable.{SetVariable}
 use Rattle.rule_syntax.specs.declared.assigned.NamedFront.{NamedFront}
 use Rattle.rule_syntax.specs.declared.token.Token as T
 use Rattle.rule_syntax.specs.declared.written.ReadRule.{ReadRule}

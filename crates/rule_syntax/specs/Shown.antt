@@ -2,9 +2,9 @@
 use Rattle.std.specs.Prelude.{◌≤◌, ℤ, Option, Some, None, List, [], ◌∷◌, map, length, codes}
 use Rattle.quantity.specs.Bytes.{Bytes}
 use Rattle.rule_syntax.specs.Tokens.{Token, word, number, mark}
-use Rattle.rule_syntax.specs.Phrases as P
-use Rattle.rule_syntax.specs.Phrases.{Cell, Level}
-use Rattle.rule_syntax.specs.Scope as S
+use Rattle.rule_tree.specs.Phrases as P
+use Rattle.rule_tree.specs.Phrases.{Cell, Level}
+use Rattle.rule_tree.specs.Scope as S
 use Rattle.rule_syntax.specs.declared.token.Token as T
 use Rattle.rule_syntax.specs.declared.token.Token.TheVariants.{Word, Number, Mark as Mark'}
 use Rattle.rule_syntax.specs.declared.token.Mark.{Mark}

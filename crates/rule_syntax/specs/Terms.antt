@@ -1,11 +1,11 @@
 -- What is known of an expression and of a rule when they are read.
 use Rattle.std.specs.Prelude.{◌≡◌, ⊤, Option, Some, None, List, [], ◌∷◌, length}
 use Rattle.std.specs.List.{list_any}
-use Rattle.rule_syntax.specs.Expression.{expr_of}
-use Rattle.rule_syntax.specs.Phrases.{Phrase}
-use Rattle.rule_syntax.specs.Scope.{Names, Named, named_in, numbered, is_no_neighbour, is_no_variable, is_no_port}
-use Rattle.rule_syntax.specs.Sound as E
-use Rattle.rule_syntax.specs.Sound.{sort_of}
+use Rattle.rule_tree.specs.Expression.{expr_of}
+use Rattle.rule_tree.specs.Phrases.{Phrase}
+use Rattle.rule_tree.specs.Scope.{Names, Named, named_in, numbered, is_no_neighbour, is_no_variable, is_no_port}
+use Rattle.rule_tree.specs.Sound as E
+use Rattle.rule_tree.specs.Sound.{sort_of}
 use Rattle.rule_syntax.specs.Reading.{Part}
 use Rattle.rule_syntax.specs.Shown.{tokens_of}
 use Rattle.rule_syntax.specs.declared.front.Front.{Front}

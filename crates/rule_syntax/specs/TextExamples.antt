@@ -5,17 +5,17 @@ use Rattle.quantity.specs.declared.place.Offset.{Offset}
 use Rattle.quantity.specs.declared.truth.Tri.TheVariants.{True}
 use Rattle.quantity.specs.declared.value.Value.TheVariants.{Num}
 use Rattle.quantity.specs.declared.value.Compare.TheVariants.{Equal, Greater}
-use Rattle.rule_syntax.specs.declared.node.Unary.TheVariants.{Plus, Minus, Not}
-use Rattle.rule_syntax.specs.declared.node.Binary.TheVariants.{Imp, Or, And, Cmp, Add, Sub, Mul}
-use Rattle.rule_syntax.specs.declared.node.Count.TheVariants.{Ones}
-use Rattle.rule_syntax.specs.declared.node.Function.TheVariants.{Min}
-use Rattle.rule_syntax.specs.Expression.{Expr, Rule, number, truth, neighbour, variable, now, counted, one, two, call, nil, cons}
-use Rattle.rule_syntax.specs.Meaning.{whole}
+use Rattle.rule_tree.specs.declared.node.Unary.TheVariants.{Plus, Minus, Not}
+use Rattle.rule_tree.specs.declared.node.Binary.TheVariants.{Imp, Or, And, Cmp, Add, Sub, Mul}
+use Rattle.rule_tree.specs.declared.node.Count.TheVariants.{Ones}
+use Rattle.rule_tree.specs.declared.node.Function.TheVariants.{Min}
+use Rattle.rule_tree.specs.Expression.{Expr, Rule, number, truth, neighbour, variable, now, counted, one, two, call, nil, cons}
+use Rattle.rule_tree.specs.Meaning.{whole}
 use Rattle.quantity.specs.Bytes.{Bytes}
 use Rattle.rule_syntax.specs.declared.refusal.RuleRefusal.{RuleRefusal}
 use Rattle.rule_syntax.specs.declared.refusal.RuleRefusal.TheVariants.{TooLarge, BadRule, BadSort, RandomRefused, UnknownFunction, NotANeighbour, UnknownVariable, UnknownNeighbourPort}
 use Rattle.rule_syntax.specs.Tokens.{word, number as number', mark, tokens, is_large}
-use Rattle.rule_syntax.specs.Scope.{Names}
+use Rattle.rule_tree.specs.Scope.{Names}
 use Rattle.rule_syntax.specs.RuleOf.{rule_of}
 
 abbrev pub offset : ℤ → ℤ → Offset

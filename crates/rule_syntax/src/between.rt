@@ -9,7 +9,7 @@ ghost use Rattle.rule_syntax.specs.Terms.{IsFront, Stands};
 use crate::cell::after_mark;
 use crate::front::Front;
 use crate::level::Level;
-use crate::node::{Binary, Function, Unary};
+use rule_tree::{Binary, Function, Unary};
 use crate::table::{argument_count, not_in, operator_in, sign_in};
 use crate::term::Term;
 use crate::token::{Mark, Token};

@@ -1,4 +1,4 @@
-// Rules as trees and as texts, and what they mean.
+// Rules as texts: the grammar, and the reader.
 #![tactic(auto)]
 
 mod assigned;
@@ -6,12 +6,9 @@ mod atom;
 mod between;
 mod cell;
 mod front;
-pub mod laws;
 mod level;
 mod named;
 pub mod names;
-pub mod node;
-pub mod outcome;
 mod phrase;
 mod piece;
 pub mod refusal;
@@ -29,7 +26,5 @@ mod word;
 mod written;
 
 pub use names::Names;
-pub use node::{Binary, Count, Function, Give, Node, RuleTree, SetVariable, Unary};
-pub use outcome::{Answer, RuleStop};
 pub use refusal::RuleRefusal;
 pub use rule::Rule;

@@ -4,15 +4,15 @@ ghost use Rattle.std.specs.List.{list_any};
 ghost use Rattle.std.specs.Str.{bytes_eq};
 ghost use Rattle.quantity.specs.Bytes.{has_repeat};
 ghost use Rattle.rule_syntax.specs.Grammar.{at_out};
-ghost use Rattle.rule_syntax.specs.Phrases.{Assigned, Phrase};
+ghost use Rattle.rule_tree.specs.Phrases.{Assigned, Phrase};
 ghost use Rattle.rule_syntax.specs.RulesRead.{AreNamed, give_of, mark_for, named_for, number_for, set_of, phrase_for, words_of};
 ghost use Rattle.rule_syntax.specs.Shown.{AreFew, names_of, text_of};
-ghost use Rattle.rule_syntax.specs.Sound.{a_number, a_truth, is_sort};
+ghost use Rattle.rule_tree.specs.Sound.{a_number, a_truth, is_sort};
 ghost use Rattle.rule_syntax.specs.Terms.{Misses, Stands, sort_or_none};
 ghost use Rattle.rule_syntax.specs.declared.named.NamedValue.{NamedValue as AnyValue};
 
 use crate::names::Names;
-use crate::node::{Give, Node, SetVariable};
+use rule_tree::{Give, Node, SetVariable};
 use crate::scope::{port_number, variable_number};
 use crate::term::{Lacks, Sort, Term};
 use crate::token::Mark;

@@ -3,7 +3,7 @@
 ghost use Rattle.std.specs.Prelude.{◌≡◌, ◌<◌, ◌≤◌, ℕ, length, IfOk, IfSome};
 ghost use Rattle.rule_syntax.specs.Between.{AreArguments, operands_before, sign_at};
 ghost use Rattle.rule_syntax.specs.Descent.{at_level, call_before, enclosed_before, list_before, prefixed, primary_before, reading};
-ghost use Rattle.rule_syntax.specs.Phrases.{expr};
+ghost use Rattle.rule_tree.specs.Phrases.{expr};
 ghost use Rattle.rule_syntax.specs.Reading.{phrase_of};
 ghost use Rattle.rule_syntax.specs.Shown.{AreFew, level_of, names_of, tokens_of};
 ghost use Rattle.rule_syntax.specs.Terms.{IsFront, IsTerm};
@@ -16,7 +16,7 @@ use crate::cell::after_mark;
 use crate::front::Front;
 use crate::level::Level;
 use crate::names::Names;
-use crate::node::Function;
+use rule_tree::Function;
 use crate::term::Term;
 use crate::token::{Mark, Token};
 use quantity::OutOfMemory;

@@ -1,14 +1,14 @@
 // Rules from texts.
 ghost use Rattle.std.specs.Prelude.{◌≡◌, true, IfOk, IfErr};
 ghost use Rattle.std.specs.declared.result.Result.TheVariants.{Ok, Err};
-ghost use Rattle.rule_syntax.specs.Expression as E;
+ghost use Rattle.rule_tree.specs.Expression as E;
 ghost use Rattle.rule_syntax.specs.RuleOf.{judged, rule_of, RuleIs};
 ghost use Rattle.rule_syntax.specs.RulesRead.{IsRead};
-ghost use Rattle.rule_syntax.specs.Scope.{extent_of, is_sound};
+ghost use Rattle.rule_tree.specs.Scope.{extent_of, is_sound};
 ghost use Rattle.rule_syntax.specs.Shown.{AreFew, names_of};
 
 use crate::names::Names;
-use crate::node::RuleTree;
+use rule_tree::RuleTree;
 use crate::refusal::RuleRefusal;
 use crate::tokens::{is_large, tokens, words_refused};
 use crate::written::{ReadRule, written_rule};

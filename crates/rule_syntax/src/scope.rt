@@ -3,8 +3,8 @@ ghost use Rattle.std.specs.Prelude.{◌≡◌, ◌<◌, ◌&&◌, ◌-ℤ◌, po
 ghost use Rattle.std.specs.List.{position};
 ghost use Rattle.std.specs.Str.{bytes_eq};
 ghost use Rattle.quantity.specs.Arithmetic.{is_zero};
-ghost use Rattle.rule_syntax.specs.Phrases.{out};
-ghost use Rattle.rule_syntax.specs.Scope.{offset_number, offset_of, port_number, same_offset, variable_number};
+ghost use Rattle.rule_tree.specs.Phrases.{out};
+ghost use Rattle.rule_tree.specs.Scope.{offset_number, offset_of, port_number, same_offset, variable_number};
 ghost use Rattle.rule_syntax.specs.Shown.{AreFew, cell_of, names_of};
 
 use crate::cell::WrittenCell;

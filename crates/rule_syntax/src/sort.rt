@@ -1,14 +1,14 @@
 // The sorts that operators and functions take and give.
 ghost use Rattle.std.specs.Prelude.{◌≡◌, ◌&&◌, [], ◌∷◌, length, map};
 ghost use Rattle.std.specs.Cmp.Lexicographic.{pointwise};
-ghost use Rattle.rule_syntax.specs.Phrases.{phrases};
-ghost use Rattle.rule_syntax.specs.Scope.{all_numbered};
-ghost use Rattle.rule_syntax.specs.Sound.{applied, binary_signature, function_signature, in_front, is_sort, same_sort, sorts_of, unary_signature};
+ghost use Rattle.rule_tree.specs.Phrases.{phrases};
+ghost use Rattle.rule_tree.specs.Scope.{all_numbered};
+ghost use Rattle.rule_tree.specs.Sound.{applied, binary_signature, function_signature, in_front, is_sort, same_sort, sorts_of, unary_signature};
 ghost use Rattle.rule_syntax.specs.Terms.{AllStand, sort_or_none, sort_shown};
 ghost use Rattle.rule_syntax.specs.declared.term.Sort.{Sort as AnySort};
 ghost use Rattle.rule_syntax.specs.declared.term.Term.{Term as AnyTerm};
 
-use crate::node::{Binary, Function, Unary};
+use rule_tree::{Binary, Function, Unary};
 use crate::term::{Sort, Term};
 
 /// The sort of a sign of an operand; None where it doesn't take the operand.

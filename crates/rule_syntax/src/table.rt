@@ -4,14 +4,14 @@ ghost use Rattle.std.specs.List.{find};
 ghost use Rattle.std.specs.Str.{bytes_eq};
 ghost use Rattle.rule_syntax.specs.Descent.{not_in, sign_in};
 ghost use Rattle.rule_syntax.specs.FunctionWords.{function_word};
-ghost use Rattle.rule_syntax.specs.Phrases as P;
-ghost use Rattle.rule_syntax.specs.Phrases.{argument_count, counts, functions, looked_up, operator_marks, operator_words};
+ghost use Rattle.rule_tree.specs.Phrases as P;
+ghost use Rattle.rule_tree.specs.Phrases.{argument_count, counts, functions, looked_up, operator_marks, operator_words};
 ghost use Rattle.rule_syntax.specs.Reading.{operator_in};
 ghost use Rattle.rule_syntax.specs.Shown.{level_of, text_of, token_of};
 ghost use Rattle.rule_syntax.specs.Tokens.{is_mark};
 
 use crate::level::Level;
-use crate::node::{Binary, Count, Function, Unary};
+use rule_tree::{Binary, Count, Function, Unary};
 use crate::token::{Mark, Token};
 use quantity::Compare;
 

@@ -1,17 +1,17 @@
 // Expressions that are read, and what is known of each at once.
 ghost use Rattle.std.specs.Prelude.{◌≡◌, ◌==◌, ◌&&◌, ◌||◌, ◌++◌, [], ◌∷◌, if◌then◌else◌, length, is_some, map, nat_lt, IfOk};
-ghost use Rattle.rule_syntax.specs.Expression as E;
-ghost use Rattle.rule_syntax.specs.Expression.{expr_of};
-ghost use Rattle.rule_syntax.specs.Phrases as P;
-ghost use Rattle.rule_syntax.specs.Scope.{a_cell, a_port, a_variable, all_named_in, offset_number};
+ghost use Rattle.rule_tree.specs.Expression as E;
+ghost use Rattle.rule_tree.specs.Expression.{expr_of};
+ghost use Rattle.rule_tree.specs.Phrases as P;
+ghost use Rattle.rule_tree.specs.Scope.{a_cell, a_port, a_variable, all_named_in, offset_number};
 ghost use Rattle.rule_syntax.specs.Shown.{AreFew, cell_of, names_of};
-ghost use Rattle.rule_syntax.specs.Sound.{a_number};
+ghost use Rattle.rule_tree.specs.Sound.{a_number};
 ghost use Rattle.rule_syntax.specs.Terms.{AllStand, Misses, Stands, sort_or_none};
 ghost use Rattle.rule_syntax.specs.declared.term.Term.{Term as AnyTerm};
 
 use crate::cell::WrittenCell;
 use crate::names::Names;
-use crate::node::{Binary, Count, Function, Node, Unary};
+use rule_tree::{Binary, Count, Function, Node, Unary};
 use crate::scope::{offset_number, port_number, variable_number};
 use crate::sort::{sort_of_call, sort_of_one, sort_of_two};
 use quantity::{OutOfMemory, Tri, Value};

@@ -1,7 +1,7 @@
 // The parts of a rule, from its tokens.
 ghost use Rattle.std.specs.Prelude.{◌≡◌, codes, IfOk};
 ghost use Rattle.std.specs.Option.{option_map};
-ghost use Rattle.rule_syntax.specs.Phrases.{Written};
+ghost use Rattle.rule_tree.specs.Phrases.{Written};
 ghost use Rattle.rule_syntax.specs.Reading.{all_assigned, cell_phrase_before, delay_before, given_in, last_block, number_before, phrase_block, question_before, sets_before, sets_block, value_before, written_rule};
 ghost use Rattle.rule_syntax.specs.RulesRead.{AreNamed, AreRead, AreValues, IsNamedFront, IsRead, braced_value, plain_before, plain_value, question_or_cell};
 ghost use Rattle.rule_syntax.specs.Shown.{AreFew, names_of, tokens_of};
@@ -12,7 +12,7 @@ use crate::atom::{block, cell_before, number_before};
 use crate::front::Front;
 use crate::named::{Kind, NamedValues, gives, has_repeat, is_number, is_truth, sets};
 use crate::names::Names;
-use crate::node::RuleTree;
+use rule_tree::RuleTree;
 use crate::phrase::phrase;
 use crate::term::{Lacks, Term};
 use crate::token::{Mark, Token};

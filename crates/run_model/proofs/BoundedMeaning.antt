@@ -10,19 +10,19 @@ use Rattle.quantity.specs.declared.truth.Tri.TheVariants.{True, False, Undef}
 use Rattle.quantity.specs.declared.value.Value.{Value}
 use Rattle.quantity.specs.declared.value.Value.TheVariants.{Undefined, Num}
 use Rattle.quantity.specs.Arithmetic.{IsBounded, same_value}
-use Rattle.rule_syntax.specs.declared.outcome.Answer.{Answer}
-use Rattle.rule_syntax.specs.declared.outcome.Answer.TheVariants.{Num as Number', Logic}
-use Rattle.rule_syntax.specs.declared.node.Unary.{Unary}
-use Rattle.rule_syntax.specs.declared.node.Unary.TheVariants.{Plus, Minus, Not}
-use Rattle.rule_syntax.specs.declared.node.Binary.{Binary}
-use Rattle.rule_syntax.specs.declared.node.Binary.TheVariants.{Imp, Eqv, Or, Xor, And, Cmp, Add, Sub, Mul, Div}
-use Rattle.rule_syntax.specs.declared.node.Count.{Count}
-use Rattle.rule_syntax.specs.declared.node.Count.TheVariants.{Ones, Zeros, Undefs}
-use Rattle.rule_syntax.specs.declared.node.Function.{Function}
-use Rattle.rule_syntax.specs.declared.node.Function.TheVariants.{StateCount, CellPos, If, Ifu, Abs, Sign, Sqrt, Trunc, Round, Fractional, Min, Max, Remainder, Even, Odd, IsInt, IsUndefined}
-use Rattle.rule_syntax.specs.Expression as E
-use Rattle.rule_syntax.specs.Expression.{Expr, Exprs}
-use Rattle.rule_syntax.specs.Meaning.{Sight, value_at, outs, whole, number_in, truth_in, as_answer, how_many, counted, one_meaning, two_meaning, by_truth, state_count, coordinates, cell_position, call_meaning, with_answer, with_answers, in_front, meaning, meanings}
+use Rattle.rule_tree.specs.declared.outcome.Answer.{Answer}
+use Rattle.rule_tree.specs.declared.outcome.Answer.TheVariants.{Num as Number', Logic}
+use Rattle.rule_tree.specs.declared.node.Unary.{Unary}
+use Rattle.rule_tree.specs.declared.node.Unary.TheVariants.{Plus, Minus, Not}
+use Rattle.rule_tree.specs.declared.node.Binary.{Binary}
+use Rattle.rule_tree.specs.declared.node.Binary.TheVariants.{Imp, Eqv, Or, Xor, And, Cmp, Add, Sub, Mul, Div}
+use Rattle.rule_tree.specs.declared.node.Count.{Count}
+use Rattle.rule_tree.specs.declared.node.Count.TheVariants.{Ones, Zeros, Undefs}
+use Rattle.rule_tree.specs.declared.node.Function.{Function}
+use Rattle.rule_tree.specs.declared.node.Function.TheVariants.{StateCount, CellPos, If, Ifu, Abs, Sign, Sqrt, Trunc, Round, Fractional, Min, Max, Remainder, Even, Odd, IsInt, IsUndefined}
+use Rattle.rule_tree.specs.Expression as E
+use Rattle.rule_tree.specs.Expression.{Expr, Exprs}
+use Rattle.rule_tree.specs.Meaning.{Sight, value_at, outs, whole, number_in, truth_in, as_answer, how_many, counted, one_meaning, two_meaning, by_truth, state_count, coordinates, cell_position, call_meaning, with_answer, with_answers, in_front, meaning, meanings}
 use Rattle.run_model.specs.Bounds.{IsDelay, HasBoundedNumbers, HaveBoundedNumbers}
 use Rattle.run_model.proofs.BoundedValues.{sum-is, difference-is, product-is, quotient-is, remainder-is, least-is, greatest-is, negative-is, size-is, sign-is, whole_part-is, fraction-is, rounded-is, root-is}
 

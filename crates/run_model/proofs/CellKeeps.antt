@@ -6,8 +6,8 @@ use Rattle.std.specs.Option.{option_map}
 use Rattle.std.specs.Str.{bytes_eq}
 use Rattle.std.proofs.lemmas.List.Elements.{All-cons, All-head, All-tail}
 use Rattle.quantity.specs.declared.value.Value.{Value}
-use Rattle.rule_syntax.specs.Meaning.{Sight}
-use Rattle.rule_syntax.specs.Expression.{Rule}
+use Rattle.rule_tree.specs.Meaning.{Sight}
+use Rattle.rule_tree.specs.Expression.{Rule}
 use Rattle.cell_grid.specs.Zones.{zone_of}
 use Rattle.atomic_face.specs.Classes.{Bag}
 use Rattle.atomic_face.specs.declared.class.PortNo.{PortNo}

@@ -6,8 +6,8 @@ use Rattle.std.proofs.lemmas.List.Elements.{All-head, All-tail}
 use Rattle.std.proofs.lemmas.Bool.Decides.{nat_tests}
 use Rattle.quantity.specs.declared.value.Value.{Value}
 use Rattle.quantity.specs.Arithmetic.{same_value}
-use Rattle.rule_syntax.specs.Meaning.{Sight, value_at}
-use Rattle.rule_syntax.specs.Chosen.{Chosen, chosen}
+use Rattle.rule_tree.specs.Meaning.{Sight, value_at}
+use Rattle.rule_tree.specs.Chosen.{Chosen, chosen}
 use Rattle.atomic_face.specs.Classes.{Bag, is_at}
 use Rattle.model_tree.specs.declared.group.DelayKind.{DelayKind}
 use Rattle.model_tree.specs.Tree.{Group, Leaf, atomic_leaf, cell_leaf}

@@ -5,11 +5,11 @@ use Rattle.std.proofs.lemmas.List.{length-map, length-set}
 use Rattle.quantity.specs.declared.value.Value.{Value}
 use Rattle.quantity.specs.declared.truth.Tri.{Tri}
 use Rattle.quantity.specs.declared.truth.Tri.TheVariants.{True, False, Undef}
-use Rattle.rule_syntax.specs.declared.outcome.Answer.{Answer}
-use Rattle.rule_syntax.specs.declared.outcome.RuleStop.{RuleStop}
-use Rattle.rule_syntax.specs.Expression.{Expr, Rule}
-use Rattle.rule_syntax.specs.Meaning.{Sight, number_in, truth_in, meaning}
-use Rattle.rule_syntax.specs.Chosen.{Given, Chosen, delay_of, unless_overflow, after, values_of, variables_after, with_delay, given, if_true, chosen}
+use Rattle.rule_tree.specs.declared.outcome.Answer.{Answer}
+use Rattle.rule_tree.specs.declared.outcome.RuleStop.{RuleStop}
+use Rattle.rule_tree.specs.Expression.{Expr, Rule}
+use Rattle.rule_tree.specs.Meaning.{Sight, number_in, truth_in, meaning}
+use Rattle.rule_tree.specs.Chosen.{Given, Chosen, delay_of, unless_overflow, after, values_of, variables_after, with_delay, given, if_true, chosen}
 use Rattle.atomic_face.specs.Classes.{Bag}
 use Rattle.model_tree.specs.declared.group.DelayKind.{DelayKind}
 use Rattle.model_tree.specs.Tree.{Group}

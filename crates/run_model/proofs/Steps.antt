@@ -2,7 +2,7 @@
 use Rattle.std.proofs.Common.{◌≡◌, ℕ, ◌<◌, ◌≤◌, Bool, true, false, cond, Option, Some, None, List, refl, arith}
 use Rattle.std.specs.Prelude.{nat_lt, nat_le}
 use Rattle.std.proofs.lemmas.Bool.Decides.{nat_tests}
-use Rattle.rule_syntax.specs.declared.outcome.RuleStop.{RuleStop}
+use Rattle.rule_tree.specs.declared.outcome.RuleStop.{RuleStop}
 use Rattle.model_tree.specs.Tree.{Tree}
 use Rattle.run_model.specs.Cycle.{Moved, collected, moves, first_stop}
 use Rattle.run_model.specs.Run.{Cycle, RunState, done, too_many, ended, cycled, next_instant, cycles_at, at_top, cycle_of, state_after, unless_stop, cycled_at, next_at, next_cycle}

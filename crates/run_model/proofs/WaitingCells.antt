@@ -7,8 +7,8 @@ use Rattle.std.proofs.lemmas.Bool.Decides.{nat_tests}
 use Rattle.quantity.specs.declared.value.Value.{Value}
 use Rattle.quantity.specs.Arithmetic.{same_value}
 use Rattle.quantity.specs.Delay.{put_pair}
-use Rattle.rule_syntax.specs.Meaning.{Sight}
-use Rattle.rule_syntax.specs.Chosen.{Chosen, chosen}
+use Rattle.rule_tree.specs.Meaning.{Sight}
+use Rattle.rule_tree.specs.Chosen.{Chosen, chosen}
 use Rattle.atomic_face.specs.Classes.{Bag, is_at}
 use Rattle.model_tree.specs.declared.group.DelayKind.{DelayKind}
 use Rattle.model_tree.specs.declared.group.DelayKind.TheVariants.{Transport, Inertial}

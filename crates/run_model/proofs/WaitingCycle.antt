@@ -5,7 +5,7 @@ use Rattle.std.specs.List.{All, filter}
 use Rattle.std.proofs.lemmas.List.Elements.{All-nil, All-cons, All-head, All-tail, All-map, All-weaker}
 use Rattle.std.proofs.lemmas.Bool.Decides.{nat_tests}
 use Rattle.quantity.specs.declared.value.Value.TheVariants.{Undefined}
-use Rattle.rule_syntax.specs.declared.outcome.RuleStop.{RuleStop}
+use Rattle.rule_tree.specs.declared.outcome.RuleStop.{RuleStop}
 use Rattle.atomic_face.specs.Held.{Held}
 use Rattle.atomic_face.specs.Classes.{Bag, moved_state}
 use Rattle.model_tree.specs.Tree.{Tree, Leaf, atomic_leaf, cell_leaf, leaves}

@@ -3,8 +3,8 @@ use Rattle.std.specs.Prelude.{◌≡◌, ℕ, false, Some, None, List, [], ◌�
 use Rattle.std.specs.declared.result.Result.TheVariants.{Ok, Err}
 use Rattle.quantity.specs.declared.value.Value.{Value}
 use Rattle.quantity.specs.declared.value.Value.TheVariants.{Undefined}
-use Rattle.rule_syntax.specs.declared.outcome.RuleStop.TheVariants.{NoTrueRule}
-use Rattle.rule_syntax.specs.Meaning.{Sight, whole}
+use Rattle.rule_tree.specs.declared.outcome.RuleStop.TheVariants.{NoTrueRule}
+use Rattle.rule_tree.specs.Meaning.{Sight, whole}
 use Rattle.atomic_face.specs.Classes.{Bag}
 use Rattle.model_tree.specs.declared.group.DelayKind.{DelayKind}
 use Rattle.model_tree.specs.declared.group.DelayKind.TheVariants.{Transport, Inertial}

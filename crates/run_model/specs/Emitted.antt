@@ -1,7 +1,7 @@
 -- What a cell has emitted at its port out is what it gave there last.
 use Rattle.std.specs.Prelude.{◌≡◌, ℕ, ◌==◌, Some, List, [], ◌∷◌, if◌then◌else◌, ⊤}
 use Rattle.quantity.specs.declared.value.Value.{Value}
-use Rattle.rule_syntax.specs.Meaning.{value_at}
+use Rattle.rule_tree.specs.Meaning.{value_at}
 use Rattle.model_tree.specs.Tree.{Tree, Leaf, atomic_leaf, cell_leaf}
 use Rattle.run_model.specs.Cycle.{LeafState, emitted_in}
 use Rattle.run_model.specs.Run.{PortRecord, Cycle, RunState, Verdict}

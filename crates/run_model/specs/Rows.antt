@@ -5,14 +5,14 @@ use Rattle.quantity.specs.declared.value.Value.TheVariants.{Undefined}
 use Rattle.quantity.specs.declared.value.Compare.TheVariants.{Equal, Greater}
 use Rattle.quantity.specs.declared.truth.Tri.TheVariants.{True}
 use Rattle.quantity.specs.declared.place.Offset.{Offset}
-use Rattle.rule_syntax.specs.declared.node.Unary.TheVariants.{Not}
-use Rattle.rule_syntax.specs.declared.node.Binary.TheVariants.{Mul, Sub, Cmp}
-use Rattle.rule_syntax.specs.declared.node.Count.TheVariants.{Ones, Undefs}
-use Rattle.rule_syntax.specs.declared.node.Function.TheVariants.{CellPos, IsUndefined}
-use Rattle.rule_syntax.specs.declared.outcome.RuleStop.TheVariants.{NoTrueRule, Overflow}
-use Rattle.rule_syntax.specs.Expression as E
-use Rattle.rule_syntax.specs.Expression.{Rule, Expr, number, truth, neighbour, variable, one, two, call, counted}
-use Rattle.rule_syntax.specs.Meaning.{whole}
+use Rattle.rule_tree.specs.declared.node.Unary.TheVariants.{Not}
+use Rattle.rule_tree.specs.declared.node.Binary.TheVariants.{Mul, Sub, Cmp}
+use Rattle.rule_tree.specs.declared.node.Count.TheVariants.{Ones, Undefs}
+use Rattle.rule_tree.specs.declared.node.Function.TheVariants.{CellPos, IsUndefined}
+use Rattle.rule_tree.specs.declared.outcome.RuleStop.TheVariants.{NoTrueRule, Overflow}
+use Rattle.rule_tree.specs.Expression as E
+use Rattle.rule_tree.specs.Expression.{Rule, Expr, number, truth, neighbour, variable, one, two, call, counted}
+use Rattle.rule_tree.specs.Meaning.{whole}
 use Rattle.cell_grid.specs.declared.grid.Border.{Border}
 use Rattle.cell_grid.specs.declared.grid.Border.TheVariants.{Wrapped, NoWrapped}
 use Rattle.atomic_face.specs.declared.class.Class.TheVariants.{Generator, Counter}

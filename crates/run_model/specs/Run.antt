@@ -4,7 +4,7 @@ use Rattle.std.specs.List.{filter, flat_map, filter_map, enumerate_from, positio
 use Rattle.std.specs.Option.{option_map}
 use Rattle.std.specs.Str.{bytes_eq}
 use Rattle.quantity.specs.declared.value.Value.{Value}
-use Rattle.rule_syntax.specs.declared.outcome.RuleStop.{RuleStop}
+use Rattle.rule_tree.specs.declared.outcome.RuleStop.{RuleStop}
 use Rattle.atomic_face.specs.declared.class.PortNo.{PortNo}
 pub use Rattle.event_list.specs.Events.{Event}
 use Rattle.atomic_face.specs.Classes.{Bag, is_at}

@@ -5,7 +5,7 @@ use Rattle.std.specs.Option.{option_map}
 use Rattle.quantity.specs.Bytes.{Bytes}
 use Rattle.quantity.specs.ValueTexts.{text5}
 use Rattle.quantity.specs.Times.{time_text}
-use Rattle.rule_syntax.specs.Meaning.{coordinates}
+use Rattle.rule_tree.specs.Meaning.{coordinates}
 use Rattle.cell_grid.specs.Space.{place_of, dims_of}
 use Rattle.model_tree.specs.Tree.{Word, Tree, Leaf, atomic_leaf, cell_leaf, leaves, outs_of}
 use Rattle.model_tree.specs.Pull.{class_ports, cell_ports}

@@ -1,5 +1,5 @@
 // Trees of rules in prefix form, as `(give 0 (+ (cell 1 0) 1)) 100 (and t f) (set 0 2)`.
-use crate::{Binary, Count, Function, Node, RuleTree, Unary};
+use rule_tree::{Binary, Count, Function, Node, RuleTree, Unary};
 use quantity::{Compare, OutOfMemory, Tri, Value};
 use std::alloc::Global;
 

@@ -1,5 +1,5 @@
 use Rattle.std.proofs.Common.{◌≡◌, ◌-◌, ◌∷◌, length, reverse, take, drop, sym, ap, ◌∙◌, arith}
-use Rattle.rule_syntax.specs.Meaning.{call_meaning}
+use Rattle.rule_tree.specs.Meaning.{call_meaning}
 use Rattle.rule_eval.specs.Seen.{seen}
 use Rattle.rule_eval.proofs.Stacks.{arguments_are, below_arguments, pushed_is, slice_rest}
 use Rattle.rule_eval.proofs.machine.step_call.Goals as goal

@@ -1,6 +1,6 @@
 use Rattle.std.proofs.Common.{◌≡◌, map, take}
-use Rattle.rule_syntax.specs.Expression.{expr_of}
-use Rattle.rule_syntax.specs.declared.node.SetVariable.{SetVariable}
+use Rattle.rule_tree.specs.Expression.{expr_of}
+use Rattle.rule_tree.specs.declared.node.SetVariable.{SetVariable}
 use Rattle.rule_eval.specs.RuleCodes.{coded}
 use Rattle.rule_eval.specs.Numbered.{plain}
 use Rattle.rule_eval.proofs.numbered.codes_of_sets.Given as goal

@@ -1,5 +1,5 @@
 use Rattle.std.proofs.Common.{sym, ap, ◌∙◌}
-use Rattle.rule_syntax.specs.Meaning.{whole, outs}
+use Rattle.rule_tree.specs.Meaning.{whole, outs}
 use Rattle.rule_eval.specs.Seen.{sight_of}
 use Rattle.rule_eval.proofs.Pieces.{counted_number}
 use Rattle.rule_eval.proofs.seen.state_count.Goals as goal

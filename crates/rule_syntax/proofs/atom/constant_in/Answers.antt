@@ -1,7 +1,7 @@
 use Rattle.std.proofs.Common.{◌≡◌, Some, rules}
 use Rattle.quantity.specs.declared.truth.Tri.TheVariants.{True, False}
-use Rattle.rule_syntax.specs.Phrases as P
-use Rattle.rule_syntax.specs.Phrases.{looked_up}
+use Rattle.rule_tree.specs.Phrases as P
+use Rattle.rule_tree.specs.Phrases.{looked_up}
 use Rattle.rule_syntax.specs.Reading.{constants}
 use Rattle.rule_syntax.proofs.Fronts.{term_is}
 use Rattle.rule_syntax.proofs.atom.constant_in.Goals as goal

@@ -1,7 +1,7 @@
 use Rattle.std.proofs.Common.{◌≡◌, refl, rules, ◌∷◌}
 use Rattle.std.specs.Prelude.{codes}
 use Rattle.rule_syntax.specs.Descent.{port_value_before}
-use Rattle.rule_syntax.specs.Phrases as P
+use Rattle.rule_tree.specs.Phrases as P
 use Rattle.rule_syntax.specs.Tokens.{word}
 use Rattle.rule_syntax.specs.Shown.{tokens_of}
 use Rattle.rule_syntax.proofs.Fronts.{front_is, port_value_is}

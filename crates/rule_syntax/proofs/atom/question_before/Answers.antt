@@ -1,6 +1,6 @@
 use Rattle.std.proofs.Common.{refl}
 use Rattle.quantity.specs.declared.value.Value.TheVariants.{Undefined}
-use Rattle.rule_syntax.specs.Phrases as P
+use Rattle.rule_tree.specs.Phrases as P
 use Rattle.rule_syntax.specs.Reading.{question_before}
 use Rattle.rule_syntax.specs.Shown.{tokens_of}
 use Rattle.rule_syntax.proofs.Fronts.{front_is, question_is}

@@ -1,7 +1,7 @@
 use Rattle.std.proofs.Common.{None, Some}
 use Rattle.std.specs.Option.{option_map}
-use Rattle.rule_syntax.specs.Phrases as P
-use Rattle.rule_syntax.specs.Phrases.{counts, looked_up}
+use Rattle.rule_tree.specs.Phrases as P
+use Rattle.rule_tree.specs.Phrases.{counts, looked_up}
 use Rattle.rule_syntax.specs.Reading.{constants}
 use Rattle.rule_syntax.proofs.Fronts.{term_first, term_second, count_at, no_count_at}
 use Rattle.rule_syntax.proofs.atom.word_phrase.Goals as goal

@@ -1,6 +1,6 @@
 use Rattle.std.proofs.Common.{vec_len}
-use Rattle.rule_syntax.specs.Phrases.{Phrase}
-use Rattle.rule_syntax.specs.Scope.{Names}
+use Rattle.rule_tree.specs.Phrases.{Phrase}
+use Rattle.rule_tree.specs.Scope.{Names}
 use Rattle.rule_syntax.specs.Terms.{Stands}
 use Rattle.rule_syntax.specs.Between.{with_signs}
 use Rattle.rule_syntax.proofs.Prefixes.{StandsBehind}

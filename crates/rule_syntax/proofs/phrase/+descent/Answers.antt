@@ -2,8 +2,8 @@ use Rattle.std.proofs.Common.{◌<◌, ◌≤◌, ℕ, Option, Some, List, [], �
 use Rattle.std.proofs.lemmas.Result.{IfOk-weaker}
 use Rattle.rule_syntax.specs.declared.front.Front.{Front}
 use Rattle.rule_syntax.specs.declared.between.Arguments.{Arguments}
-use Rattle.rule_syntax.specs.Phrases.{Phrase, expr, comp, primary}
-use Rattle.rule_syntax.specs.Scope.{Names}
+use Rattle.rule_tree.specs.Phrases.{Phrase, expr, comp, primary}
+use Rattle.rule_tree.specs.Scope.{Names}
 use Rattle.rule_syntax.specs.Reading.{Part}
 use Rattle.rule_syntax.specs.Descent.{at_level, reading, prefixed, primary_before, list_before, enclosed_before, call_before}
 use Rattle.rule_syntax.specs.Between.{AreArguments, called_before, most_operators, operands_before, sign_at}

@@ -1,5 +1,5 @@
 use Rattle.std.proofs.Common.{ℕ, ◌+◌, ◌*◌, ◌<◌, ◌≤◌, length}
-use Rattle.rule_syntax.specs.Phrases.{expr}
+use Rattle.rule_tree.specs.Phrases.{expr}
 use Rattle.rule_syntax.specs.Descent.{at_level, list_before, reading}
 use Rattle.rule_syntax.specs.Between.{operands_before}
 use Rattle.rule_syntax.specs.Shown.{level_of, names_of, tokens_of}

@@ -1,7 +1,7 @@
 use Rattle.std.proofs.Common.{◌∙◌}
 use Rattle.rule_syntax.proofs.Places.{small_position}
 use Rattle.rule_syntax.specs.Shown.{cell_of}
-use Rattle.rule_syntax.specs.Scope.{same_offset, offset_of}
+use Rattle.rule_tree.specs.Scope.{same_offset, offset_of}
 use Rattle.rule_syntax.proofs.scope.offset_number.Goals as goal
 
 pub small-requires : goal.small-requires

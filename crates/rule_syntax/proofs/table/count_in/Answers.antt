@@ -1,5 +1,5 @@
 use Rattle.std.specs.Prelude.{codes}
-use Rattle.rule_syntax.specs.Phrases.{counts}
+use Rattle.rule_tree.specs.Phrases.{counts}
 use Rattle.rule_syntax.proofs.Absent.{absent, other}
 use Rattle.rule_syntax.proofs.table.count_in.Goals as goal
 

@@ -1,6 +1,6 @@
 use Rattle.std.proofs.Common.{◌||◌, ap, is_some, sym, ◌∙◌}
 use Rattle.quantity.specs.Bytes.{is_among}
-use Rattle.rule_syntax.specs.Phrases.{first_texts, functions}
+use Rattle.rule_tree.specs.Phrases.{first_texts, functions}
 use Rattle.rule_syntax.proofs.StrangeWords.{is_some-looked_up, language-split}
 use Rattle.rule_syntax.proofs.word.is_of_language.Goals as goal
 

@@ -1,4 +1,4 @@
-use Rattle.rule_syntax.specs.Phrases as P
+use Rattle.rule_tree.specs.Phrases as P
 use Rattle.rule_syntax.specs.Reading.{number_before}
 use Rattle.rule_syntax.specs.Shown.{tokens_of}
 use Rattle.rule_syntax.proofs.ReadParts.{front_read}

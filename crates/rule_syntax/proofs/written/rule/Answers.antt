@@ -2,7 +2,7 @@ use Rattle.std.proofs.Common.{◌∙◌, ap, refl}
 use Rattle.std.specs.Prelude.{◌&&◌}
 use Rattle.quantity.specs.Bytes.{has_repeat}
 use Rattle.rule_syntax.specs.RulesRead.{words_of}
-use Rattle.rule_syntax.specs.Sound.{a_number, is_sort}
+use Rattle.rule_tree.specs.Sound.{a_number, is_sort}
 use Rattle.rule_syntax.specs.Terms.{sort_or_none}
 use Rattle.rule_syntax.proofs.ReadParts.{made_rule}
 use Rattle.rule_syntax.proofs.written.rule.Goals as goal

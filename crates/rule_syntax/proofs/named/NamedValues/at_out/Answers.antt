@@ -1,5 +1,5 @@
 use Rattle.std.proofs.Common.{◌≡◌, ◌∷◌, ◌++◌, [], List, ℕ, subst}
-use Rattle.rule_syntax.specs.Phrases.{out}
+use Rattle.rule_tree.specs.Phrases.{out}
 use Rattle.rule_syntax.specs.RulesRead.{AreNamed, phrase_for}
 use Rattle.rule_syntax.specs.declared.named.Kind.TheVariants.{Port}
 use Rattle.rule_syntax.specs.Shown.{names_of}

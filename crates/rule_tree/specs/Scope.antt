@@ -5,12 +5,12 @@ use Rattle.std.specs.Option.{option_map, unwrap_or, is_some}
 use Rattle.std.specs.Str.{bytes_eq}
 use Rattle.quantity.specs.declared.place.Offset.{Offset}
 use Rattle.quantity.specs.Arithmetic.{is_zero}
-use Rattle.rule_syntax.specs.Expression as E
-use Rattle.rule_syntax.specs.Expression.{Expr, Exprs, Rule}
-use Rattle.rule_syntax.specs.Sound.{a_number, is_sort, sort_of, is_sound_rule}
+use Rattle.rule_tree.specs.Expression as E
+use Rattle.rule_tree.specs.Expression.{Expr, Exprs, Rule}
+use Rattle.rule_tree.specs.Sound.{a_number, is_sort, sort_of, is_sound_rule}
 use Rattle.quantity.specs.Bytes.{Bytes, is_empty}
-use Rattle.rule_syntax.specs.Phrases as P
-use Rattle.rule_syntax.specs.Phrases.{Cell, Phrase, Phrases, Assigned, Written, out}
+use Rattle.rule_tree.specs.Phrases as P
+use Rattle.rule_tree.specs.Phrases.{Cell, Phrase, Phrases, Assigned, Written, out}
 
 -- the names that the rules of a group may use
 pub record Names : Type 0 where

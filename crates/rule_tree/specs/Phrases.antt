@@ -6,14 +6,14 @@ use Rattle.std.specs.Str.{bytes_eq}
 use Rattle.quantity.specs.declared.truth.Tri.{Tri}
 use Rattle.quantity.specs.declared.value.Value.{Value}
 use Rattle.quantity.specs.declared.value.Compare.TheVariants.{Equal, Unequal, Less, LessEqual, Greater, GreaterEqual}
-use Rattle.rule_syntax.specs.declared.node.Unary.{Unary}
-use Rattle.rule_syntax.specs.declared.node.Binary.{Binary}
-use Rattle.rule_syntax.specs.declared.node.Binary.TheVariants.{Imp, Eqv, Or, Xor, And, Cmp, Add, Sub, Mul, Div}
-use Rattle.rule_syntax.specs.declared.node.Count.{Count}
-use Rattle.rule_syntax.specs.declared.node.Count.TheVariants.{Ones, Zeros, Undefs}
-use Rattle.rule_syntax.specs.declared.node.Function.{Function}
-use Rattle.rule_syntax.specs.declared.node.Function.TheVariants.{StateCount, CellPos, If, Ifu, Abs, Sign, Sqrt, Trunc, Round, Fractional, Min, Max, Remainder, Even, Odd, IsInt, IsUndefined}
-use Rattle.rule_syntax.specs.Sound.{function_signature}
+use Rattle.rule_tree.specs.declared.node.Unary.{Unary}
+use Rattle.rule_tree.specs.declared.node.Binary.{Binary}
+use Rattle.rule_tree.specs.declared.node.Binary.TheVariants.{Imp, Eqv, Or, Xor, And, Cmp, Add, Sub, Mul, Div}
+use Rattle.rule_tree.specs.declared.node.Count.{Count}
+use Rattle.rule_tree.specs.declared.node.Count.TheVariants.{Ones, Zeros, Undefs}
+use Rattle.rule_tree.specs.declared.node.Function.{Function}
+use Rattle.rule_tree.specs.declared.node.Function.TheVariants.{StateCount, CellPos, If, Ifu, Abs, Sign, Sqrt, Trunc, Round, Fractional, Min, Max, Remainder, Even, Odd, IsInt, IsUndefined}
+use Rattle.rule_tree.specs.Sound.{function_signature}
 use Rattle.quantity.specs.Bytes.{Bytes}
 
 -- a neighbour's port
