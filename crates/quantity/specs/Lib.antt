@@ -1,6 +1,7 @@
 pub mod Truth
 pub mod Arithmetic
 pub mod Delay
+pub mod ByteNames
 pub mod Bytes
 pub mod Digits
 pub mod Names

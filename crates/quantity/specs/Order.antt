@@ -1,5 +1,6 @@
 -- How comparisons agree with each other, and what too large is.
-use Rattle.std.specs.Prelude.{◌≡◌, ◌<◌, ◌^◌, ◌↔◌, None, Some, ℤ, unsigned_abs}
+use Rattle.std.specs.Prelude.{◌≡◌, ◌<◌, ◌↔◌, None, Some, ℤ, unsigned_abs}
+use Rattle.quantity.specs.declared.bounds.TheConstants.{MAX_RAW}
 use Rattle.quantity.specs.declared.truth.Tri.TheVariants.{True, Undef}
 use Rattle.quantity.specs.declared.value.Compare.{Compare}
 use Rattle.quantity.specs.declared.value.Compare.TheVariants.{Equal, Unequal, Less, LessEqual, Greater, GreaterEqual}
@@ -8,6 +9,7 @@ use Rattle.quantity.specs.declared.value.Value.TheVariants.{Undefined}
 use Rattle.quantity.specs.Arithmetic.{IsBounded, bounded, sum_of, least_of, greatest_of, whole_part, fraction_of, comparison}
 use Rattle.quantity.specs.Truth.{negation, disjunction}
 
+-- comparisons follow from less and equal, and order values as their lesser and greater do
 pub record ComparisonsAgree : Type 0 where
   pub undefined_first : (how : Compare) (b : Value) → comparison how Undefined b ≡ Undef
   pub undefined_second : (how : Compare) (a : Value) → comparison how a Undefined ≡ Undef
@@ -23,7 +25,7 @@ pub record ComparisonsAgree : Type 0 where
 
 -- a raw number makes no value just where it is too large
 abbrev pub OverflowsPastTheBound : Type 0
-OverflowsPastTheBound = (raw : ℤ) → (bounded raw ≡ None) ↔ (10 ^ 15 < unsigned_abs raw)
+OverflowsPastTheBound = (raw : ℤ) → (bounded raw ≡ None) ↔ (MAX_RAW < unsigned_abs raw)
 
 -- the whole part of a number and what is left make the number
 abbrev pub PartsMakeTheNumber : Type 0

@@ -15,6 +15,7 @@ operands =
 abbrev pub column : (Tri → Tri → Tri) → List Tri
 column f = map (λ (p : Tri × Tri). f p.0 p.1) operands
 
+-- the answers of each operator at all operands
 pub record TablesAsSaid : Type 0 where
   pub not : map negation (True ∷ False ∷ Undef ∷ []) ≡ False ∷ True ∷ Undef ∷ []
   pub and : column conjunction ≡ True ∷ False ∷ Undef ∷ False ∷ False ∷ False ∷ Undef ∷ False ∷ Undef ∷ []

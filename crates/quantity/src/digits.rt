@@ -3,6 +3,7 @@ ghost use Rattle.std.specs.Prelude.{◌≡◌, ◌<◌, ◌≤◌, ◌^◌, leng
 ghost use Rattle.std.specs.List.{before_first, after_first, list_all, position};
 ghost use Rattle.std.specs.Char.{is_ascii_digit};
 ghost use Rattle.std.specs.Str.{all_ascii_digits};
+ghost use Rattle.quantity.specs.ByteNames.{minus_sign};
 ghost use Rattle.quantity.specs.Bytes.{begins_with, is_byte};
 ghost use Rattle.quantity.specs.Digits.{are_digits, number_in, signed_number, whole_number, without_sign};
 
@@ -46,7 +47,7 @@ pub(crate) fn without_sign(text: &[u8]) -> &[u8]
 
 /// Whether the text begins with a minus.
 pub(crate) fn is_negative(text: &[u8]) -> bool
-    ensures { result ≡ begins_with 45 text.now }
+    ensures { result ≡ begins_with minus_sign text.now }
 {
     matches!(text, [b'-', ..])
 }

@@ -1,5 +1,5 @@
 // Laws of the definitions, and values worked out by them.
-ghost use Rattle.quantity.specs.Examples.{ComparisonsAsSaid, FunctionsAsSaid, LiteralsAsSaid, NamesAsSaid, PairsArePut, ProductsAsSaid, SumsAsSaid, TextsAsSaid, TimesAsSaid};
+ghost use Rattle.quantity.specs.Examples.{ComparisonsAsSaid, FunctionsAsSaid, LiteralsAsSaid, NamesAsSaid, PairsArePut, ProductsAsSaid, SumsAsSaid, TextsAsSaid, TimesAsSaid, WholeNumbersAsSaid};
 ghost use Rattle.quantity.specs.Order.{ComparisonsAgree, OverflowsPastTheBound, PartsMakeTheNumber};
 ghost use Rattle.quantity.specs.ReadBack.{ReadsNothingElse, ReadsWhatIsWritten};
 ghost use Rattle.quantity.specs.Tables.{LogicLaws, TablesAsSaid};
@@ -50,12 +50,13 @@ pub fn arithmetic_examples()
 /// Texts that compute.
 pub fn text_examples()
     ensures literals { LiteralsAsSaid }
+    ensures numbers { WholeNumbersAsSaid }
     ensures texts { TextsAsSaid }
     ensures times { TimesAsSaid }
     ensures names { NamesAsSaid }
 {}
 
-/// Pairs that are put into a delay list, by time.
+/// Pairs that are put into a delay list by their times, and results that wait by transport and by inertia.
 pub fn delay_list_examples()
     ensures { PairsArePut }
 {}

@@ -1,6 +1,8 @@
 // Values, truth values, times, places and names, with their texts.
 #![tactic(auto)]
 
+pub mod bounds;
+pub mod delay;
 pub mod digits;
 pub mod laws;
 mod literal;
@@ -13,6 +15,8 @@ pub mod time;
 pub mod truth;
 pub mod value;
 
+pub use bounds::{MAX_CELLS, MAX_DELAY, MAX_FILE_BYTES, MAX_LOG_BYTES, MAX_RAW, MAX_TIME};
+pub use delay::DelayKind;
 pub use memory::OutOfMemory;
 pub use name::{Name, NameRefusal, Text};
 pub use place::{Offset, Place};

@@ -1,6 +1,7 @@
 // Numbers as people write them, in hundred-thousandths.
 ghost use Rattle.std.specs.Prelude.{◌≡◌, ◌+◌, ◌*◌, ◌<◌, ◌≤◌, ◌^◌, ◌++◌, pos, unsigned_abs, length, take, replicate, IsTrue, IfSome};
 ghost use Rattle.std.specs.Str.{all_ascii_digits};
+ghost use Rattle.quantity.specs.ByteNames.{digit_zero};
 ghost use Rattle.quantity.specs.Digits.{number_in};
 ghost use Rattle.quantity.specs.Literals.{is_number_of, signed_raw, unsigned_raw};
 
@@ -47,7 +48,7 @@ fn is_number(most: usize, whole: &[u8], decimals: &[u8]) -> bool
 /// The first five decimals, with zeros for those that are missing.
 fn hundred_thousandths(decimals: &[u8]) -> u64
     requires { IsTrue (all_ascii_digits decimals.now) }
-    ensures value { result ≡ number_in (take 5 (decimals.now ++ replicate 5 48)) }
+    ensures value { result ≡ number_in (take 5 (decimals.now ++ replicate 5 digit_zero)) }
     ensures below { result < 100000 }
 {
     let mut number = 0;

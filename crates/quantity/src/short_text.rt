@@ -1,5 +1,6 @@
 // Short texts, written from their right end on.
 ghost use Rattle.std.specs.Prelude.{◌≡◌, ◌+◌, ◌-◌, ◌<◌, ◌≤◌, [], ◌∷◌, ◌++◌, length, replicate, decimal, OnOk, OnErr};
+ghost use Rattle.quantity.specs.ByteNames.{space_character};
 ghost use Rattle.quantity.specs.Digits.{last_digits};
 
 use crate::memory::OutOfMemory;
@@ -64,7 +65,7 @@ impl ShortText {
     /// Puts blanks in front, up to so many places; a longer text stays as it is.
     pub(crate) fn fill_to(&mut self, width: usize)
         requires { width ≤ 24 }
-        ensures { self.new ≡ replicate (width - length self.old) 32 ++ self.old }
+        ensures { self.new ≡ replicate (width - length self.old) space_character ++ self.old }
     {
         for _place in self.as_bytes().len()..width {
             self.put_byte(b' ');

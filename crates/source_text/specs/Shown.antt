@@ -14,6 +14,7 @@ texts references = map (λ r. r.now) references
 abbrev pub numbers_of : Tuple → List ℤ
 numbers_of t = t.row ∷ t.column ∷ option_to_list t.plane
 
+-- a name and the numbers of the tuple behind it
 abbrev pub named_of : kept.NamedTuple → NamedTuple
 named_of n = record { name = n.name.now; place = numbers_of n.place }
 

@@ -1,6 +1,7 @@
 // Tuples that are read.
 ghost use Rattle.std.specs.Prelude.{◌≡◌, ◌<◌, ◌^◌, [], ◌∷◌, ◌++◌, unsigned_abs, IfOk, IfSome};
 ghost use Rattle.std.specs.Option.{option_map};
+ghost use Rattle.quantity.specs.ByteNames.{closing_parenthesis, opening_parenthesis};
 ghost use Rattle.quantity.specs.Bytes.{all_there, trimmed};
 ghost use Rattle.quantity.specs.Digits.{signed_number};
 ghost use Rattle.source_text.specs.Shown.{IsShort, named_of, numbers_of, texts};
@@ -56,7 +57,7 @@ pub fn parts(alloc: Global, text: &[u8]) -> Result<Option<Vec<&[u8]>>, OutOfMemo
 
 /// The tuple whose parentheses stand around this.
 fn tuple_between(inner: &[u8]) -> Option<Tuple>
-    ensures value { option_map numbers_of result ≡ tuple (40 ∷ inner.now ++ 41 ∷ []) }
+    ensures value { option_map numbers_of result ≡ tuple (opening_parenthesis ∷ inner.now ++ closing_parenthesis ∷ []) }
     ensures short { IfSome result IsShort }
 {
     let (row, rest) = part_before(b',', inner)?;
