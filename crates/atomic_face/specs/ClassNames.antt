@@ -32,6 +32,10 @@ class_ports Cpu = codes "in" ∷ []
 class_ports Counter = codes "in" ∷ codes "reset" ∷ []
 class_ports Table = codes "a" ∷ codes "b" ∷ codes "c" ∷ codes "d" ∷ []
 
+-- the output ports, by number
+abbrev pub class_outputs : Class → List Bytes
+class_outputs class = codes "out" ∷ []
+
 -- the number of a port that is called so among these
 abbrev pub place_among : List Bytes → Bytes → Option PortNo
 place_among ports name = option_map (λ n. record { 0 = n }) (position (bytes_eq name) ports)

@@ -1,23 +1,40 @@
 -- Parameters that give settings, and parameters that are off their form.
-use Rattle.std.specs.Prelude.{◌≡◌, ℕ, ◌^◌, ◌+◌, true, false, Some, None, List, [], ◌∷◌, pos, negsuc, codes}
-use Rattle.std.specs.List.{position}
-use Rattle.std.specs.Str.{bytes_eq}
+use Rattle.std.specs.Prelude.{◌≡◌, ℕ, ◌^◌, ◌+◌, true, false, Option, Some, None, List, [], ◌∷◌, pos, negsuc, codes}
 use Rattle.quantity.specs.Bytes.{Bytes}
 use Rattle.atomic_face.specs.declared.class.Class.TheVariants.{Queue, Generator, Cpu, Counter, Table}
+use Rattle.atomic_face.specs.declared.class.PortNo.{PortNo}
 use Rattle.atomic_face.specs.declared.params.Param.{Param}
-use Rattle.atomic_face.specs.ClassNames.{class_named, class_ports}
+use Rattle.atomic_face.specs.ClassNames.{class_named, output_named, port_named}
 use Rattle.atomic_face.specs.Settings.{settings_of, lines_off, first_line_off, are_once}
 use Rattle.atomic_face.specs.BoxStates.{is_box_state}
 
+-- a port of this number
+abbrev pub port : ℕ → Option PortNo
+port n = Some (record { 0 = n })
+
+-- a parameter on a line
 abbrev pub param : ℕ → Bytes → Bytes → Param
 param line key value = record { line = line; key = key; value = value }
 
 pub record ClassesAreNamed : Type 0 where
   pub queue : class_named (codes "queue") ≡ Some Queue
+  pub generator : class_named (codes "generator") ≡ Some Generator
+  pub cpu : class_named (codes "cpu") ≡ Some Cpu
+  pub counter : class_named (codes "counter") ≡ Some Counter
   pub table : class_named (codes "table") ≡ Some Table
   pub other : class_named (codes "server") ≡ None
-  pub done : position (bytes_eq (codes "done")) (class_ports Queue) ≡ Some 1
-  pub no_input : class_ports Generator ≡ []
+
+pub record PortsAreNumbered : Type 0 where
+  pub queue_in : port_named Queue (codes "in") ≡ port 0
+  pub done : port_named Queue (codes "done") ≡ port 1
+  pub no_input : port_named Generator (codes "in") ≡ None
+  pub cpu_in : port_named Cpu (codes "in") ≡ port 0
+  pub reset : port_named Counter (codes "reset") ≡ port 1
+  pub no_output : port_named Counter (codes "out") ≡ None
+  pub d : port_named Table (codes "d") ≡ port 3
+  pub e : port_named Table (codes "e") ≡ None
+  pub out : output_named (codes "out") ≡ port 0
+  pub no_input_is_an_output : output_named (codes "in") ≡ None
 
 -- a table of two states, with this line
 abbrev pub light : Param → List Param
