@@ -40,6 +40,7 @@ pub fn take_due<Q: DueFirst>(queue: &mut Q, at: Time, into: &mut Vec<u32>)
     requires room { length (Q.waiting queue.old) ≤ vec_capacity into.old }
     ensures taken { into.new.items ≡ leaves_at at (Q.waiting queue.old) }
     ensures left { Q.waiting queue.new ≡ without at (Q.waiting queue.old) }
+    ensures capacity { vec_capacity into.new ≡ vec_capacity into.old }
 {
     if some_before(queue, at) {
         take_scattered(queue, at, into);
@@ -65,6 +66,7 @@ fn take_leading<Q: DueFirst>(queue: &mut Q, at: Time, into: &mut Vec<u32>)
     requires none_before { NoneBefore at (Q.waiting queue.old) }
     ensures taken { (f : ℕ → ℕ) → sum_by f into.new.items ≡ sum_by f (leaves_at at (Q.waiting queue.old)) }
     ensures left { Q.waiting queue.new ≡ without at (Q.waiting queue.old) }
+    ensures capacity { vec_capacity into.new ≡ vec_capacity into.old }
 {
     while let Some(first) = queue.first() {
         if first.at != at {
@@ -81,6 +83,7 @@ fn take_scattered<Q: DueFirst>(queue: &mut Q, at: Time, into: &mut Vec<u32>)
     requires room { length (Q.waiting queue.old) ≤ vec_capacity into.old }
     ensures taken { into.new.items ≡ leaves_at at (Q.waiting queue.old) }
     ensures left { Q.waiting queue.new ≡ without at (Q.waiting queue.old) }
+    ensures capacity { vec_capacity into.new ≡ vec_capacity into.old }
 {
     for leaf in 0..queue.leaves() {
         take_if_due(queue, at, leaf, into);

@@ -31,5 +31,6 @@ pub trait TimeQueue: Drop {
         requires empty { into.old.items ≡ [] }
         requires room { length (waiting self.old) ≤ vec_capacity into.old }
         ensures taken { into.new.items ≡ leaves_at at (waiting self.old) }
-        ensures left { waiting self.new ≡ without at (waiting self.old) };
+        ensures left { waiting self.new ≡ without at (waiting self.old) }
+        ensures capacity { vec_capacity into.new ≡ vec_capacity into.old };
 }

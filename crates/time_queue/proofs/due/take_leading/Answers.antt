@@ -32,6 +32,7 @@ loop-first-preserved g c =
     record {
       taking = rw (c.remove.ensures, c.push_reserved.ensures.items) (taking_more c.args.at _ _ c.loop-first.into.items c.in-Some.first.leaf c.loop-first.invariant.taking c.in-Some.ensures.within (c.in-Some.ensures.waits ∙ ap Some is));
       room = omega (arith, c.loop-first.invariant.room, c.push_reserved.ensures.capacity);
+      same = c.push_reserved.ensures.capacity ∙ c.loop-first.invariant.same;
     }
 
 pub returns-clause-taken : goal.returns-clause-taken
