@@ -5,3 +5,4 @@ pub mod Entered
 pub mod Heaps
 pub mod Standing
 pub mod Moved
+pub mod Replayed

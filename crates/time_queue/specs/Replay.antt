@@ -1,5 +1,5 @@
 -- Moves carried out one after another.
-use Rattle.std.specs.Prelude.{ℕ, ◌<◌, Option, Some, None, List, [], ◌∷◌, slice_set}
+use Rattle.std.specs.Prelude.{◌≡◌, ℕ, ◌<◌, ◌≤◌, Option, Some, None, List, [], ◌∷◌, length, take, slice_set}
 use Rattle.time_queue.specs.declared.moves.Move.{Move}
 use Rattle.time_queue.specs.declared.moves.Move.TheVariants.{Set, Clear, TakeAll}
 use Rattle.time_queue.specs.Waiting.{least_of, leaves_at, without}
@@ -26,6 +26,12 @@ taken_by (TakeAll at) times = leaves_at at times
 abbrev pub after : List Move → List (Option ℕ) → List (Option ℕ)
 after [] times = times
 after (m ∷ ms) times = after ms (moved m times)
+
+-- the first moves are carried out, so many of them, and no others
+pub record AreBegun (moves : List Move) (old new : List (Option ℕ)) : Type 0 where
+  pub count : ℕ
+  pub within : count ≤ length moves
+  pub held : new ≡ after (take count moves) old
 
 -- what each move takes, and the least time after it
 abbrev pub replies_of : List Move → List (Option ℕ) → List (List ℕ × Option ℕ)

@@ -1,8 +1,8 @@
 // Moves carried out on any queue: one statement for all queues.
-ghost use Rattle.std.specs.Prelude.{◌≡◌, ◌≤◌, [], length, map, All, IfOk, OnOk};
+ghost use Rattle.std.specs.Prelude.{◌≡◌, ◌≤◌, [], length, map, All, IfOk, OnOk, OnErr};
 ghost use Rattle.std.specs.Vec.{vec_capacity};
 ghost use Rattle.time_queue.specs.Waiting.{least_of};
-ghost use Rattle.time_queue.specs.Replay.{IsMoveOf, moved, taken_by, after, replies_of};
+ghost use Rattle.time_queue.specs.Replay.{IsMoveOf, moved, taken_by, after, replies_of, AreBegun};
 
 use crate::queue::TimeQueue;
 use quantity::{OutOfMemory, Time};
@@ -27,8 +27,8 @@ pub struct Reply {
 }
 
 /// Carries out moves in turn on a queue of so many leaves. Every queue answers as a plain list of
-/// times does, and holds what that list holds then. Where memory is refused, the first of the
-/// moves are carried out.
+/// times does, and holds what that list holds then. Where memory is refused, some first moves are
+/// carried out whole, and no others.
 pub fn replay<Q: TimeQueue>(
     alloc: Global,
     queue: &mut Q,
@@ -39,6 +39,7 @@ pub fn replay<Q: TimeQueue>(
     requires moves { All (IsMoveOf leaves) moves.now }
     ensures contents { OnOk result (Q.waiting queue.new ≡ after moves.now (Q.waiting queue.old)) }
     ensures replies { IfOk result (λ rs. map (λ r. (r.taken.items, r.least)) rs.items ≡ replies_of moves.now (Q.waiting queue.old)) }
+    ensures err { OnErr result (AreBegun moves.now (Q.waiting queue.old) (Q.waiting queue.new)) }
 {
     let mut replies = Vec::new(alloc);
     for step in moves {
@@ -60,6 +61,7 @@ fn carry_out<Q: TimeQueue>(
     ensures contents { OnOk result (Q.waiting queue.new ≡ moved step.now (Q.waiting queue.old)) }
     ensures taken { IfOk result (λ r. r.taken.items ≡ taken_by step.now (Q.waiting queue.old)) }
     ensures least { IfOk result (λ r. r.least ≡ least_of (moved step.now (Q.waiting queue.old))) }
+    ensures err { OnErr result (Q.waiting queue.new ≡ Q.waiting queue.old) }
 {
     let mut taken = Vec::with_capacity(alloc, leaves)?;
     apply(queue, step, &mut taken);

@@ -1,0 +1,25 @@
+use Rattle.std.proofs.Common.{◌+◌, ◌<◌, length, arith}
+use Rattle.std.proofs.lemmas.Grind.{common_steps}
+use Rattle.time_queue.specs.Replay.{AreBegun}
+use Rattle.time_queue.proofs.Replayed.{after_more, held_on_err}
+use Rattle.time_queue.proofs.moves.replay.Goals as goal
+
+pub returns-in_err-map_err-clause-err : goal.returns-in_err-map_err-clause-err
+returns-in_err-map_err-clause-err g c =
+    let lt : c.loop-step.step-index < length c.args.moves.now = omega arith in
+    let begun : AreBegun c.args.moves.now (g.Q.TimeQueue.waiting c.args.queue.now) (g.Q.TimeQueue.waiting c.carry_out.new.queue) = record {
+      count = c.loop-step.step-index + 1;
+      within = omega arith;
+      held = after_more c.args.moves.now c.loop-step.step-index c.step-item.result _ _ _ lt c.step-item.is c.loop-step.invariant.begun c.in_ok-reply.ensures.contents;
+    } in
+    held_on_err _ _ begun
+
+pub loop-step-preserved : goal.loop-step-preserved
+loop-step-preserved g c =
+    let lt : c.loop-step.step-index < length c.args.moves.now = omega arith in
+    record {
+      leaves = c.carry_out.ensures.leaves;
+      begun = after_more c.args.moves.now c.loop-step.step-index c.step-item.result _ _ _ lt c.step-item.is c.loop-step.invariant.begun c.in_ok-reply.ensures.contents;
+      contents = grind (arith, common_steps);
+      replies = grind (arith, common_steps);
+    }
