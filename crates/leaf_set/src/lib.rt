@@ -1,0 +1,8 @@
+//! Sets of leaves that are emptied in rising order.
+#![tactic(auto)]
+
+mod flags;
+mod set;
+
+pub use flags::FlagSet;
+pub use set::LeafSet;
