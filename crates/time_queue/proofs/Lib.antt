@@ -6,3 +6,4 @@ pub mod Heaps
 pub mod Standing
 pub mod Moved
 pub mod Replayed
+pub mod Linked

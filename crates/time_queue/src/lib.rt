@@ -4,6 +4,7 @@
 mod due;
 mod entry;
 mod heap;
+mod lists;
 mod moves;
 mod queue;
 mod ranks;

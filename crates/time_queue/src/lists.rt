@@ -1,0 +1,127 @@
+// Leaves that wait, in lists.
+ghost use Rattle.std.specs.Prelude.{◌≡◌, ℕ, ◌<◌, None, Some, length, replicate, IfOk, slice_set};
+ghost use Rattle.time_queue.specs.Waiting.{time_of};
+ghost use Rattle.time_queue.specs.Lists.{AreLinked, link_of};
+
+use crate::heap::HeapQueue;
+use crate::queue::TimeQueue;
+use quantity::{OutOfMemory, Time};
+use std::alloc::Global;
+
+/// The leaves that wait, in lists whose leaves wait for one time. The first leaf of each list
+/// stands in a heap.
+#[derive(Drop)]
+pub struct Lists {
+    pub times: Vec<Option<Time>>,
+    pub before: Vec<Option<u32>>,
+    pub after: Vec<Option<u32>>,
+    pub firsts: HeapQueue,
+}
+
+impl Lists {
+    /// So many leaves, of which none waits.
+    pub fn new(alloc: Global, n: u32) -> Result<Lists, OutOfMemory>
+        ensures times { IfOk result (λ l. l.times.items ≡ replicate n None) }
+        ensures linked { IfOk result (λ l. AreLinked l None) }
+    {
+        Ok(Lists {
+            times: vec![in alloc; None; n as usize]?,
+            before: vec![in alloc; None; n as usize]?,
+            after: vec![in alloc; None; n as usize]?,
+            firsts: HeapQueue::with_leaves(alloc, n)?,
+        })
+    }
+
+    /// The leaf waits for this time, alone in a list.
+    pub fn start(&mut self, leaf: u32, at: Time)
+        requires linked { AreLinked self.old None }
+        requires within { leaf < length self.old.times.items }
+        requires idle { time_of self.old.times.items leaf ≡ None }
+        ensures times { self.new.times.items ≡ slice_set self.old.times.items leaf (Some at) }
+        ensures linked { AreLinked self.new None }
+    {
+        self.times[leaf as usize] = Some(at);
+        self.firsts.set(leaf, at);
+    }
+
+    /// The leaf waits for the time of this last leaf of a list, behind it.
+    pub fn append(&mut self, last: u32, leaf: u32, at: Time)
+        requires linked { AreLinked self.old None }
+        requires within { leaf < length self.old.times.items }
+        requires idle { time_of self.old.times.items leaf ≡ None }
+        requires same { time_of self.old.times.items last ≡ Some at }
+        requires last { link_of self.old.after.items last ≡ None }
+        ensures times { self.new.times.items ≡ slice_set self.old.times.items leaf (Some at) }
+        ensures linked { AreLinked self.new None }
+    {
+        self.times[leaf as usize] = Some(at);
+        self.before[leaf as usize] = Some(last);
+        self.after[last as usize] = Some(leaf);
+    }
+
+    /// The leaf waits no more.
+    pub fn leave(&mut self, leaf: u32)
+        requires linked { AreLinked self.old None }
+        requires within { leaf < length self.old.times.items }
+        ensures times { self.new.times.items ≡ slice_set self.old.times.items leaf None }
+        ensures linked { AreLinked self.new None }
+    {
+        let Some(at) = self.times[leaf as usize] else {
+            return;
+        };
+        match self.before[leaf as usize] {
+            Some(before) => self.unlink(before, leaf),
+            None => self.leave_first(leaf, at),
+        }
+    }
+
+    // The first leaf of a list leaves it.
+    fn leave_first(&mut self, leaf: u32, at: Time)
+        requires linked { AreLinked self.old None }
+        requires waits { time_of self.old.times.items leaf ≡ Some at }
+        requires first { link_of self.old.before.items leaf ≡ None }
+        ensures times { self.new.times.items ≡ slice_set self.old.times.items leaf None }
+        ensures linked { AreLinked self.new None }
+    {
+        self.firsts.clear(leaf);
+        if let Some(next) = self.release(leaf) {
+            self.firsts.set(next, at);
+        }
+    }
+
+    /// A leaf that is the first of a list, but not in the heap, waits no more. Gives the next one,
+    /// which is so now.
+    pub fn release(&mut self, leaf: u32) -> Option<u32>
+        requires linked { AreLinked self.old (Some leaf) }
+        ensures times { self.new.times.items ≡ slice_set self.old.times.items leaf None }
+        ensures next { result ≡ link_of self.old.after.items leaf }
+        ensures firsts { self.new.firsts ≡ self.old.firsts }
+        ensures linked { AreLinked self.new result }
+    {
+        self.times[leaf as usize] = None;
+        let Some(next) = self.after[leaf as usize] else {
+            return None;
+        };
+        self.after[leaf as usize] = None;
+        self.before[next as usize] = None;
+        Some(next)
+    }
+
+    // A leaf behind another one leaves the list.
+    fn unlink(&mut self, before: u32, leaf: u32)
+        requires linked { AreLinked self.old None }
+        requires behind { link_of self.old.before.items leaf ≡ Some before }
+        ensures times { self.new.times.items ≡ slice_set self.old.times.items leaf None }
+        ensures linked { AreLinked self.new None }
+    {
+        self.times[leaf as usize] = None;
+        self.before[leaf as usize] = None;
+        let Some(next) = self.after[leaf as usize] else {
+            self.after[before as usize] = None;
+            return;
+        };
+        self.after[leaf as usize] = None;
+        self.after[before as usize] = Some(next);
+        self.before[next as usize] = Some(before);
+    }
+}
