@@ -7,3 +7,4 @@ pub mod Standing
 pub mod Moved
 pub mod Replayed
 pub mod Linked
+pub mod Lines

@@ -7,6 +7,7 @@ use Rattle.std.proofs.lemmas.List.Edits.{map_over_more}
 use Rattle.std.proofs.lemmas.List.FromFn.{length-range_with_len, filter_of_map_range_with_len_more}
 use Rattle.std.proofs.lemmas.List.Sums.{sum_by-cons, sum_by_push, length-filter, count_by-le-length}
 use Rattle.time_queue.specs.Waiting.{time_of, is_due, leaves_at, undue, without, least_of, NoneBefore}
+use Rattle.time_queue.specs.Lists.{NoneAt}
 use Rattle.time_queue.proofs.Least.{least_reached, least_below, none_waits}
 
 abbrev picked : (ℕ → Bool) → ℕ → ℕ → List ℕ
@@ -60,9 +61,6 @@ without_less at leaf ts within is =
     let gone : get_or (map (undue at) ts) leaf None ≡ None = get_or-map (undue at) ts leaf None None within ∙ (λ t. cond (is_due_at at (time_of ts leaf) is t) None (time_of ts leaf)) in
     map-set (undue at) ts leaf None ∙ ap (set (map (undue at) ts) leaf) (sym gone) ∙ set-get_or (map (undue at) ts) leaf None
 
-abbrev pub NoneAt : ℕ → List (Option ℕ) → Type 0
-NoneAt at ts = (leaf : ℕ) → is_due at (time_of ts leaf) ≡ false
-
 pub without_none : (at : ℕ) (ts : List (Option ℕ)) → NoneAt at ts → without at ts ≡ ts
 without_none at [] none = refl
 without_none at (t ∷ ts) none =
@@ -104,7 +102,7 @@ pub record IsTaking (at : ℕ) (start now : List (Option ℕ)) (taken : List ℕ
   pub none_before : NoneBefore at now
 
 -- a leaf that waits for nothing is before no time
-fewer_before : (at leaf : ℕ) (ts : List (Option ℕ)) → leaf < length ts → NoneBefore at ts → NoneBefore at (set ts leaf None)
+pub fewer_before : (at leaf : ℕ) (ts : List (Option ℕ)) → leaf < length ts → NoneBefore at ts → NoneBefore at (set ts leaf None)
 fewer_before at leaf ts within none k t waits =
     ⊎_elim
     (λ here. let gone : None ≡ Some t = sym (ap (time_of (set ts leaf None)) here ∙ get_or-set_same ts leaf None None within) ∙ waits in cc)
@@ -119,7 +117,7 @@ taking_more at start now taken leaf taking within waits = record {
   none_before = fewer_before at leaf now within taking.none_before;
 }
 
-ones : (xs : List ℕ) → sum_by (λ _. 1) xs ≡ length xs
+pub ones : (xs : List ℕ) → sum_by (λ _. 1) xs ≡ length xs
 ones [] = refl
 ones (x ∷ xs) = omega (arith, sum_by-cons (λ _. 1) x xs, ones xs)
 

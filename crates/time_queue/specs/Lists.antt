@@ -1,5 +1,7 @@
 -- Lists of leaves that wait for one time. No public clause cites this module.
-use Rattle.std.specs.Prelude.{◌≡◌, ◌≢◌, ℕ, ◌<◌, Option, Some, None, List, length, slice_index_or}
+use Rattle.std.specs.Prelude.{◌≡◌, ◌≢◌, ℕ, ◌+◌, ◌<◌, false, Option, Some, None, List, length, slice_index_or}
+use Rattle.std.specs.List.{sum_by}
+use Rattle.time_queue.specs.Waiting.{is_due, leaves_at, time_of, without, NoneBefore}
 use Rattle.time_queue.specs.declared.lists.Lists.{Lists}
 
 -- the leaf that a link names
@@ -39,3 +41,14 @@ pub record AreLinked (l : Lists) (loose : Option ℕ) : Type 0 where
   pub before : length l.before.items ≡ length l.times.items
   pub after : length l.after.items ≡ length l.times.items
   pub links : Links (link_of l.times.items) (link_of l.firsts) (link_of l.before.items) (link_of l.after.items) loose
+
+-- no leaf waits for this time
+abbrev pub NoneAt : ℕ → List (Option ℕ) → Type 0
+NoneAt at ts = (leaf : ℕ) → is_due at (time_of ts leaf) ≡ false
+
+-- leaves that waited for this time are moved from the times to the list, and nothing else changed
+pub record TakesMore (at : ℕ) (ts ts' : List (Option ℕ)) (xs xs' : List ℕ) : Type 0 where
+  pub counted : (f : ℕ → ℕ) → sum_by f xs' + sum_by f (leaves_at at ts') ≡ sum_by f xs + sum_by f (leaves_at at ts)
+  pub stays : without at ts' ≡ without at ts
+  pub same : length ts' ≡ length ts
+  pub early : NoneBefore at ts → NoneBefore at ts'

@@ -1,8 +1,10 @@
 // Leaves that wait, in lists.
-ghost use Rattle.std.specs.Prelude.{◌≡◌, ℕ, ◌<◌, None, Some, length, replicate, IfOk, slice_set};
-ghost use Rattle.time_queue.specs.Waiting.{time_of};
-ghost use Rattle.time_queue.specs.Lists.{AreLinked, link_of};
+ghost use Rattle.std.specs.Prelude.{◌≡◌, ◌+◌, ◌<◌, ◌≤◌, None, Some, true, length, replicate, IfOk, IfSome, slice_set, vec_len};
+ghost use Rattle.std.specs.Vec.{vec_capacity};
+ghost use Rattle.time_queue.specs.Waiting.{time_of, leaves_at, NoneBefore};
+ghost use Rattle.time_queue.specs.Lists.{AreLinked, NoneAt, TakesMore, link_of};
 
+use crate::due::DueFirst;
 use crate::heap::HeapQueue;
 use crate::queue::TimeQueue;
 use quantity::{OutOfMemory, Time};
@@ -123,5 +125,71 @@ impl Lists {
         self.after[leaf as usize] = None;
         self.after[before as usize] = Some(next);
         self.before[next as usize] = Some(before);
+    }
+
+    /// Whether this leaf waits for this time, and stands last in its list.
+    pub fn ends_at(&self, last: u32, at: Time) -> bool
+        requires { AreLinked self.now None }
+        ensures waits { result ≡ true → time_of self.now.times.items last ≡ Some at }
+        ensures last { result ≡ true → link_of self.now.after.items last ≡ None }
+    {
+        let last = last as usize;
+        if last >= self.times.len() {
+            return false;
+        }
+        if self.times[last] != Some(at) {
+            return false;
+        }
+        self.after[last].is_none()
+    }
+
+    /// Appends the leaves that wait for this time, and they wait no more.
+    pub fn take_lists(&mut self, at: Time, into: &mut Vec<u32>)
+        requires linked { AreLinked self.old None }
+        requires early { NoneBefore at self.old.times.items }
+        requires room { vec_len into.old + length (leaves_at at self.old.times.items) ≤ vec_capacity into.old }
+        ensures linked { AreLinked self.new None }
+        ensures taken { TakesMore at self.old.times.items self.new.times.items into.old.items into.new.items }
+        ensures none { NoneAt at self.new.times.items }
+        ensures capacity { vec_capacity into.new ≡ vec_capacity into.old }
+    {
+        while let Some(first) = self.firsts.first() {
+            if first.at != at {
+                return;
+            }
+            self.take_list(first.leaf, at, into);
+        }
+    }
+
+    // Appends the leaves of a list.
+    fn take_list(&mut self, first: u32, at: Time, into: &mut Vec<u32>)
+        requires linked { AreLinked self.old None }
+        requires first { time_of self.old.firsts first ≡ Some at }
+        requires room { vec_len into.old + length (leaves_at at self.old.times.items) ≤ vec_capacity into.old }
+        ensures linked { AreLinked self.new None }
+        ensures taken { TakesMore at self.old.times.items self.new.times.items into.old.items into.new.items }
+        ensures fewer { length (leaves_at at self.new.times.items) < length (leaves_at at self.old.times.items) }
+        ensures capacity { vec_capacity into.new ≡ vec_capacity into.old }
+    {
+        self.firsts.clear(first);
+        let mut next = self.take_loose(first, at, into);
+        while let Some(leaf) = next {
+            next = self.take_loose(leaf, at, into);
+        }
+    }
+
+    // Appends a loose leaf, which waits no more. Gives the next one, which is loose now.
+    fn take_loose(&mut self, leaf: u32, at: Time, into: &mut Vec<u32>) -> Option<u32>
+        requires linked { AreLinked self.old (Some leaf) }
+        requires waits { time_of self.old.times.items leaf ≡ Some at }
+        requires room { vec_len into.old + length (leaves_at at self.old.times.items) ≤ vec_capacity into.old }
+        ensures linked { AreLinked self.new result }
+        ensures taken { TakesMore at self.old.times.items self.new.times.items into.old.items into.new.items }
+        ensures fewer { length (leaves_at at self.new.times.items) < length (leaves_at at self.old.times.items) }
+        ensures waits { IfSome result (λ x. time_of self.new.times.items x ≡ Some at) }
+        ensures capacity { vec_capacity into.new ≡ vec_capacity into.old }
+    {
+        into.push_reserved(leaf);
+        self.release(leaf)
     }
 }
