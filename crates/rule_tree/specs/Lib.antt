@@ -1,7 +1,11 @@
 pub mod Expression
+pub mod Sight
+pub mod Functions
 pub mod Meaning
 pub mod Chosen
 pub mod Sound
 pub mod Phrases
 pub mod Scope
+pub mod Ports
+pub mod CallExamples
 pub mod Examples

@@ -1,5 +1,5 @@
 -- Rules as they are written: cells by their coordinates, variables and ports by their words.
-use Rattle.std.specs.Prelude.{ℕ, Option, List, [], ◌∷◌, map, length, ℤ, codes}
+use Rattle.std.specs.Prelude.{◌≡◌, ℕ, Option, Some, List, [], ◌∷◌, map, length, ℤ, codes}
 use Rattle.std.specs.List.{find}
 use Rattle.std.specs.Option.{option_map}
 use Rattle.std.specs.Str.{bytes_eq}
@@ -11,8 +11,9 @@ use Rattle.rule_tree.specs.declared.node.Binary.{Binary}
 use Rattle.rule_tree.specs.declared.node.Binary.TheVariants.{Imp, Eqv, Or, Xor, And, Cmp, Add, Sub, Mul, Div}
 use Rattle.rule_tree.specs.declared.node.Count.{Count}
 use Rattle.rule_tree.specs.declared.node.Count.TheVariants.{Ones, Zeros, Undefs}
-use Rattle.rule_tree.specs.declared.node.Function.{Function}
-use Rattle.rule_tree.specs.declared.node.Function.TheVariants.{StateCount, CellPos, If, Ifu, Abs, Sign, Sqrt, Trunc, Round, Fractional, Min, Max, Remainder, Even, Odd, IsInt, IsUndefined}
+use Rattle.rule_tree.specs.declared.function.Function.{Function}
+use Rattle.rule_tree.specs.declared.function.TheConstants.Function.{ALL}
+use Rattle.rule_tree.specs.Functions.{row}
 use Rattle.rule_tree.specs.Sound.{function_signature}
 use Rattle.quantity.specs.Bytes.{Bytes}
 
@@ -122,12 +123,9 @@ operator_marks primary = []
 abbrev pub counts : List (Bytes × Count)
 counts = (codes "truecount", Ones) ∷ (codes "falsecount", Zeros) ∷ (codes "undefcount", Undefs) ∷ []
 
+-- each function by its word
 abbrev pub functions : List (Bytes × Function)
-functions =
-    (codes "statecount", StateCount) ∷ (codes "cellpos", CellPos) ∷ (codes "if", If) ∷ (codes "ifu", Ifu) ∷ (codes "abs", Abs)
-    ∷ (codes "sign", Sign) ∷ (codes "sqrt", Sqrt) ∷ (codes "trunc", Trunc) ∷ (codes "fractional", Fractional) ∷ (codes "round", Round)
-    ∷ (codes "min", Min) ∷ (codes "max", Max) ∷ (codes "remainder", Remainder) ∷ (codes "even", Even) ∷ (codes "odd", Odd)
-    ∷ (codes "isint", IsInt) ∷ (codes "isundefined", IsUndefined) ∷ []
+functions = map (λ (f : Function). ((row f).word, f)) ALL
 
 -- what a table has for a text
 abbrev pub looked_up : {A : Type 0} → List (Bytes × A) → Bytes → Option A
@@ -138,3 +136,7 @@ argument_count f = length (function_signature f).takes
 
 abbrev pub first_texts : {A : Type 0} → List (Bytes × A) → List Bytes
 first_texts {A} table = map (λ (p : Bytes × A). p.0) table
+
+-- no function is forgotten, and no two have one word
+abbrev pub EachFunctionIsRead : Type 0
+EachFunctionIsRead = (f : Function) → looked_up functions (row f).word ≡ Some f

@@ -7,7 +7,8 @@ use Rattle.quantity.specs.declared.place.Offset.{Offset}
 use Rattle.quantity.specs.Arithmetic.{is_zero}
 use Rattle.rule_tree.specs.Expression as E
 use Rattle.rule_tree.specs.Expression.{Expr, Exprs, Rule}
-use Rattle.rule_tree.specs.Sound.{a_number, is_sort, sort_of, is_sound_rule}
+use Rattle.rule_tree.specs.declared.function.Sort.TheVariants.{Number}
+use Rattle.rule_tree.specs.Sound.{is_sort, sort_of, is_sound_rule}
 use Rattle.quantity.specs.Bytes.{Bytes, is_empty}
 use Rattle.rule_tree.specs.Phrases as P
 use Rattle.rule_tree.specs.Phrases.{Cell, Phrase, Phrases, Assigned, Written, out}
@@ -116,7 +117,7 @@ rule_in names r =
 
 -- values and delay are numbers, the condition is a truth value, and what is set is a number
 abbrev pub has_right_sorts : ℕ → Rule → Bool
-has_right_sorts offsets r = is_sound_rule offsets r && list_all (λ (s : ℕ × Expr). is_sort a_number (sort_of s.1 offsets)) r.sets
+has_right_sorts offsets r = is_sound_rule offsets r && list_all (λ (s : ℕ × Expr). is_sort Number (sort_of s.1 offsets)) r.sets
 
 -- the numbers of offsets, variables and further ports of a group
 pub record Extent : Type 0 where
