@@ -58,50 +58,6 @@ abbrev pub Maker : List Sort → Sort → Type 0
 Maker [] gives = Option (Of gives)
 Maker (a ∷ more) gives = Of a → Maker more gives
 
--- a function of the language
-pub record Row : Type 0 where
-  pub word : Bytes
-  pub takes : List Sort
-  pub gives : Sort
-  pub makes : Sight → Maker takes gives
-
--- a number of a number
-abbrev pub of_number : Bytes → (Value → Value) → Row
-of_number word f = record { word = word; takes = Number ∷ []; gives = Number; makes = λ s v. Some (f v) }
-
--- a number of a number and of what the cell sees
-abbrev pub of_sight : Bytes → (Value → Sight → Value) → Row
-of_sight word f = record { word = word; takes = Number ∷ []; gives = Number; makes = λ s v. Some (f v s) }
-
--- a truth value of a number
-abbrev pub of_test : Bytes → (Value → Tri) → Row
-of_test word f = record { word = word; takes = Number ∷ []; gives = Truth; makes = λ s v. Some (f v) }
-
--- a number of two numbers
-abbrev pub of_two_numbers : Bytes → (Value → Value → Value) → Row
-of_two_numbers word f = record { word = word; takes = Number ∷ Number ∷ []; gives = Number; makes = λ s v w. Some (f v w) }
-
-abbrev pub row : Function → Row
-row StateCount = of_sight (codes "statecount") (λ v s. state_count v (outs s))
-row CellPos = of_sight (codes "cellpos") cell_position
-row If = record { word = codes "if"; takes = Truth ∷ Number ∷ Number ∷ []; gives = Number; makes = λ s t a b. Some (by_truth t a b b) }
-row Ifu = record { word = codes "ifu"; takes = Truth ∷ Number ∷ Number ∷ Number ∷ []; gives = Number; makes = λ s t a b u. Some (by_truth t a b u) }
-row Abs = of_number (codes "abs") size_of
-row Sign = of_number (codes "sign") sign_of
-row Sqrt = of_number (codes "sqrt") root_of
-row Trunc = of_number (codes "trunc") whole_part
-row Fractional = of_number (codes "fractional") fraction_of
-row Round = of_number (codes "round") rounded
-row Min = of_two_numbers (codes "min") least_of
-row Max = of_two_numbers (codes "max") greatest_of
-row Remainder = of_two_numbers (codes "remainder") remainder_of
-row Even = of_test (codes "even") (test_of is_even)
-row Odd = of_test (codes "odd") (test_of is_odd)
-row IsInt = of_test (codes "isint") (test_of is_whole)
-row IsUndefined = of_test (codes "isundefined") is_undefined
-
--- ---- calls
-
 abbrev pub taken : (a : Sort) → Answer → Of a
 taken Number x = number_in x
 taken Truth x = truth_in x
@@ -121,6 +77,52 @@ made [] gives maker (x ∷ xs) = miscounted
 made (a ∷ takes) gives maker [] = miscounted
 made (a ∷ takes) gives maker (x ∷ xs) = made takes gives (maker (taken a x)) xs
 
+-- a function of the language
+pub record Row : Type 0 where
+  pub word : Bytes
+  pub takes : List Sort
+  pub gives : Sort
+  pub makes : Sight → List Answer → Option Answer
+
+-- the row of a function that makes this of what a cell sees and of things of the sorts that it takes
+abbrev pub made_row : Bytes → (takes : List Sort) (gives : Sort) → (Sight → Maker takes gives) → Row
+made_row word takes gives maker = record { word = word; takes = takes; gives = gives; makes = λ s xs. made takes gives (maker s) xs }
+
+-- a number of a number
+abbrev pub of_number : Bytes → (Value → Value) → Row
+of_number word f = made_row word (Number ∷ []) Number (λ s v. Some (f v))
+
+-- a number of a number and of what the cell sees
+abbrev pub of_sight : Bytes → (Value → Sight → Value) → Row
+of_sight word f = made_row word (Number ∷ []) Number (λ s v. Some (f v s))
+
+-- a truth value of a number
+abbrev pub of_test : Bytes → (Value → Tri) → Row
+of_test word f = made_row word (Number ∷ []) Truth (λ s v. Some (f v))
+
+-- a number of two numbers
+abbrev pub of_two_numbers : Bytes → (Value → Value → Value) → Row
+of_two_numbers word f = made_row word (Number ∷ Number ∷ []) Number (λ s v w. Some (f v w))
+
+abbrev pub row : Function → Row
+row StateCount = of_sight (codes "statecount") (λ v s. state_count v (outs s))
+row CellPos = of_sight (codes "cellpos") cell_position
+row If = made_row (codes "if") (Truth ∷ Number ∷ Number ∷ []) Number (λ s t a b. Some (by_truth t a b b))
+row Ifu = made_row (codes "ifu") (Truth ∷ Number ∷ Number ∷ Number ∷ []) Number (λ s t a b u. Some (by_truth t a b u))
+row Abs = of_number (codes "abs") size_of
+row Sign = of_number (codes "sign") sign_of
+row Sqrt = of_number (codes "sqrt") root_of
+row Trunc = of_number (codes "trunc") whole_part
+row Fractional = of_number (codes "fractional") fraction_of
+row Round = of_number (codes "round") rounded
+row Min = of_two_numbers (codes "min") least_of
+row Max = of_two_numbers (codes "max") greatest_of
+row Remainder = of_two_numbers (codes "remainder") remainder_of
+row Even = of_test (codes "even") (test_of is_even)
+row Odd = of_test (codes "odd") (test_of is_odd)
+row IsInt = of_test (codes "isint") (test_of is_whole)
+row IsUndefined = of_test (codes "isundefined") is_undefined
+
 -- a function of its arguments; None where it is too large
 abbrev pub call_meaning : Function → List Answer → Sight → Option Answer
-call_meaning f xs s = made (row f).takes (row f).gives ((row f).makes s) xs
+call_meaning f xs s = (row f).makes s xs
