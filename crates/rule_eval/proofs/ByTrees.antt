@@ -17,7 +17,8 @@ use Rattle.rule_eval.specs.Code.{code_of}
 use Rattle.rule_eval.specs.Ran.{left_by, answer_of}
 use Rattle.rule_eval.specs.RuleCodes.{Codes, coded, codes_of}
 use Rattle.rule_eval.specs.ByCode.{Outcome, no_values, number_or_stop, truth_or_stop, number_by_code, truth_by_code, given_by_code, set_by_code, delay_or_stop, made_of, made_by_code, if_holds, first_by_code}
-use Rattle.rule_eval.specs.Evaluated.{or_earlier, given_at, by_port, Evaluates, Makes}
+use Rattle.rule_tree.specs.Ports.{or_earlier, given_at, by_port}
+use Rattle.rule_eval.specs.Evaluated.{Evaluates, Makes}
 use Rattle.rule_eval.proofs.Stands.{code_stands}
 
 -- ---- expressions

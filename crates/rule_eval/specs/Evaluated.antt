@@ -1,26 +1,14 @@
 -- What evaluation answers for the rules that codes stand for.
-use Rattle.std.specs.Prelude.{◌≡◌, ℕ, Option, Some, None, ◌==◌, if◌then◌else◌, List, [], ◌∷◌}
+use Rattle.std.specs.Prelude.{◌≡◌, ℕ, Option, List}
 use Rattle.std.specs.declared.result.Result.{Result}
 use Rattle.std.specs.declared.result.Result.TheVariants.{Ok, Err}
 use Rattle.quantity.specs.declared.value.Value.{Value}
 use Rattle.rule_tree.specs.declared.outcome.RuleStop.{RuleStop}
 use Rattle.rule_tree.specs.Chosen as rules
 use Rattle.rule_tree.specs.Chosen.{Chosen}
+use Rattle.rule_tree.specs.Ports.{by_port}
 use Rattle.rule_eval.specs.ByCode.{Made, Outcome}
 use Rattle.rule_eval.specs.declared.given.Given.{Given}
-
-abbrev pub or_earlier : Option Value → Option Value → Option Value
-or_earlier None earlier = earlier
-or_earlier (Some v) earlier = Some v
-
--- what is given at a port, if anything is (the ports of a sound rule's gives differ; else the last counts)
-abbrev pub given_at : List (ℕ × Value) → ℕ → Option Value
-given_at [] port = None
-given_at (g ∷ gs) port = or_earlier (given_at gs port) (if g.0 == port then Some g.1 else None)
-
--- what is given at each port
-abbrev pub by_port : List (ℕ × Value) → List (Option Value)
-by_port gs = given_at gs 0 ∷ given_at gs 1 ∷ given_at gs 2 ∷ given_at gs 3 ∷ []
 
 -- what evaluation answers and leaves, and what the rules give over what the cell sees
 pub record IsGiven (g : rules.Given) (given : Given) (ms : ℕ) (after : List Value) : Type 0 where

@@ -7,3 +7,4 @@ pub mod RuleCodes
 pub mod Numbered
 pub mod ByCode
 pub mod Evaluated
+pub mod Room

@@ -23,7 +23,8 @@ use rule_tree::{Answer, RuleStop};
 
 /// What the first true rule gives over a view, by port, and its delay; `changed` then holds the variables after
 /// its sets. Without a true rule, where an evaluated part is too large, and where the delay is no whole number of
-/// milliseconds from 0 to 359999999, the stop; nothing is promised then of `changed`. It takes no memory.
+/// milliseconds from 0 to 359999999, the stop; nothing is promised then of `changed`. It takes no memory and gives
+/// none back: the stack stays as it is seen.
 pub fn evaluate(
     rules: &[RuleCode],
     view: &View,
@@ -32,7 +33,7 @@ pub fn evaluate(
 ) -> Result<(Given, Time), RuleStop>
     requires view { IsView view.now }
     requires variables { length changed.old ≡ length view.now.variables.now }
-    requires depth { All (λ rule. rule_depth rule ≤ stack.old) rules.now }
+    requires depth { All (λ rule. rule_depth rule ≤ stack.old.depth) rules.now }
     // For all rules that the codes stand for.
     ensures value { (trees : List Rule) → rules.now ≡ map codes_of trees
         → Evaluates (chosen trees (sight_of view.now)) result changed.new }

@@ -6,7 +6,8 @@ use rule_tree::Answer;
 use std::alloc::Global;
 use std::marker::Model;
 
-/// Room for the answers of a rule's parts, made once and used for many evaluations. It is seen as its depth.
+/// Room for the answers of a rule's parts, made once and used for many evaluations. It is seen as the number of
+/// answers that it was made for, and the number for which it holds memory.
 #[derive(Drop)]
 pub struct Stack {
     pub(crate) answers: Vec<Answer>,
@@ -14,11 +15,12 @@ pub struct Stack {
 }
 
 impl Model for Stack {
-    ghost use Rattle.std.specs.Prelude.{◌≤◌, ℕ, vec_capacity};
+    ghost use Rattle.std.specs.Prelude.{◌≤◌, vec_capacity};
+    ghost use Rattle.rule_eval.specs.Room.{Room};
 
-    ghost Value = { ℕ };
+    ghost Value = { Room };
 
-    ghost view = { λ s. s.depth };
+    ghost view = { λ s. record { depth = s.depth; memory = vec_capacity s.answers } };
 
     ghost invariant = { λ s. s.depth ≤ vec_capacity s.answers };
 }
@@ -26,7 +28,7 @@ impl Model for Stack {
 impl Stack {
     /// Room for so many answers at once.
     pub fn for_depth(alloc: Global, depth: usize) -> Result<Stack, OutOfMemory>
-        ensures { IfOk result (λ stack. stack ≡ depth) }
+        ensures { IfOk result (λ stack. stack.depth ≡ depth) }
     {
         let answers = Vec::with_capacity(alloc, depth)?;
         Ok(Stack { answers, depth })
@@ -34,7 +36,7 @@ impl Stack {
 
     /// The number of answers that was asked for.
     pub fn depth(&self) -> usize
-        ensures { result ≡ self.now }
+        ensures { result ≡ self.now.depth }
     {
         self.depth
     }
