@@ -1,11 +1,11 @@
 -- The forms of the values of keys.
-use Rattle.std.specs.Prelude.{ℕ, ◌==◌, Bool, false, not, ◌&&◌, ◌||◌, nat_le, Option, Some, None, List, [], ◌∷◌, map, length, ℤ, pos, codes}
-use Rattle.std.specs.List.{filter, list_all, before_first, after_first}
+use Rattle.std.specs.Prelude.{ℕ, ◌==◌, Bool, false, not, ◌&&◌, ◌||◌, nat_le, Option, Some, None, List, [], ◌∷◌, ◌++◌, map, length, ℤ, pos, if◌then◌else◌, codes}
+use Rattle.std.specs.List.{filter, flat_map, list_all, list_any, slice_split, before_first, after_first}
 use Rattle.std.specs.Option.{option_and_then, is_some}
 use Rattle.std.specs.Bool.{then_some}
 use Rattle.std.specs.Prelude.{int_le}
 use Rattle.std.specs.Str.{bytes_eq}
-use Rattle.quantity.specs.Bytes.{Bytes, is_byte, is_blank, is_empty, is_among, has_repeat, words, trimmed, parts_outside, all_there}
+use Rattle.quantity.specs.Bytes.{Bytes, is_byte, is_blank, is_empty, is_among, has_repeat, words, trimmed, all_there}
 use Rattle.quantity.specs.Names.{is_name}
 use Rattle.quantity.specs.Digits.{has_length, whole_number}
 use Rattle.quantity.specs.Literals.{value_in}
@@ -95,8 +95,23 @@ port_rule_text group text =
 
 -- ---- the ends of a link
 
+abbrev pub without_blanks : Bytes → Bytes
+without_blanks text = filter (λ c. not (is_blank c)) text
+
+-- what stands behind an opening parenthesis: where a tuple ends at its first closing one, without the tuple's blanks
+abbrev pub with_whole_tuple : Bytes → Bytes
+with_whole_tuple text =
+    let inner = before_first (is_byte 41) text in
+    if list_any (is_byte 41) text && is_some (tuple (40 ∷ inner ++ 41 ∷ [])) then without_blanks inner ++ 41 ∷ after_first (is_byte 41) text else text
+
+-- the text of these parts, which are parted by opening parentheses
+abbrev pub with_whole_tuples : List Bytes → Bytes
+with_whole_tuples [] = []
+with_whole_tuples (p ∷ ps) = p ++ flat_map (λ q. 40 ∷ with_whole_tuple q) ps
+
+-- the words, where a tuple is one piece with the text beside it: its own blanks part nothing
 abbrev pub ends_of : Bytes → List Bytes
-ends_of text = filter (λ p. not (is_empty p)) (parts_outside is_blank (is_byte 40) (is_byte 41) 0 text)
+ends_of text = words (with_whole_tuples (slice_split (is_byte 40) text))
 
 abbrev pub has_two_ends : Bytes → Bool
 has_two_ends text = is_empty text || (length (ends_of text) == 2)

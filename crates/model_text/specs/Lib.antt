@@ -17,3 +17,4 @@ pub mod Models
 pub mod Examples
 pub mod RefusalExamples
 pub mod FileExamples
+pub mod LinkExamples

@@ -1,4 +1,6 @@
 // The kinds of refusals of models.
+ghost use Rattle.std.specs.Prelude.{◌≡◌};
+ghost use Rattle.model_text.specs.Refusals.{number_of, kind_text};
 
 /// Why a model is refused.
 #[derive(Clone, Copy, PartialEq, Eq, Debug)]
@@ -63,4 +65,82 @@ pub enum Kind {
     UnknownVariable,
     /// A rule names a port that the group doesn't have.
     UnknownNeighbourPort,
+}
+
+impl Kind {
+    /// The number of the kind, as it is shown.
+    pub fn number(self) -> u8
+        ensures { result ≡ number_of self }
+    {
+        match self {
+            Kind::BadLine => 1,
+            Kind::DuplicateSection => 2,
+            Kind::NoTop => 3,
+            Kind::DuplicateKey => 5,
+            Kind::MissingKey => 6,
+            Kind::BadValue => 7,
+            Kind::UnknownComponent => 8,
+            Kind::DuplicateComponent => 9,
+            Kind::ComponentCycle => 10,
+            Kind::UnknownClass => 11,
+            Kind::OutOfStock => 12,
+            Kind::BadParameter => 13,
+            Kind::UnknownPort => 14,
+            Kind::SelfLink => 15,
+            Kind::PassThrough => 16,
+            Kind::DuplicateLink => 17,
+            Kind::TooManyRoutes => 18,
+            Kind::BadRule => 19,
+            Kind::BadSort => 20,
+            Kind::RandomRefused => 21,
+            Kind::UnknownFunction => 22,
+            Kind::NotANeighbour => 23,
+            Kind::BadZone => 24,
+            Kind::BadInitial => 25,
+            Kind::TooLarge => 26,
+            Kind::TooLong => 27,
+            Kind::NoSection => 28,
+            Kind::NoSuchPlane => 29,
+            Kind::UnknownVariable => 30,
+            Kind::UnknownNeighbourPort => 31,
+        }
+    }
+
+    /// The number and the name of the kind, as they are shown.
+    pub fn text(self) -> &'static str
+        ensures { result.now ≡ kind_text self }
+    {
+        match self {
+            Kind::BadLine => "1 BadLine",
+            Kind::DuplicateSection => "2 DuplicateSection",
+            Kind::NoTop => "3 NoTop",
+            Kind::DuplicateKey => "5 DuplicateKey",
+            Kind::MissingKey => "6 MissingKey",
+            Kind::BadValue => "7 BadValue",
+            Kind::UnknownComponent => "8 UnknownComponent",
+            Kind::DuplicateComponent => "9 DuplicateComponent",
+            Kind::ComponentCycle => "10 ComponentCycle",
+            Kind::UnknownClass => "11 UnknownClass",
+            Kind::OutOfStock => "12 OutOfStock",
+            Kind::BadParameter => "13 BadParameter",
+            Kind::UnknownPort => "14 UnknownPort",
+            Kind::SelfLink => "15 SelfLink",
+            Kind::PassThrough => "16 PassThrough",
+            Kind::DuplicateLink => "17 DuplicateLink",
+            Kind::TooManyRoutes => "18 TooManyRoutes",
+            Kind::BadRule => "19 BadRule",
+            Kind::BadSort => "20 BadSort",
+            Kind::RandomRefused => "21 RandomRefused",
+            Kind::UnknownFunction => "22 UnknownFunction",
+            Kind::NotANeighbour => "23 NotANeighbour",
+            Kind::BadZone => "24 BadZone",
+            Kind::BadInitial => "25 BadInitial",
+            Kind::TooLarge => "26 TooLarge",
+            Kind::TooLong => "27 TooLong",
+            Kind::NoSection => "28 NoSection",
+            Kind::NoSuchPlane => "29 NoSuchPlane",
+            Kind::UnknownVariable => "30 UnknownVariable",
+            Kind::UnknownNeighbourPort => "31 UnknownNeighbourPort",
+        }
+    }
 }

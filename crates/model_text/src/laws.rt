@@ -2,6 +2,7 @@
 ghost use Rattle.model_text.specs.Examples.{LineIsRead, TableIsRead, QueueIsRead, LifeIsRead, GroupsAreRead};
 ghost use Rattle.model_text.specs.RefusalExamples.{KindsHaveTexts, LineIsRefused, CellIsRefused, DepthIsBounded, ComponentsAreRefused, TablesAreRefused, GroupsAreRefused, SectionsAreRefused, CutFilesAreRefused, LimitsAreKept};
 ghost use Rattle.model_text.specs.FileExamples.{FilesAreLaidOn, FilesAreRefused};
+ghost use Rattle.model_text.specs.LinkExamples.{EndsAreCut};
 
 /// The line of three cells is read, in letters of either case.
 pub fn line_is_read()
@@ -41,6 +42,11 @@ pub fn line_is_refused()
 /// Changes of one cell are refused.
 pub fn cell_is_refused()
     ensures { CellIsRefused }
+{}
+
+/// A tuple in a link is one piece with the text beside it, and other parentheses are bytes like others.
+pub fn ends_are_cut()
+    ensures { EndsAreCut }
 {}
 
 /// Sections lie at most 16 below the top.
