@@ -1,6 +1,6 @@
 -- The values of a cycle are bounded where those of the state before it are.
-use Rattle.std.proofs.Common.{ℕ, zero, suc, ◌+◌, ◌/◌, ◌%◌, ◌<◌, ◌≤◌, Bool, true, false, Option, Some, None, List, [], ◌∷◌, map, sym, subst, arith}
-use Rattle.std.specs.Prelude.{Ok, Err, IfOk, IfSome, ⊤, if◌then◌else◌, not, ◌==◌, ◌&&◌, ℤ, slice_get, unwrap_or}
+use Rattle.std.proofs.Common.{ℕ, zero, suc, ◌+◌, ◌/◌, ◌%◌, ◌<◌, ◌≤◌, Bool, true, false, Option, Some, None, List, [], ◌∷◌, map, length, sym, subst, arith}
+use Rattle.std.specs.Prelude.{Ok, Err, IfOk, IfSome, ⊤, if◌then◌else◌, not, ◌==◌, ◌&&◌, ℤ, slice_get, unwrap_or, replicate}
 use Rattle.std.specs.List.{All, filter, flat_map, enumerate_from, range_with_len, position}
 use Rattle.std.specs.Str.{bytes_eq}
 use Rattle.std.proofs.lemmas.List.{length-map}
@@ -21,7 +21,7 @@ use Rattle.model_tree.specs.Pull.{Source, leaf_source, top_source, pulled, sourc
 use Rattle.model_tree.specs.Natural.{given_from}
 use Rattle.model_tree.proofs.Naturality.{pulls_from_sources, top_pulls_from_sources}
 use Rattle.run_model.specs.CellStep.{PortState, Stepped, cell_emitted, cell_moved}
-use Rattle.run_model.specs.Cycle.{LeafState, box_state, cell_state, initial_leaf, leaf_next, leaf_emitted, collected_of, collected, at_out, given_by_leaf, at_port, bag_of, bags, emitted_values, emitted_in, neighbour_leaf, sight_of, Moved, stayed, moved, stopped, box_moved, cell_result, leaf_moved}
+use Rattle.run_model.specs.Cycle.{LeafState, box_state, cell_state, initial_leaf, leaf_next, leaf_emitted, collected_of, collected, at_out, given_by_leaf, at_port, bag_of, bags, emitted_values, seen_of, neighbour_leaf, sight_of, Moved, stayed, moved, stopped, box_moved, cell_result, leaf_moved}
 use Rattle.run_model.specs.Run.{Event, RunState, port_records, records_of_bags, is_of_out, computed_of, record_of_move, state_record, out_records, event_at, events_at, at_top, cycle_of, state_after}
 use Rattle.run_model.specs.Runs.{ends, goes}
 use Rattle.run_model.specs.Bounds.{IsDelay, IsTime, IsBoundedGroup, AreBoundedSettings, HasBoundedValues, HaveBoundedValues, IsBoundedEvent, IsBoundedPort, IsBoundedCell, IsBoundedBox, IsBoundedLeaf, IsBoundedState, IsBoundedPortRecord, IsBoundedStateRecord, IsBoundedOutRecord, IsBoundedCycle, StartIsBounded, RunsAreBounded}
@@ -140,9 +140,13 @@ get-bounded P [] k h = tt
 get-bounded P (s ∷ ss) zero h = All-head P s ss h
 get-bounded P (s ∷ ss) (suc k) h = get-bounded P ss k (All-tail P s ss h)
 
-emitted_in-bounded : (ss : List LeafState) (o : Option ℕ) → All IsBoundedLeaf ss → AreBounded (emitted_in ss o)
-emitted_in-bounded ss None h = All-nil IsBounded
-emitted_in-bounded ss (Some leaf) h = emitted_values-bounded (slice_get ss leaf) (get-bounded IsBoundedLeaf ss leaf h)
+undefined-bounded : (n : ℕ) → AreBounded (replicate n Undefined)
+undefined-bounded zero = All-nil IsBounded
+undefined-bounded (suc n) = All-cons IsBounded Undefined (replicate n Undefined) tt (undefined-bounded n)
+
+seen_of-bounded : (ss : List LeafState) (g : Group) (o : Option ℕ) → All IsBoundedLeaf ss → AreBounded (seen_of ss g o)
+seen_of-bounded ss g None h = undefined-bounded (suc (length g.port_values))
+seen_of-bounded ss g (Some leaf) h = emitted_values-bounded (slice_get ss leaf) (get-bounded IsBoundedLeaf ss leaf h)
 
 place-bounded : (s : Space) (cell most : ℕ) → cell ≤ most → All (λ n. n ≤ most) (coordinates (place_of s cell))
 place-bounded s cell most le =
@@ -158,8 +162,8 @@ sight-bounded : (t : ℕ) (ss : List LeafState) (g : Group) (first cell : ℕ) �
 sight-bounded t ss g first cell time h group lt = record {
   time = time;
   place = λ k. at_or (λ n. n ≤ 1048576) (coordinates (place_of g.space cell)) k 0 (omega arith) (place-bounded g.space cell 1048576 (omega (arith, lt, group.size)));
-  neighbours = map-each AreBounded (λ o. emitted_in ss (neighbour_leaf g first cell o)) (λ (o : Offset). ⊤) (λ o k. emitted_in-bounded ss (neighbour_leaf g first cell o) h) g.offsets (λ k d l. tt);
-  few = omega (arith, length-map g.offsets (λ o. emitted_in ss (neighbour_leaf g first cell o)), group.offsets);
+  neighbours = map-each AreBounded (λ o. seen_of ss g (neighbour_leaf g first cell o)) (λ (o : Offset). ⊤) (λ o k. seen_of-bounded ss g (neighbour_leaf g first cell o) h) g.offsets (λ k d l. tt);
+  few = omega (arith, length-map g.offsets (λ o. seen_of ss g (neighbour_leaf g first cell o)), group.offsets);
   port = tt;
   variables = All-nil IsBounded;
 }

@@ -14,9 +14,10 @@ use Rattle.atomic_face.specs.Classes.{Bag}
 use Rattle.model_tree.specs.declared.group.DelayKind.{DelayKind}
 use Rattle.model_tree.specs.Tree.{Group}
 use Rattle.run_model.specs.CellStep.{PortState, CellState, port_emitted, cell_emitted, port_took, took_at, took, and_took, cell_moved}
+use Rattle.run_model.specs.Fitting.{HasNumbers}
 use Rattle.run_model.proofs.CellKeeps.{cell_moved-keeps}
 
-length-took_at : (port : ℕ) (f : PortState → PortState) (ps : List PortState) → length (took_at port f ps) ≡ length ps
+pub length-took_at : (port : ℕ) (f : PortState → PortState) (ps : List PortState) → length (took_at port f ps) ≡ length ps
 length-took_at port f [] = refl
 length-took_at zero f (p ∷ ps) = refl
 length-took_at (suc port) f (p ∷ ps) = ap suc (length-took_at port f ps)
@@ -71,9 +72,6 @@ chosen-has (r ∷ rs) s n h =
     (λ c. if_true-has n (truth_in c) (given r s) (chosen rs s) (given-has r s n h) (chosen-has rs s n h))
 
 -- ---- a move
-
-abbrev pub HasNumbers : ℕ → ℕ → CellState → Type 0
-HasNumbers ports variables c = (length c.ports ≡ ports) × (length c.variables ≡ variables)
 
 pub cell_emitted-has : (ports variables t : ℕ) (c : CellState) → HasNumbers ports variables c → HasNumbers ports variables (cell_emitted t c)
 cell_emitted-has ports variables t c h = (length-map c.ports (port_emitted t) ∙ h.0, h.1)

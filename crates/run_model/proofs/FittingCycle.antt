@@ -21,12 +21,12 @@ use Rattle.run_model.specs.CellStep.{PortState, Stepped, initial_port, first_tim
 use Rattle.run_model.specs.Cycle.{LeafState, box_state, cell_state, initial_leaf, leaf_next, leaf_emitted, collected_of, collected, given_by_leaf, at_port, bag_of, bags, sight_of, is_woken, has_values, Moved, stayed, moved, stopped, box_moved, cell_result, leaf_moved, asked, all_asked, after, all_after}
 use Rattle.run_model.specs.Run.{PortRecord, StateRecord, OutRecord, RunState, port_records, records_of_bags, is_of_out, computed_of, record_of_move, state_record, out_records, at_top, cycle_of}
 use Rattle.run_model.specs.Runs.{ends, goes}
-use Rattle.run_model.specs.Fitting.{Fits, FitsTree, IsFurtherPort, IsInPort, IsStateValue, OfLeaf, NamesItsParts, StartFits, RunsFit}
+use Rattle.run_model.specs.Fitting.{Fits, FitsTree, IsFurtherPort, IsInPort, IsStateValue, OfLeaf, NamesItsParts, HasNumbers, StartFits, CycleFits, RunsFit}
 use Rattle.run_model.proofs.Steps.{moves_at, is_cycled}
 use Rattle.run_model.proofs.LeavesKeep.{MovedHas}
 use Rattle.run_model.proofs.BoundedLists.{flat_map-each, filter_map-each, map-each}
 use Rattle.run_model.proofs.FittingLists.{zip-append, zip-maps, zip-map, zip-from, numbered, numbers-below}
-use Rattle.run_model.proofs.FittingCells.{HasNumbers, cell_emitted-has, cell_moved-has}
+use Rattle.run_model.proofs.FittingCells.{cell_emitted-has, cell_moved-has}
 
 -- ---- what reaches a leaf stands at its ports
 
@@ -242,15 +242,18 @@ cycle-fits tree t s h =
 
 -- ---- runs
 
+pub one-cycle-fits : CycleFits
+one-cycle-fits tree end limit s n c h e =
+    let is = is_cycled tree end limit s n c e in
+    let after = all_after-fit (leaves tree) s.leaf_states (moves_at tree is.0 s) h (moves-fit tree is.0 s h) in
+    (subst (NamesItsParts tree) (sym is.1.cycle) (cycle-fits tree is.0 s h), subst (λ (m : RunState). FitsTree tree m.leaf_states) (sym is.1.next) after)
+
 pub runs-fit : RunsFit
 runs-fit tree end limit s l _ v h (ends e) = (All-nil (NamesItsParts tree), h)
 runs-fit tree end limit s l _ v h (goes {n} {c} {cs} e q) =
-    let is = is_cycled tree end limit s n c e in
-    let one = subst (NamesItsParts tree) (sym is.1.cycle) (cycle-fits tree is.0 s h) in
-    let after = all_after-fit (leaves tree) s.leaf_states (moves_at tree is.0 s) h (moves-fit tree is.0 s h) in
-    let next = subst (λ (m : RunState). FitsTree tree m.leaf_states) (sym is.1.next) after in
-    let rest = runs-fit tree end limit n l cs v next q in
-    (All-cons (NamesItsParts tree) c cs one rest.0, rest.1)
+    let one = one-cycle-fits tree end limit s n c h e in
+    let rest = runs-fit tree end limit n l cs v one.1 q in
+    (All-cons (NamesItsParts tree) c cs one.0 rest.0, rest.1)
 
 initial-fits : (l : Leaf) → Fits l (initial_leaf l)
 initial-fits (atomic_leaf name class settings) = (refl, refl)

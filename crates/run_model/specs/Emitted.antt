@@ -1,5 +1,5 @@
 -- What a cell has emitted at its port out is what it gave there last.
-use Rattle.std.specs.Prelude.{◌≡◌, ℕ, ◌==◌, Some, List, [], ◌∷◌, if◌then◌else◌, ⊤}
+use Rattle.std.specs.Prelude.{◌≡◌, ℕ, ◌==◌, List, [], ◌∷◌, if◌then◌else◌, ⊤}
 use Rattle.quantity.specs.declared.value.Value.{Value}
 use Rattle.rule_tree.specs.Meaning.{value_at}
 use Rattle.model_tree.specs.Tree.{Tree, Leaf, atomic_leaf, cell_leaf}
@@ -11,7 +11,7 @@ use Rattle.run_model.specs.Fitting.{FitsTree, OfLeaf}
 
 -- what a leaf has emitted at its port out
 abbrev pub emitted_at : List LeafState → ℕ → Value
-emitted_at states leaf = value_at (emitted_in states (Some leaf)) 0
+emitted_at states leaf = value_at (emitted_in states leaf) 0
 
 -- the last value of a leaf among these records, or else this one
 abbrev pub last_of : ℕ → List PortRecord → Value → Value
