@@ -1,0 +1,9 @@
+pub mod Sparse
+pub mod Walk
+pub mod Woken
+pub mod Fits
+pub mod Laws
+pub mod Collect
+pub mod Wake
+pub mod Feed
+pub mod Examples
