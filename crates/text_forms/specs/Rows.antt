@@ -7,6 +7,7 @@ use Rattle.cell_grid.specs.Space.{Space}
 use Rattle.model_tree.specs.Examples.{twice_and_once}
 use Rattle.run_model.specs.Run.{run}
 use Rattle.run_model.specs.Examples.{with_port}
+use Rattle.run_model.specs.GroupRows.{feeding}
 use Rattle.quantity.specs.Bytes.{Bytes}
 use Rattle.text_forms.specs.LogLine.{given, moved, read_line}
 use Rattle.text_forms.specs.Lines.{log_bytes, out_bytes, ended}
@@ -50,6 +51,14 @@ port_log =
     ∷ codes "S / 00:00:00:100 / g(0,0) / 1.00000 / 00:00:00:200" ∷ codes "Y / 00:00:00:200 / g(0,0) / out / 1.00000"
     ∷ codes "N / 00:00:00:200 / g(0,0) / p / 2.00000" ∷ codes "S / 00:00:00:200 / g(0,0) / 1.00000 / ..." ∷ [])
 
+-- in a cycle Y, N, X and S lines follow one another
+abbrev pub feeding_log : Bytes
+feeding_log =
+    lines
+    (codes "Y / 00:00:00:000 / g(0,0) / out / 0.00000" ∷ codes "N / 00:00:00:000 / g(0,0) / p / 0.00000"
+    ∷ codes "X / 00:00:00:000 / q / in / 0.00000" ∷ codes "S / 00:00:00:000 / g(0,0) / 0.00000 / 00:00:00:100"
+    ∷ codes "S / 00:00:00:000 / q / - / 00:00:01:000" ∷ [])
+
 abbrev pub two_frames : Bytes
 two_frames =
     lines
@@ -86,6 +95,7 @@ pub record RowsAsSaid : Type 0 where
   pub queue : log_bytes twice_and_once (codes "SXY") (run twice_and_once [] 0 10000).cycles ≡ queue_log
   pub queue_out : out_bytes twice_and_once (run twice_and_once [] 0 10000).cycles ≡ lines (codes "00:00:00:000 o 8.00000" ∷ [])
   pub further_port : log_bytes with_port (codes "YNS") (run with_port [] 1000 10000).cycles ≡ port_log
+  pub each_letter : log_bytes feeding (codes "XNSY") (run feeding [] 99 10000).cycles ≡ feeding_log
   pub drawn_line : drawn on_line (codes "line") line_log ≡ Ok two_frames
   pub same_frames : frames_of on_line 0 unknown (run line [] 100 10000).cycles ≡ two_frames
   pub torn : drawn on_line (codes "line") (take (length line_log - 3) line_log) ≡ Err 5
