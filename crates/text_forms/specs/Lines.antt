@@ -8,30 +8,23 @@ use Rattle.quantity.specs.Times.{time_text}
 use Rattle.rule_tree.specs.Meaning.{coordinates}
 use Rattle.cell_grid.specs.Space.{place_of, dims_of}
 use Rattle.model_tree.specs.Tree.{Word, Tree, Leaf, atomic_leaf, cell_leaf, leaves, outs_of}
-use Rattle.model_tree.specs.Pull.{class_ports, cell_ports}
+pub use Rattle.model_tree.specs.LeafTexts.{name_at, further_ports}
+use Rattle.model_tree.specs.LeafTexts.{in_ports, out_ports}
 use Rattle.run_model.specs.Run.{Cycle, PortRecord, StateRecord, OutRecord}
 use Rattle.text_forms.specs.LogLine.{LeafName, LogLine, given, moved, line_text}
 
--- ---- how leaves and ports are called
+-- ---- how leaves and ports are called, as lines have it
 
 abbrev pub leaf_name : Leaf → LeafName
 leaf_name (atomic_leaf name class settings) = record { name = name; at = [] }
 leaf_name (cell_leaf g first cell) =
     record { name = g.name; at = take (dims_of g.space) (coordinates (place_of g.space cell)) }
 
-abbrev pub name_at : List Word → ℕ → Word
-name_at names k = unwrap_or (slice_get names k) []
-
-abbrev pub further_ports : Leaf → List Word
-further_ports (atomic_leaf name class settings) = []
-further_ports (cell_leaf g first cell) = g.ports
-
 abbrev pub out_port_name : Leaf → ℕ → Word
-out_port_name l k = name_at (codes "out" ∷ further_ports l) k
+out_port_name l k = name_at (out_ports l) k
 
 abbrev pub in_port_name : Leaf → ℕ → Word
-in_port_name (atomic_leaf name class settings) k = name_at (class_ports class) k
-in_port_name (cell_leaf g first cell) k = name_at (cell_ports g cell) k
+in_port_name l k = name_at (in_ports l) k
 
 -- ---- the log
 

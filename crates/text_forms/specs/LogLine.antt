@@ -11,6 +11,7 @@ use Rattle.quantity.specs.ValueTexts.{text5, guessed_value}
 use Rattle.quantity.specs.Times.{time_text, time_of}
 use Rattle.quantity.specs.Written.{if_written}
 use Rattle.model_tree.specs.Tree.{Word}
+pub use Rattle.model_tree.specs.LeafTexts.{at_text}
 
 -- a leaf's name; a cell's has the group's name and two or three coordinates, an atomic leaf's has none
 pub record LeafName : Type 0 where
@@ -23,10 +24,6 @@ pub data LogLine : Type 0 where
   moved : (time : ℕ) (leaf : LeafName) (state : Option Value) (next : Option ℕ) → LogLine
 
 -- ---- what is written
-
-abbrev pub at_text : List ℕ → Bytes
-at_text [] = []
-at_text (n ∷ ns) = 40 ∷ (join_with_byte 44 (map decimal (n ∷ ns)) ++ codes ")")
 
 abbrev pub leaf_text : LeafName → Bytes
 leaf_text l = l.name ++ at_text l.at

@@ -1,0 +1,184 @@
+// The making of a model's table: one walk over its components.
+ghost use Rattle.std.specs.Prelude.{◌≡◌, ◌+◌, ◌<◌, ◌^◌, ◌++◌, [], ◌∷◌, Some, map, IfOk, OnOk, slice_get};
+ghost use Rattle.model_tree.specs.declared.table.Part.{Part};
+ghost use Rattle.model_tree.specs.Pull.{class_ports};
+ghost use Rattle.model_tree.specs.Table.{seat_at};
+ghost use Rattle.model_tree.specs.Growing.{AtPart, box_seat_of, cell_seats, part_seats};
+
+use crate::group::{Atomic, CellGroup};
+use crate::table::{Part, PartAt, Row};
+use atomic_face::Class;
+use quantity::{Name, OutOfMemory};
+use std::alloc::{AllocError, Global};
+
+/// The table as far as it is made, and the number of groups so far.
+#[derive(Drop)]
+pub(crate) struct Growing {
+    pub(crate) parts: Vec<Part>,
+    pub(crate) rows: Vec<Row>,
+    pub(crate) ports: Vec<Name>,
+    pub(crate) groups: u32,
+}
+
+impl Growing {
+    ghost use Rattle.model_tree.specs.Growing.{Shows, Grows};
+
+    /// The table of nothing.
+    pub(crate) fn new(alloc: Global) -> Growing
+        ensures shows { Shows result [] }
+        ensures groups { result.groups ≡ 0 }
+    {
+        Growing {
+            parts: Vec::new(alloc),
+            rows: Vec::new(alloc),
+            ports: Vec::new(alloc),
+            groups: 0,
+        }
+    }
+
+    /// More names of ports, behind the others.
+    fn names(&mut self, alloc: Global, names: &[Name]) -> Result<(), OutOfMemory>
+        ensures ok { OnOk result (self.new.ports.items ≡ self.old.ports.items ++ names.now) }
+        ensures rows { self.new.rows.items ≡ self.old.rows.items }
+        ensures parts { self.new.parts.items ≡ self.old.parts.items }
+        ensures groups { self.new.groups ≡ self.old.groups }
+    {
+        for name in names {
+            let copy = copied(alloc, name)?;
+            self.ports.push(copy).map_err(AllocError::from)?;
+        }
+        Ok(())
+    }
+
+    /// One more leaf, of a part that stands already.
+    fn seat(
+        &mut self,
+        alloc: Global,
+        part: u32,
+        cell: u32,
+        names: &[Name],
+    ) -> Result<(), OutOfMemory>
+        ensures ok { OnOk result
+            (AtPart self.old.parts.items part
+            (λ p. Grows self.old self.new (seat_at p.at p.name cell names.now ∷ []))) }
+        ensures parts { self.new.parts.items ≡ self.old.parts.items }
+        ensures groups { self.new.groups ≡ self.old.groups }
+    {
+        let first_port = counted(self.ports.len())?;
+        let ports = counted(names.len())?;
+        self.names(alloc, names)?;
+        let row = Row {
+            part,
+            cell,
+            first_port,
+            ports,
+        };
+        self.rows.push(row).map_err(AllocError::from)?;
+        Ok(())
+    }
+
+    /// One more part: its number.
+    fn part(&mut self, name: Name, at: PartAt) -> Result<u32, OutOfMemory>
+        ensures grows { Grows self.old self.new [] }
+        ensures part { let made : Part = record { name = name; at = at } in
+            IfOk result (λ number. slice_get self.new.parts.items number ≡ Some made) }
+        ensures groups { self.new.groups ≡ self.old.groups }
+    {
+        let number = counted(self.parts.len())?;
+        self.parts
+            .push(Part { name, at })
+            .map_err(AllocError::from)?;
+        Ok(number)
+    }
+
+    /// The leaf of an atomic component.
+    pub(crate) fn atomic(&mut self, alloc: Global, atomic: &Atomic) -> Result<(), OutOfMemory>
+        ensures ok { OnOk result (Grows self.old self.new (box_seat_of atomic.now ∷ [])) }
+        ensures groups { OnOk result (self.new.groups ≡ self.old.groups) }
+    {
+        let name = copied(alloc, &atomic.name)?;
+        let part = self.part(name, PartAt::Atomic(atomic.at))?;
+        let names = ports_of_class(alloc, atomic.class)?;
+        self.seat(alloc, part, 0, &names)
+    }
+
+    /// The leaves of a group.
+    pub(crate) fn group(&mut self, alloc: Global, group: &CellGroup) -> Result<(), OutOfMemory>
+        ensures ok { OnOk result (Grows self.old self.new (cell_seats group.now self.old.groups)) }
+        ensures groups { OnOk result (self.new.groups ≡ self.old.groups + 1) }
+    {
+        let name = copied(alloc, &group.name)?;
+        let ports = all_copied(alloc, &group.ports)?;
+        let number = self.groups;
+        let part = self.part(name, PartAt::Cells(number, group.grid, ports))?;
+        self.cells(alloc, group, part)?;
+        self.groups = number.checked_add(1).ok_or(OutOfMemory)?;
+        Ok(())
+    }
+
+    /// The leaves of a group whose part stands already.
+    fn cells(&mut self, alloc: Global, group: &CellGroup, part: u32) -> Result<(), OutOfMemory>
+        ensures ok { OnOk result
+            (AtPart self.old.parts.items part
+            (λ p. Grows self.old self.new (part_seats p.at p.name group.now))) }
+        ensures groups { self.new.groups ≡ self.old.groups }
+    {
+        let all = group.ports_of_cells(alloc)?;
+        for cell in 0..group.grid.cells() {
+            let names = &all[cell as usize];
+            self.seat(alloc, part, cell, names)?;
+        }
+        Ok(())
+    }
+}
+
+/// A number of things that the table can count, which refuses as if there were no memory for more.
+pub(crate) fn counted(number: usize) -> Result<u32, OutOfMemory>
+    ensures number { IfOk result (λ n. n ≡ number) }
+    ensures few { OnOk result (number < 2 ^ 32) }
+{
+    u32::try_from(number).map_err(|_| OutOfMemory)
+}
+
+/// The same name once more.
+pub(crate) fn copied(alloc: Global, name: &Name) -> Result<Name, OutOfMemory>
+    ensures { IfOk result (λ copy. copy ≡ name.now) }
+{
+    Name::parse(alloc, name.as_bytes()).map_err(|_| OutOfMemory)
+}
+
+fn all_copied(alloc: Global, names: &[Name]) -> Result<Vec<Name>, OutOfMemory>
+    ensures { IfOk result (λ copies. copies.items ≡ names.now) }
+{
+    let mut copies = Vec::new(alloc);
+    for name in names {
+        let copy = copied(alloc, name)?;
+        copies.push(copy).map_err(AllocError::from)?;
+    }
+    Ok(copies)
+}
+
+/// The names of the input ports of a class.
+fn ports_of_class(alloc: Global, class: Class) -> Result<Vec<Name>, OutOfMemory>
+    ensures { IfOk result (λ names. names.items ≡ class_ports class) }
+{
+    match class {
+        Class::Queue => names_of(alloc, &[b"in", b"done"]),
+        Class::Generator => names_of(alloc, &[]),
+        Class::Cpu => names_of(alloc, &[b"in"]),
+        Class::Counter => names_of(alloc, &[b"in", b"reset"]),
+        Class::Table => names_of(alloc, &[b"a", b"b", b"c", b"d"]),
+    }
+}
+
+/// The names that are written so.
+fn names_of(alloc: Global, texts: &[&[u8]]) -> Result<Vec<Name>, OutOfMemory>
+    ensures { IfOk result (λ names. names.items ≡ map (λ text. text.now) texts.now) }
+{
+    let mut names = Vec::new(alloc);
+    for text in texts {
+        let name = Name::parse(alloc, text).map_err(|_| OutOfMemory)?;
+        names.push(name).map_err(AllocError::from)?;
+    }
+    Ok(names)
+}
