@@ -4,7 +4,7 @@
 ghost use Rattle.std.specs.Prelude.{◌≡◌, ◌<◌};
 
 use cdpp_top::cdpp;
-use cell_engine::Steps;
+use ring_cells::Steps;
 use room_edge::FolderRoom;
 use std::alloc::Global;
 use std::env;

@@ -10,7 +10,7 @@ use Rattle.run_model.specs.Run.{Cycle, Run, in_front}
 use Rattle.room_edge.specs.Outside.{Folder, adds, streams}
 use Rattle.room_edge.proofs.Adding.{adds-adds, adds-nil, streams-nil}
 use Rattle.answer_model.specs.Headline.{Begins}
-use Rattle.cell_engine.specs.Ring.{Ring, ring_tree}
+use Rattle.ring_cells.specs.Ring.{Ring, ring_tree}
 use Rattle.cdpp_top.specs.AskedOf.{name_of}
 use Rattle.cdpp_top.specs.Logged.{logs}
 use Rattle.cdpp_top.specs.RunOf.{log_of}

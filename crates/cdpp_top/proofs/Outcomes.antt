@@ -4,7 +4,7 @@ use Rattle.std.specs.Bool.{OnFalse}
 use Rattle.std.specs.Prelude.{Contains, IfSome, codes, nat_lt, ◌<◌, ◌≤◌, if◌then◌else◌}
 use Rattle.std.proofs.lemmas.Bool.{le-ltb}
 use Rattle.std.proofs.lemmas.Bool.Decides.{Decides-ltb}
-use Rattle.cell_engine.specs.Ring.{Ring}
+use Rattle.ring_cells.specs.Ring.{Ring}
 use Rattle.ring_text.specs.Reading.{ring_in}
 use Rattle.std.specs.Option.{option_to_list}
 use Rattle.std.proofs.lemmas.List.{append-nil, length_push, get_or_push}

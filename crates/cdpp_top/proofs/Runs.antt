@@ -2,7 +2,7 @@
 use Rattle.std.proofs.Common.{◌≡◌, ℕ, zero, suc, ◌-◌, ◌<◌, List, [], Some, Err, sym, ◌∙◌, ap, arith}
 use Rattle.model_tree.specs.Tree.{Tree}
 use Rattle.run_model.specs.Run.{Cycle, RunState, Verdict, too_many, ended, cycled, next_cycle, run_from, and_on, at_last, in_front, start, run, most_cycles}
-use Rattle.cell_engine.specs.Ring.{Ring, ring_tree}
+use Rattle.ring_cells.specs.Ring.{Ring, ring_tree}
 use Rattle.ring_run.specs.Standing.{Standing, state_of, next_of}
 use Rattle.ring_run.specs.Steps.{Keeps, Steps}
 use Rattle.ring_run.specs.declared.run.Stop.{Stop}

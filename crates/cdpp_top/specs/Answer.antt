@@ -3,7 +3,7 @@ use Rattle.std.specs.Prelude.{ℕ, nat_lt, Option, Some, None, List, [], ◌∷�
 use Rattle.quantity.specs.Bytes.{Bytes}
 use Rattle.model_tree.specs.Tree.{Word, Tree}
 use Rattle.run_model.specs.Run.{Run, run}
-use Rattle.cell_engine.specs.Ring.{Ring, ring_tree}
+use Rattle.ring_cells.specs.Ring.{Ring, ring_tree}
 use Rattle.ring_text.specs.Reading.{ring_in}
 use Rattle.room_edge.specs.Outside.{Folder}
 use Rattle.answer_model.specs.Asked as whole

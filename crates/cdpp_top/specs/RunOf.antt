@@ -3,7 +3,7 @@ use Rattle.std.specs.Prelude.{ℕ, List, codes}
 use Rattle.quantity.specs.Bytes.{Bytes}
 use Rattle.run_model.specs.Run.{Cycle, Run, run_from, most_cycles}
 use Rattle.text_forms.specs.Lines.{log_bytes}
-use Rattle.cell_engine.specs.Ring.{Ring, ring_tree}
+use Rattle.ring_cells.specs.Ring.{Ring, ring_tree}
 use Rattle.ring_run.specs.Standing.{Standing, state_of}
 use Rattle.answer_model.specs.Answer.{Answer}
 use Rattle.cdpp_top.specs.Form.{Asked}

@@ -20,7 +20,7 @@ use crate::lines::{end_line, many_cycles_line};
 use crate::log::create_log;
 use crate::run::{Trouble, run_cycles};
 use crate::words::Asked;
-use cell_engine::Steps;
+use ring_cells::Steps;
 use quantity::Time;
 use ring_run::RingRun;
 use ring_text::PlainModel;

@@ -17,7 +17,7 @@ ghost use Rattle.cdpp_top.specs.Statuses.{IsOr, IsReadStatus, IsStatus};
 use crate::complain::{complain, complain_named};
 use crate::ending::run_model;
 use crate::words::{Asked, read_words};
-use cell_engine::Steps;
+use ring_cells::Steps;
 use ring_text::read_ring;
 use room_edge::{ReadWhole, Room, read_whole};
 use std::alloc::Global;

@@ -11,7 +11,7 @@ ghost use Rattle.cdpp_top.specs.RunOf.{run_of, log_of};
 ghost use Rattle.cdpp_top.specs.Trouble as trouble;
 
 use crate::log::write_log;
-use cell_engine::Steps;
+use ring_cells::Steps;
 use quantity::Time;
 use ring_run::{Progress, RingRun, Stop};
 use room_edge::{Room, WriteError};

@@ -6,7 +6,7 @@ ghost use Rattle.answer_model.specs.Headline.{Writes};
 ghost use Rattle.cdpp_top.specs.Answer.{answer};
 
 use crate::program::cdpp;
-use cell_engine::Steps;
+use ring_cells::Steps;
 use room_edge::SureRoom;
 use std::alloc::Global;
 use std::sync::ledger::Ledger;

@@ -1,7 +1,7 @@
 ghost use Rattle.std.specs.Prelude.{◌≡◌, ◌<◌};
 
 use crate::cdpp;
-use cell_engine::Steps;
+use ring_cells::Steps;
 use room_edge::{MemoryRoom, RoomCall};
 use std::alloc::Global;
 use std::marker::Brand;

@@ -10,10 +10,10 @@ use Rattle.model_tree.specs.Tree.{cell_leaf}
 use Rattle.run_model.specs.CellStep.{PortState, CellState, first_time, port_emitted, cell_emitted, cell_output, Stepped, cell_moved}
 use Rattle.run_model.specs.Cycle.{LeafState, cell_state, initial_leaf, leaf_emitted, collected, gave_output, neighbour_leaf, bag_of, Moved, stayed, moved, stopped, cell_result, leaf_moved, has_values, asked, all_asked, first_stop, after, all_after}
 use Rattle.run_model.specs.Cycle as reference
-use Rattle.cell_engine.specs.Beside.{left, right, computed_cell}
-use Rattle.cell_engine.specs.Ring.{Ring, beside, ring_group}
-use Rattle.cell_engine.specs.Store.{are_short, ends_always, one_port, no_cell, cell_of, leaf_states}
-use Rattle.cell_engine.proofs.Around.{ring_space, left_is, here_is, right_is, left_within, right_within, ring_sight, computed_is}
+use Rattle.ring_cells.specs.Beside.{left, right, computed_cell}
+use Rattle.ring_cells.specs.Ring.{Ring, beside, ring_group}
+use Rattle.ring_cells.specs.Store.{are_short, ends_always, one_port, no_cell, cell_of, leaf_states}
+use Rattle.ring_cells.proofs.Around.{ring_space, left_is, here_is, right_is, left_within, right_within, ring_sight, computed_is}
 use Rattle.ring_run.specs.RingCycle.{is_due, is_woken}
 use Rattle.ring_run.proofs.Idle.{least_none, emitted_values, idle_emitted}
 

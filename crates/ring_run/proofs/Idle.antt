@@ -7,7 +7,7 @@ use Rattle.quantity.specs.declared.value.Value.{Value}
 use Rattle.atomic_face.specs.Classes.{is_at, out_port}
 use Rattle.atomic_face.specs.declared.class.PortNo.{PortNo}
 use Rattle.run_model.specs.CellStep.{PortState, CellState, first_time, first_emitted, least, next_of_ports, port_emitted, port_output, cell_next, cell_emitted}
-use Rattle.cell_engine.specs.Store.{Store, no_cell, cell_at, with_cell, Tells}
+use Rattle.ring_cells.specs.Store.{Store, no_cell, cell_at, with_cell, Tells}
 use Rattle.ring_run.specs.RingCycle.{given_line, cell_lines}
 
 pub least_none : (o : Option ℕ) → least o None ≡ o

@@ -19,8 +19,8 @@ use Rattle.text_forms.specs.LogLine as log_line
 use Rattle.text_forms.specs.LogLine.{LogLine, given, line_text}
 use Rattle.text_forms.specs.Lines.{ended, leaf_name, out_port_name, in_port_name, moved_line, cycle_lines, letter_of}
 use Rattle.text_forms.specs.Lines as lines
-use Rattle.cell_engine.specs.Ring.{Ring, ring_group, ring_tree}
-use Rattle.cell_engine.specs.Store.{one_port, cell_of}
+use Rattle.ring_cells.specs.Ring.{Ring, ring_group, ring_tree}
+use Rattle.ring_cells.specs.Store.{one_port, cell_of}
 use Rattle.ring_run.specs.RingCycle.{given_line, cell_lines, first_lines}
 use Rattle.ring_run.specs.Steps.{log_of}
 use Rattle.ring_run.proofs.Asked.{IsRingOf}

@@ -11,9 +11,9 @@ use Rattle.quantity.specs.Arithmetic.{same_value}
 use Rattle.rule_tree.specs.Meaning.{whole, how_many, value_at}
 use Rattle.model_tree.specs.declared.group.DelayKind.TheVariants.{Transport}
 use Rattle.run_model.specs.CellStep.{PortState, CellState, took}
-use Rattle.cell_engine.specs.declared.plain.PlainRule.{PlainRule}
-use Rattle.cell_engine.specs.Beside.{left, right, emitted_of, ones_at, first_fit, with_rule, computed_cell}
-use Rattle.cell_engine.specs.Store.{cell_of, no_cell}
+use Rattle.ring_cells.specs.declared.plain.PlainRule.{PlainRule}
+use Rattle.ring_cells.specs.Beside.{left, right, emitted_of, ones_at, first_fit, with_rule, computed_cell}
+use Rattle.ring_cells.specs.Store.{cell_of, no_cell}
 use Rattle.ring_run.specs.RingCycle.{is_woken, moved_cell}
 
 -- a front of i cells that are done, and the others as they were

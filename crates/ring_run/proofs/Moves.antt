@@ -5,10 +5,10 @@ use Rattle.std.specs.declared.result.Result.{Result}
 use Rattle.std.specs.declared.result.Result.TheVariants.{Ok as ok, Err as err}
 use Rattle.std.specs.Result.{OnOk}
 use Rattle.run_model.specs.CellStep.{CellState, Stepped}
-use Rattle.cell_engine.specs.Beside.{computed_cell}
-use Rattle.cell_engine.specs.Ring.{Ring}
-use Rattle.cell_engine.specs.Store.{Store, IsRingStore, cell_of, cell_at, with_cell, computed_at}
-use Rattle.cell_engine.proofs.Around.{computed_is}
+use Rattle.ring_cells.specs.Beside.{computed_cell}
+use Rattle.ring_cells.specs.Ring.{Ring}
+use Rattle.ring_cells.specs.Store.{Store, IsRingStore, cell_of, cell_at, with_cell, computed_at}
+use Rattle.ring_cells.proofs.Around.{computed_is}
 use Rattle.ring_run.specs.RingCycle.{is_woken, moved_cell, KeepsRing}
 use Rattle.std.proofs.lemmas.List.{length-set}
 use Rattle.std.proofs.Common.{List, [], Bool}

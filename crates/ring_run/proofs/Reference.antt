@@ -11,9 +11,9 @@ use Rattle.cell_grid.specs.Space.{cell_count}
 use Rattle.run_model.specs.CellStep.{CellState, cell_emitted}
 use Rattle.run_model.specs.Cycle.{cell_state, leaf_emitted, collected, bag_of, bags, stayed, moved, moves, asked, all_asked, first_stop, after, all_after, next_of_all}
 use Rattle.run_model.specs.Run.{RunState, Cycle, ended, cycled, done, too_many, unless_stop, cycle_of, cycles_at, state_after, at_top, cycled_at, next_at, next_cycle}
-use Rattle.cell_engine.specs.Beside.{computed_cell}
-use Rattle.cell_engine.specs.Ring.{Ring, ring_group, ring_tree}
-use Rattle.cell_engine.specs.Store.{cell_of, leaf_states}
+use Rattle.ring_cells.specs.Beside.{computed_cell}
+use Rattle.ring_cells.specs.Ring.{Ring, ring_group, ring_tree}
+use Rattle.ring_cells.specs.Store.{cell_of, leaf_states}
 use Rattle.ring_run.specs.RingCycle.{is_due, is_woken, moved_cell, cells_after, within}
 use Rattle.ring_run.specs.Standing.{Standing, state_of, next_of}
 use Rattle.ring_run.proofs.Idle.{least_none}

@@ -8,7 +8,7 @@ use Rattle.model_tree.specs.Tree.{Group, cell_leaf}
 use Rattle.run_model.specs.CellStep.{CellState, initial_cell}
 use Rattle.run_model.specs.Cycle.{cell_state, initial_leaf}
 use Rattle.run_model.specs.Run.{start}
-use Rattle.cell_engine.specs.Ring.{Ring, ring_group, ring_tree}
+use Rattle.ring_cells.specs.Ring.{Ring, ring_group, ring_tree}
 use Rattle.ring_run.proofs.Reference.{leaves_are, count_is, run_state}
 
 starts_from : (g : Group) (all : List Value) (k : ℕ) (vs : List Value) → ((j : ℕ) → j < length vs → slice_get all (k + j) ≡ slice_get vs j) → map (λ n. cell_state (initial_cell g (unwrap_or (slice_get all n) Undefined))) (range_with_len k (length vs)) ≡ map cell_state (map (initial_cell g) vs)

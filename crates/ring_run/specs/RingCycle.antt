@@ -7,9 +7,9 @@ use Rattle.atomic_face.specs.declared.class.PortNo.{PortNo}
 use Rattle.run_model.specs.CellStep.{CellState, cell_next, cell_emitted, cell_output}
 use Rattle.text_forms.specs.LogLine.{given, line_text}
 use Rattle.text_forms.specs.Lines.{ended}
-use Rattle.cell_engine.specs.declared.plain.PlainRule.{PlainRule}
-use Rattle.cell_engine.specs.Beside.{left, right, computed_cell}
-use Rattle.cell_engine.specs.Store.{Store, cell_of}
+use Rattle.ring_cells.specs.declared.plain.PlainRule.{PlainRule}
+use Rattle.ring_cells.specs.Beside.{left, right, computed_cell}
+use Rattle.ring_cells.specs.Store.{Store, cell_of}
 
 abbrev pub is_due : ℕ → CellState → Bool
 is_due t c = is_at t (cell_next c)

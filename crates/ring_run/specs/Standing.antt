@@ -2,8 +2,8 @@
 use Rattle.std.specs.Prelude.{ℕ, Option, List, []}
 use Rattle.run_model.specs.CellStep.{CellState}
 use Rattle.run_model.specs.Run.{RunState, Next, next_cycle}
-use Rattle.cell_engine.specs.Ring.{Ring, ring_tree}
-use Rattle.cell_engine.specs.Store.{leaf_states}
+use Rattle.ring_cells.specs.Ring.{Ring, ring_tree}
+use Rattle.ring_cells.specs.Store.{leaf_states}
 
 -- the ring, its cells, the end and the limit, and the last instant with the number of its cycles
 pub record Standing : Type 0 where

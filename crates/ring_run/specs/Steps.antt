@@ -3,7 +3,7 @@ use Rattle.std.specs.Prelude.{◌≡◌, ℕ, [], ◌∷◌, ◌++◌, Result, O
 use Rattle.quantity.specs.Bytes.{Bytes}
 use Rattle.run_model.specs.Run.{Cycle, cycled, ended, done, too_many}
 use Rattle.text_forms.specs.Lines.{log_bytes}
-use Rattle.cell_engine.specs.Ring.{Ring, ring_tree}
+use Rattle.ring_cells.specs.Ring.{Ring, ring_tree}
 use Rattle.ring_run.specs.Standing.{Standing, state_of, next_of}
 use Rattle.ring_run.specs.declared.run.Progress.{Progress}
 use Rattle.ring_run.specs.declared.run.Progress.TheVariants.{Cycled, Done}

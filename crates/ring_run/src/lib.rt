@@ -6,5 +6,5 @@ pub mod run;
 #[cfg(test)]
 mod tests;
 
-pub use cell_engine::Steps;
+pub use ring_cells::Steps;
 pub use run::{Progress, RingRun, Stop};

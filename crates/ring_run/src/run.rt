@@ -4,14 +4,14 @@ ghost use Rattle.std.specs.List.{range_with_len};
 ghost use Rattle.atomic_face.specs.Classes.{is_at};
 ghost use Rattle.run_model.specs.CellStep.{cell_emitted};
 ghost use Rattle.run_model.specs.Run.{start};
-ghost use Rattle.cell_engine.specs.Ring.{ring_tree};
-ghost use Rattle.cell_engine.specs.Beside as beside;
-ghost use Rattle.cell_engine.specs.Store.{cell_of, cell_at, with_cell, leaf_states, IsRingStore, Store};
+ghost use Rattle.ring_cells.specs.Ring.{ring_tree};
+ghost use Rattle.ring_cells.specs.Beside as beside;
+ghost use Rattle.ring_cells.specs.Store.{cell_of, cell_at, with_cell, leaf_states, IsRingStore, Store};
 ghost use Rattle.ring_run.specs.RingCycle.{is_due, cell_lines, first_lines, moved_cell, cells_after, KeepsRing};
 ghost use Rattle.ring_run.specs.RingCycle as ring;
 
 use crate::lines::push_line;
-use cell_engine::{CellStore, PlainGroup, Steps as Visits};
+use ring_cells::{CellStore, PlainGroup, Steps as Visits};
 use quantity::{Name, OutOfMemory, Time, Value};
 use std::alloc::{AllocError, Global};
 use std::marker::Model;
@@ -219,7 +219,7 @@ impl Model for RingRun {
 
 impl RingRun {
     ghost use Rattle.std.specs.Prelude.{Some, None, Ok};
-    ghost use Rattle.cell_engine.specs.Store.{are_short, ends_always};
+    ghost use Rattle.ring_cells.specs.Store.{are_short, ends_always};
     ghost use Rattle.ring_run.specs.Standing.{Standing, state_of};
     ghost use Rattle.ring_run.specs.Steps.{Steps};
     ghost use Rattle.ring_run.specs.Holds.{ring_from};

@@ -1,9 +1,9 @@
 // A ring of three cells, cycle by cycle.
 ghost use Rattle.std.specs.Prelude.{◌≡◌, ◌<◌, ◌≤◌, length, IfOk, IsTrue};
-ghost use Rattle.cell_engine.specs.Store.{are_short, ends_always};
+ghost use Rattle.ring_cells.specs.Store.{are_short, ends_always};
 
 use crate::{Progress, RingRun, Steps};
-use cell_engine::{PlainGroup, PlainRule};
+use ring_cells::{PlainGroup, PlainRule};
 use quantity::{Name, Raw, Time, Value};
 use std::alloc::{AllocError, Global};
 use std::marker::Brand;

@@ -12,7 +12,7 @@ use Rattle.quantity.specs.Digits.{is_between, has_length, number_in}
 use Rattle.quantity.specs.Names.{is_name, is_of_name}
 use Rattle.quantity.specs.Written.{if_written}
 use Rattle.model_tree.specs.Tree.{Word}
-use Rattle.cell_engine.specs.Ring.{Ring}
+use Rattle.ring_cells.specs.Ring.{Ring}
 use Rattle.ring_text.specs.Parts.{RuleParts, RingParts, is_bit, is_count, is_delay, is_rule, is_free_name, are_cells, are_rules, ends_always, is_ring, ring_of_parts}
 use Rattle.ring_text.specs.Text.{condition, section, neighbors, rule_line, ring_lines, ring_text}
 use Rattle.ring_text.specs.Reading.{is_line_feed, is_space, is_filled, ones_in, rule_in, parts_in, if_ring, guessed, ring_in}

@@ -9,8 +9,8 @@ use Rattle.std.specs.Option.{option_map, is_none}
 use Rattle.std.specs.Str.{bytes_eq}
 use Rattle.quantity.specs.Bytes.{Bytes}
 use Rattle.quantity.specs.Written.{if_written}
-use Rattle.cell_engine.specs.Ring.{Ring}
-use Rattle.cell_engine.specs.Store.{is_short, ends_always}
+use Rattle.ring_cells.specs.Ring.{Ring}
+use Rattle.ring_cells.specs.Store.{is_short, ends_always}
 use Rattle.ring_text.specs.Parts.{RuleParts, RingParts, digit, bit_value, is_rule, is_ring, rule_of_parts, ring_of_parts}
 use Rattle.ring_text.specs.Parts as parts
 use Rattle.ring_text.specs.Text.{rule_line, ring_lines, ring_text}

@@ -2,7 +2,7 @@
 use Rattle.std.specs.Prelude.{◌≡◌, ◌++◌, Some, None, [], ◌∷◌, codes, replicate}
 use Rattle.quantity.specs.Bytes.{Bytes}
 use Rattle.rule_tree.specs.Meaning.{whole}
-use Rattle.cell_engine.specs.Ring.{Ring}
+use Rattle.ring_cells.specs.Ring.{Ring}
 use Rattle.ring_text.specs.Reading.{ring_in}
 
 -- a text with these parts as they are written: the group's name, the columns, the digits, the name of the rules, and their lines

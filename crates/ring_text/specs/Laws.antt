@@ -1,7 +1,7 @@
 -- A ring's text is read as its ring, and nothing else is read.
 use Rattle.std.specs.Prelude.{◌≡◌, Some, IsTrue}
 use Rattle.quantity.specs.Bytes.{Bytes}
-use Rattle.cell_engine.specs.Ring.{Ring}
+use Rattle.ring_cells.specs.Ring.{Ring}
 use Rattle.ring_text.specs.Parts.{RingParts, is_ring, ring_of_parts}
 use Rattle.ring_text.specs.Text.{ring_text}
 use Rattle.ring_text.specs.Reading.{ring_in}

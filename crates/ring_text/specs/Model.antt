@@ -1,7 +1,7 @@
 -- A model that was read, as a ring; what its cells need.
 use Rattle.std.specs.Prelude.{◌≤◌, length, IsTrue}
-use Rattle.cell_engine.specs.Ring.{Ring}
-use Rattle.cell_engine.specs.Store.{are_short, ends_always}
+use Rattle.ring_cells.specs.Ring.{Ring}
+use Rattle.ring_cells.specs.Store.{are_short, ends_always}
 use Rattle.ring_text.specs.declared.model.PlainModel.{PlainModel}
 
 abbrev pub ring_of : PlainModel → Ring

@@ -9,8 +9,8 @@ use Rattle.quantity.specs.Digits.{is_between, has_length, are_digits, number_in}
 use Rattle.quantity.specs.Names.{is_name}
 use Rattle.rule_tree.specs.Meaning.{whole}
 use Rattle.model_tree.specs.Tree.{Word}
-use Rattle.cell_engine.specs.declared.plain.PlainRule.{PlainRule}
-use Rattle.cell_engine.specs.Ring.{Ring}
+use Rattle.ring_cells.specs.declared.plain.PlainRule.{PlainRule}
+use Rattle.ring_cells.specs.Ring.{Ring}
 
 -- a rule's line: the digit of its value, the digits of its delay, and the digit for how many ones it wants, or none where it is always true
 pub record RuleParts : Type 0 where

@@ -6,7 +6,7 @@ use Rattle.std.specs.Option.{option_map}
 use Rattle.std.specs.Str.{bytes_eq}
 use Rattle.quantity.specs.Bytes.{Bytes, is_empty}
 use Rattle.quantity.specs.Written.{if_written}
-use Rattle.cell_engine.specs.Ring.{Ring}
+use Rattle.ring_cells.specs.Ring.{Ring}
 use Rattle.ring_text.specs.Parts.{RuleParts, RingParts, is_ring, ring_of_parts}
 use Rattle.ring_text.specs.Text.{ring_text}
 

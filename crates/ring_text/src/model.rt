@@ -7,7 +7,7 @@ ghost use Rattle.ring_text.specs.Shown.{ring_shown, rule_shown};
 
 use crate::check::delay_of;
 use crate::parts::{RingParts, RuleParts};
-use cell_engine::{PlainGroup, PlainRule};
+use ring_cells::{PlainGroup, PlainRule};
 use quantity::{Name, NameRefusal, OutOfMemory, Raw, Time, Value};
 use std::alloc::{AllocError, Global};
 

@@ -2,7 +2,7 @@ use Rattle.std.proofs.Common.{◌≡◌, Err, length, sym, ◌∙◌, ap}
 use Rattle.room_edge.specs.Outside.{streams}
 use Rattle.room_edge.proofs.Adding.{streams-nil}
 use Rattle.run_model.specs.Run.{Run, most_cycles}
-use Rattle.cell_engine.specs.Ring.{ring_tree}
+use Rattle.ring_cells.specs.Ring.{ring_tree}
 use Rattle.text_forms.specs.Lines.{ended}
 use Rattle.answer_model.specs.Headline.{Writes}
 use Rattle.answer_model.specs.RunEnd.{Said, many_line}

@@ -1,7 +1,7 @@
 use Rattle.std.proofs.Common.{◌<◌, [], ◌∷◌, ◌++◌, length, sym, ◌∙◌, ap, arith}
 use Rattle.std.proofs.lemmas.List.{map_more}
 use Rattle.run_model.specs.CellStep.{CellState, cell_emitted}
-use Rattle.cell_engine.specs.Store.{Store, cell_of, no_cell}
+use Rattle.ring_cells.specs.Store.{Store, cell_of, no_cell}
 use Rattle.ring_run.specs.RingCycle.{is_due, cell_lines}
 use Rattle.ring_run.proofs.Looped.{collect_cells, collect_here, piece_more}
 use Rattle.ring_run.proofs.Moves.{kept_by, kept_on}

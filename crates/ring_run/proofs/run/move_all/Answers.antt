@@ -1,5 +1,5 @@
 use Rattle.std.proofs.Common.{◌<◌, length, set, ◌∙◌, ap, arith}
-use Rattle.cell_engine.specs.Store.{Store}
+use Rattle.ring_cells.specs.Store.{Store}
 use Rattle.ring_run.specs.RingCycle.{moved_cell}
 use Rattle.ring_run.proofs.Looped.{move_here, move_cells, move_emitted, moved_same}
 use Rattle.ring_run.proofs.Moves.{kept_by, kept_on}

@@ -1,7 +1,7 @@
 use Rattle.std.proofs.Common.{◌≡◌, ℕ, ◌++◌, map, drop}
 use Rattle.std.specs.List.{range_with_len}
-use Rattle.cell_engine.specs.Beside.{emitted_of}
-use Rattle.cell_engine.specs.Store.{cell_of}
+use Rattle.ring_cells.specs.Beside.{emitted_of}
+use Rattle.ring_cells.specs.Store.{cell_of}
 use Rattle.ring_run.specs.RingCycle.{moved_cell, KeepsRing}
 use Rattle.ring_run.proofs.run.move_all.Given as goal
 

@@ -1,6 +1,6 @@
 use Rattle.std.proofs.Common.{◌≡◌, ◌+◌, ◌<◌, ◌≤◌, ◌++◌, Some, None, refl, sym, ◌∙◌, ap, subst}
 use Rattle.run_model.specs.Run.{ended, done, too_many, cycled}
-use Rattle.cell_engine.specs.Ring.{Ring}
+use Rattle.ring_cells.specs.Ring.{Ring}
 use Rattle.ring_run.specs.RingCycle.{within}
 use Rattle.ring_run.specs.Standing.{Standing, next_of}
 use Rattle.ring_run.specs.Steps.{Cycles}

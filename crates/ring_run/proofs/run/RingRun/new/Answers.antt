@@ -1,6 +1,6 @@
 use Rattle.std.proofs.Common.{map, sym, ◌∙◌, ap}
 use Rattle.run_model.specs.CellStep.{initial_cell}
-use Rattle.cell_engine.specs.Store.{group_of}
+use Rattle.ring_cells.specs.Store.{group_of}
 use Rattle.ring_run.proofs.Starts.{start_is}
 use Rattle.ring_run.proofs.run.RingRun.new.Goals as goal
 
