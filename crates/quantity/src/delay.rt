@@ -1,7 +1,7 @@
 // How results wait.
 
 /// How a result waits for its delay to pass.
-#[derive(Clone, Copy, PartialEq, Eq, Debug)]
+#[derive(Clone, Copy)]
 pub enum DelayKind {
     /// Beside those that wait already, in the place of one of the same time.
     Transport,
