@@ -1,5 +1,5 @@
 -- Values that are gathered one after another.
-use Rattle.std.proofs.Common.{◌≡◌, ℕ, suc, ◌+◌, ◌<◌, Option, Some, None, List, [], ◌∷◌, ◌++◌, map, refl, ap, sym, ◌∙◌, arith, length, nat_eq}
+use Rattle.std.proofs.Common.{◌≡◌, ℕ, suc, ◌<◌, Option, Some, None, List, [], ◌∷◌, ◌++◌, map, refl, ap, sym, ◌∙◌, arith, length, nat_eq}
 use Rattle.std.proofs.lemmas.List.{append-nil, append_assoc, length-append}
 use Rattle.std.proofs.lemmas.Bool.{eq-eqb, ne_eqb}
 use Rattle.std.specs.Option.{option_map, option_and_then}
@@ -52,18 +52,18 @@ module _ {A V : Type 0} (f : A → Option V) (whole : Option (List V)) (front : 
       longer (Some v) (Some vs) = not_as_many (front ++ v ∷ vs) n (λ same. omega (arith, length-append front (v ∷ vs)))
 
 -- as many values as there are options
-pub length-gathered : {V : Type 0} (n : ℕ) (os : List (Option V)) → (length os ≡ n → ⊥) → in_all n (all_there os) ≡ None
-length-gathered {V} n os h = go (all_there os) (λ vs e. size os vs e)
+pub length-all_there : {V : Type 0} (os : List (Option V)) (vs : List V) → all_there os ≡ Some vs → length vs ≡ length os
+length-all_there [] vs e = let k : vs ≡ [] = cc in ap length k
+length-all_there (None ∷ os) vs e = absurd cc
+length-all_there {V} (Some v ∷ os) vs e = at (all_there os) (λ ws f. length-all_there os ws f) e
   where
-    size : (os : List (Option V)) (vs : List V) → all_there os ≡ Some vs → length vs ≡ length os
-    size [] vs e = let k : vs ≡ [] = cc in ap length k
-    size (None ∷ os) vs e = absurd cc
-    size (Some v ∷ os) vs e = at (all_there os) (size os) e
-      where
-        at : (o : Option (List V)) → ((ws : List V) → o ≡ Some ws → length ws ≡ length os) → in_front (Some v) o ≡ Some vs → length vs ≡ suc (length os)
-        at None k e = absurd cc
-        at (Some ws) k e = let is : vs ≡ v ∷ ws = cc in ap length is ∙ ap suc (k ws refl)
+    at : (o : Option (List V)) → ((ws : List V) → o ≡ Some ws → length ws ≡ length os) → in_front (Some v) o ≡ Some vs → length vs ≡ suc (length os)
+    at None k e = absurd cc
+    at (Some ws) k e = let is : vs ≡ v ∷ ws = cc in ap length is ∙ ap suc (k ws refl)
 
+pub length-gathered : {V : Type 0} (n : ℕ) (os : List (Option V)) → (length os ≡ n → ⊥) → in_all n (all_there os) ≡ None
+length-gathered {V} n os h = go (all_there os) (λ vs e. length-all_there os vs e)
+  where
     go : (o : Option (List V)) → ((vs : List V) → o ≡ Some vs → length vs ≡ length os) → in_all n o ≡ None
     go None k = refl
     go (Some vs) k = not_as_many vs n (λ e. h (sym (k vs refl) ∙ e))

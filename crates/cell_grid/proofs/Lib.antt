@@ -7,3 +7,7 @@ pub mod Places
 pub mod Opposites
 pub mod Rising
 pub mod Watching
+pub mod Differences
+pub mod RowTests
+pub mod Fixed
+pub mod Offsets

@@ -70,7 +70,7 @@ chosen : (b : Bool) (m n : ℕ) → cond b (Some m) None ≡ Some n → (b ≡ t
 chosen true m n is = (refl, cc)
 chosen false m n is = cc
 
-below-is : (n to : ℕ) (z : ℤ) → if_below n z ≡ Some to → z ≡ pos to
+pub below-is : (n to : ℕ) (z : ℤ) → if_below n z ≡ Some to → z ≡ pos to
 below-is n to (pos m) is = ap pos (chosen (ltb m n) m to is).1
 below-is n to (negsuc m) is = cc
 
@@ -90,7 +90,7 @@ wrapped-inside : (n to : ℕ) (z : ℤ) → 0 < n → Some (unsigned_abs (int_re
 wrapped-inside n to (pos a) some is = omega (arith, mod_below a n some, some_is (a % n) to is)
 wrapped-inside n to (negsuc a) some is = omega (arith, some_is (n - 1 - a % n) to is)
 
-below-inside : (n to : ℕ) (z : ℤ) → if_below n z ≡ Some to → to < n
+pub below-inside : (n to : ℕ) (z : ℤ) → if_below n z ≡ Some to → to < n
 below-inside n to (pos m) is =
     let at = chosen (ltb m n) m to is in
     omega (arith, ltb-true m n at.0, at.1)
@@ -109,7 +109,7 @@ record MovesTo (s : Space) (x : ℕ) (o : Offset) (p : Place) : Type 0 where
   column : moved s.border s.columns (place_of s x).column o.column ≡ Some p.column
   plane : moved s.border (plane_count s) (place_of s x).plane o.plane ≡ Some p.plane
 
-with_three : (a b c : Option ℕ) (go : ℕ → ℕ → ℕ → ℕ) (i j k : ℕ) → a ≡ Some i → b ≡ Some j → c ≡ Some k
+pub with_three : (a b c : Option ℕ) (go : ℕ → ℕ → ℕ → ℕ) (i j k : ℕ) → a ≡ Some i → b ≡ Some j → c ≡ Some k
     → with_coordinate a (λ i. with_coordinate b (λ j. with_coordinate c (λ k. Some (go i j k)))) ≡ Some (go i j k)
 with_three a b c go i j k first second third = rw (first, second, third) refl
 
@@ -186,7 +186,7 @@ neg-neg z = omega (arith, ints)
 offset : ℤ → ℤ → ℤ → Offset
 offset row column plane = record { row = row; column = column; plane = plane }
 
-same_offset : (o p : Offset) → o.row ≡ p.row → o.column ≡ p.column → o.plane ≡ p.plane → o ≡ p
+pub same_offset : (o p : Offset) → o.row ≡ p.row → o.column ≡ p.column → o.plane ≡ p.plane → o ≡ p
 unfolding offset
 same_offset o p rows columns planes =
     ap (λ z. offset z o.column o.plane) rows ∙ ap (λ z. offset p.row z o.plane) columns ∙ ap (λ z. offset p.row p.column z) planes

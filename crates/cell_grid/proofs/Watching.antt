@@ -73,7 +73,7 @@ none_outside s offsets cell x cell_here outside =
     let here = neighbour-inside s cell x (opposite found.1) cell_here (some-from_is_cell x (watcher s cell found.1) found.4) in
     absurd (omega (arith, here)))
 
-same_members : (s : Space) (offsets : List Offset) (cell x : ℕ) → cell < cell_count s → has (filter_map (watcher s cell) offsets) x ≡ has (watchers s offsets cell) x
+pub same_members : (s : Space) (offsets : List Offset) (cell x : ℕ) → cell < cell_count s → has (filter_map (watcher s cell) offsets) x ≡ has (watchers s offsets cell) x
 same_members s offsets cell x cell_here =
     has-filter_map (watcher s cell) offsets x
     ∙ elim (cases_lt x (cell_count s)) [
@@ -88,7 +88,7 @@ one_item : (m : Option ℕ) → cons_option m [] ≡ option_to_list m
 one_item (Some n) = refl
 one_item None = refl
 
-pub filter_map_more : (h : Offset → Option ℕ) (offsets : List Offset) (i : ℕ) (d : Offset) (m : Option ℕ) → i < length offsets → m ≡ h (get_or offsets i d)
+pub filter_map_more : {X : Type 0} (h : X → Option ℕ) (offsets : List X) (i : ℕ) (d : X) (m : Option ℕ) → i < length offsets → m ≡ h (get_or offsets i d)
     → filter_map h (take i offsets) ++ option_to_list m ≡ filter_map h (take (i + 1) offsets)
 filter_map_more h offsets i d m here is =
     sym (ap (filter_map h) (take_more offsets i d here)

@@ -1,8 +1,9 @@
 // The cells that have a cell as a neighbour.
 ghost use Rattle.std.specs.Prelude.{◌≡◌, ◌<◌, OnOk, OnErr};
-ghost use Rattle.cell_grid.specs.Space.{cell_count, neighbour, opposite, watchers};
+ghost use Rattle.cell_grid.specs.Space.{cell_count, watchers};
 
 use crate::grid::Grid;
+use crate::step::Step;
 use quantity::{Offset, OutOfMemory};
 
 impl Grid {
@@ -21,26 +22,14 @@ impl Grid {
     {
         into.reserve(offsets.len().saturating_sub(into.len()))?;
         into.clear();
+        let place = self.position(cell);
         for offset in offsets {
-            if let Some(watcher) = self.watcher(cell, *offset) {
+            if let Some(watcher) = self.reached(place, Step::back(*offset)) {
                 into.push_reserved(watcher);
             }
         }
         into.sort_unstable();
         into.dedup();
         Ok(())
-    }
-
-    /// The cell that has this cell as its neighbour by the offset.
-    fn watcher(&self, cell: u32, offset: Offset) -> Option<u32>
-        requires { cell < cell_count self.now }
-        ensures { result ≡ neighbour self.now cell (opposite offset) }
-    {
-        self.reached(
-            cell,
-            -i16::from(offset.row),
-            -i16::from(offset.column),
-            -i16::from(offset.plane),
-        )
     }
 }

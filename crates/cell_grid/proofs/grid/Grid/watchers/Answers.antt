@@ -1,3 +1,5 @@
+use Rattle.cell_grid.specs.Steps.{offset_of_step}
+use Rattle.cell_grid.specs.Space.{neighbour_at, place_of}
 use Rattle.std.proofs.Common.{◌≡◌, ℕ, Option, Some, None, append-nil, ◌++◌, ◌∷◌, [], pos, sym, eqb, ap, ◌∙◌, arith}
 use Rattle.std.proofs.lemmas.List.{take_all}
 use Rattle.std.proofs.lemmas.List.Filters.{dedup_is}
@@ -11,9 +13,9 @@ pub loop-offset-preserved : goal.loop-offset-preserved
 loop-offset-preserved c =
     let offsets = c.args.offsets.now in
     let start : Offset = record { row = pos 0; column = pos 0; plane = pos 0 } in
-    let more = λ (m : Option ℕ) (is : c.watcher.result ≡ m).
-    filter_map_more (watcher c.args.self.now c.args.cell) offsets c.loop-offset.offset-index start m c.loop-offset-test.true (sym is ∙ c.watcher.ensures) in
-    elim c.match-watcher.branch [
+    let more = λ (m : Option ℕ) (is : c.reached.result ≡ m).
+    filter_map_more (watcher c.args.self.now c.args.cell) offsets c.loop-offset.offset-index start m c.loop-offset-test.true (sym is ∙ c.reached.ensures.value ∙ ap (λ p. neighbour_at c.args.self.now p (offset_of_step c.back.result)) c.position-place.ensures.value ∙ ap (neighbour_at c.args.self.now (place_of c.args.self.now c.args.cell)) c.back.ensures) in
+    elim c.match-reached.branch [
       | in-Some w ↦ rw w.into-is (record {
         found = w.push_reserved.ensures.items ∙ ap (λ l. l ++ w.in-Some.watcher ∷ []) c.loop-offset.invariant.found ∙ more (Some w.in-Some.watcher) w.in-Some.is;
         few = omega (arith, w.push_reserved.ensures.len);
