@@ -11,20 +11,25 @@ use Rattle.atomic_face.specs.Stocked.{Stocked, TakesFirst}
 use Rattle.atomic_face.specs.Examples.{at}
 use Rattle.atomic_face.specs.TextExamples.{param}
 
+-- a whole number at the port out
 abbrev pub gives : ℕ → Bag
 gives n = (out_port, Num (pos (n * 100000))) ∷ []
 
 -- ---- a generator with a period of 10 ms and a count of 2
 
+-- the settings: from 0 on, the value 1, twice
 abbrev pub twice : List ℤ
 twice = pos 0 ∷ pos 10 ∷ pos 100000 ∷ pos 0 ∷ pos 2 ∷ []
 
+-- the state after the first value
 abbrev pub once_more : List ℤ
 once_more = unwrap_or (moved_state Generator twice (initial_state Generator twice) 0 []) []
 
+-- the state after the second value
 abbrev pub counted_out : List ℤ
 counted_out = unwrap_or (moved_state Generator twice once_more 10 []) []
 
+-- it gives a value at 0 and at 10, and then no more
 pub record GeneratorMoves : Type 0 where
   pub at_the_start : next_of Generator (initial_state Generator twice) ≡ Some 0
   pub first_value : output_of Generator twice (initial_state Generator twice) ≡ gives 1
@@ -35,9 +40,11 @@ pub record GeneratorMoves : Type 0 where
 
 -- ---- a cpu with a delay of 10 ms
 
+-- the state after two values came in at 5
 abbrev pub two_pairs : List ℤ
 two_pairs = unwrap_or (moved_state Cpu (pos 10 ∷ []) [] 5 (at 0 1 ∷ at 0 2 ∷ [])) []
 
+-- both values leave at 15, in the order in which they came
 pub record CpuMoves : Type 0 where
   pub next : next_of Cpu two_pairs ≡ Some 15
   pub in_order : output_of Cpu (pos 10 ∷ []) two_pairs ≡ at 0 1 ∷ at 0 2 ∷ []
@@ -45,6 +52,7 @@ pub record CpuMoves : Type 0 where
 
 -- ---- a counter
 
+-- the state after an input and a reset at 3
 abbrev pub counted : List ℤ
 counted = unwrap_or (moved_state Counter (pos 0 ∷ pos 0 ∷ pos 100000 ∷ []) (initial_state Counter (pos 0 ∷ pos 0 ∷ pos 100000 ∷ [])) 3 (at 0 9 ∷ at 1 9 ∷ [])) []
 
@@ -52,6 +60,7 @@ counted = unwrap_or (moved_state Counter (pos 0 ∷ pos 0 ∷ pos 100000 ∷ [])
 abbrev pub large_steps : List ℤ
 large_steps = pos 0 ∷ pos 0 ∷ pos (6000000000 * 100000) ∷ []
 
+-- a reset sets the count back, and a sum may overflow
 pub record CounterMoves : Type 0 where
   pub next : next_of Counter counted ≡ Some 3
   pub reset : output_of Counter (pos 0 ∷ pos 0 ∷ pos 100000 ∷ []) counted ≡ gives 0
@@ -60,9 +69,11 @@ pub record CounterMoves : Type 0 where
 
 -- ---- a stock of one queue
 
+-- a queue that does not prepare, taken or not
 abbrev pub one_queue : Bool → List Stocked
 one_queue taken = record { box = record { kind = Queue; settings = pos 0 ∷ []; state = pos 0 ∷ negsuc 0 ∷ [] }; taken = taken } ∷ []
 
+-- a stock of one queue gives it once, and has no other class
 pub record OneQueueIsTaken : Type 0 where
   pub no_cpu : TakesFirst Cpu (one_queue false) (one_queue false) (Err UnknownClass)
   pub first : TakesFirst Queue (one_queue false) (one_queue true) (Ok (record { 0 = 0 }))

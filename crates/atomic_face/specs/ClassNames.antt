@@ -10,9 +10,11 @@ use Rattle.atomic_face.specs.declared.class.Class.TheVariants.{Queue, Generator,
 use Rattle.atomic_face.specs.declared.class.PortNo.{PortNo}
 use Rattle.atomic_face.specs.Classes.{out_port}
 
+-- the classes, in the order of their boxes in the stock of the program
 abbrev pub all_classes : List Class
 all_classes = Queue ∷ Generator ∷ Cpu ∷ Counter ∷ Table ∷ []
 
+-- the name by which model files call a class
 abbrev pub class_name : Class → Bytes
 class_name Queue = codes "queue"
 class_name Generator = codes "generator"

@@ -22,22 +22,28 @@ pub record Parameter : Type 0 where
   pub word : Bytes → Option ℤ
   pub default : ℤ
 
+-- the number of a time
 abbrev pub time_word : Bytes → Option ℤ
 time_word text = option_map (λ n. pos n) (time_in text)
 
+-- a number, where it is at least 1
 abbrev pub positive : ℤ → Option ℤ
 positive (pos n) = then_some (nat_le 1 n) (pos n)
 positive (negsuc n) = None
 
+-- the number of a time that is not 0
 abbrev pub period_word : Bytes → Option ℤ
 period_word text = option_and_then positive (time_word text)
 
+-- the number of a value
 abbrev pub value_word : Bytes → Option ℤ
 value_word text = option_map word_of (value_in text)
 
+-- a whole number of at most 9 digits that is not 0
 abbrev pub count_word : Bytes → Option ℤ
 count_word text = option_and_then (λ n. positive (pos n)) (whole_number 9 text)
 
+-- a parameter with these parts
 abbrev pub parameter : Bytes → (Bytes → Option ℤ) → ℤ → Parameter
 parameter key word default = record { key = key; word = word; default = default }
 
@@ -54,6 +60,7 @@ parameters Table = []
 
 -- ---- keys that stand once
 
+-- the keys that stand at most once
 abbrev pub once_keys : Class → List Bytes
 once_keys Table = codes "states" ∷ codes "initial" ∷ []
 once_keys class = map (λ (p : Parameter). p.key) (parameters class)
@@ -69,22 +76,27 @@ abbrev pub setting_of : List Param → Parameter → ℤ
 setting_of ps p =
     unwrap_or (option_and_then (λ (e : Param). p.word e.value) (find (λ (e : Param). bytes_eq e.key p.key) ps)) p.default
 
+-- the settings that parameters give a class
 abbrev pub settings_of : Class → List Param → List ℤ
 settings_of Table ps = table_settings_of ps
 settings_of class ps = map (setting_of ps) (parameters class)
 
 -- ---- lines that are off their form
 
+-- a value of this key that is off its form
 abbrev pub is_off : Parameter → Param → Bool
 is_off p e = bytes_eq e.key p.key && not (is_some (p.word e.value))
 
+-- the lines on which a parameter is off its form
 abbrev pub lines_off_of : List Param → Parameter → List ℕ
 lines_off_of ps p = map (λ (e : Param). e.line) (filter (is_off p) ps)
 
+-- the lines on which any parameter of a class is off its form
 abbrev pub lines_off : Class → List Param → List ℕ
 lines_off Table ps = table_lines_off ps
 lines_off class ps = flat_map (lines_off_of ps) (parameters class)
 
+-- the least of some lines, where there is one
 abbrev pub least_line : List ℕ → Option ℕ
 least_line [] = None
 least_line (n ∷ ns) = Some (unwrap_or (option_map (min n) (least_line ns)) n)

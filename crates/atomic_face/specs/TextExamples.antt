@@ -16,6 +16,7 @@ port n = Some (record { 0 = n })
 abbrev pub param : ℕ → Bytes → Bytes → Param
 param line key value = record { line = line; key = key; value = value }
 
+-- names of classes, and a name of none
 pub record ClassesAreNamed : Type 0 where
   pub queue : class_named (codes "queue") ≡ Some Queue
   pub generator : class_named (codes "generator") ≡ Some Generator
@@ -24,6 +25,7 @@ pub record ClassesAreNamed : Type 0 where
   pub table : class_named (codes "table") ≡ Some Table
   pub other : class_named (codes "server") ≡ None
 
+-- names of ports by class, and names of none
 pub record PortsAreNumbered : Type 0 where
   pub queue_in : port_named Queue (codes "in") ≡ port 0
   pub done : port_named Queue (codes "done") ≡ port 1
@@ -42,6 +44,7 @@ light second =
     param 8 (codes "states") (codes "red green") ∷ second ∷ param 10 (codes "hold") (codes "green 00:00:00:050 2 red")
     ∷ param 11 (codes "take") (codes "green a 9 red") ∷ []
 
+-- the settings of each class, with parameters and without
 pub record ParametersGiveSettings : Type 0 where
   pub queue : settings_of Queue [] ≡ pos 0 ∷ []
   pub generator : settings_of Generator [] ≡ pos 0 ∷ pos 1000 ∷ pos 100000 ∷ pos 0 ∷ negsuc 0 ∷ []
@@ -57,6 +60,7 @@ pub record ParametersGiveSettings : Type 0 where
   pub any_and_last : settings_of Table (param 1 (codes "hold") (codes "idle 0:0:0:1 last idle") ∷ param 2 (codes "take") (codes "idle d any idle") ∷ []) ≡
       pos 1 ∷ pos 0 ∷ pos 1 ∷ pos (10 ^ 16 + 1) ∷ pos 0 ∷ pos 0 ∷ pos 3 ∷ pos (10 ^ 16 + 1) ∷ pos 0 ∷ []
 
+-- the least line off its form, and keys that stand again
 pub record ParametersAreRefused : Type 0 where
   pub period : first_line_off Generator (param 4 (codes "period") (codes "0:0:0:0") ∷ []) ≡ Some 4
   pub count : first_line_off Generator (param 4 (codes "count") (codes "0") ∷ []) ≡ Some 4
@@ -71,6 +75,7 @@ pub record ParametersAreRefused : Type 0 where
   pub twice : are_once Queue (param 3 (codes "preparation") (codes "x") ∷ param 4 (codes "preparation") (codes "y") ∷ []) ≡ false
   pub holds_again : are_once Table (light (param 9 (codes "hold") (codes "red 00:00:00:030 1 green"))) ≡ true
 
+-- numbers that are a state of a class, and numbers that are none
 pub record WordsAreAState : Type 0 where
   pub idle_queue : is_box_state Queue (pos 0 ∷ []) (pos 0 ∷ negsuc 0 ∷ []) ≡ true
   pub idle_with_value : is_box_state Queue (pos 0 ∷ []) (pos 0 ∷ negsuc 0 ∷ pos 100000 ∷ []) ≡ false
