@@ -1,21 +1,25 @@
 -- What a room over the real outside tells: its counts and its names.
-use Rattle.std.specs.Prelude.{ℕ, List, map, Bool, None, Vec, String}
-use Rattle.std.specs.declared.alloc.Global.{Global}
+use Rattle.std.specs.Prelude.{ℕ, List, map, Bool, None}
 use Rattle.std.specs.String.{string_bytes}
 use Rattle.room_edge.specs.Outside.{Outside}
+use Rattle.room_edge.specs.declared.tally.Tally.{Tally}
 
-abbrev pub folder_outside : ℕ → ℕ → ℕ → ℕ → Vec (String Global) Global → List (List ℕ) → Bool → Outside
-folder_outside read_faults write_faults complain_faults misses tried created opened = record {
+abbrev pub tried_names : Tally → List (List ℕ)
+tried_names tally = map string_bytes tally.tried.items
+
+-- of a room with these counts, these created files, and an input that is open or not
+abbrev pub real_outside : Tally → List (List ℕ) → Bool → Outside
+real_outside tally created opened = record {
   files = None;
   made = None;
   shown = None;
   complained = None;
   rest = None;
-  read_faults = read_faults;
-  write_faults = write_faults;
-  complain_faults = complain_faults;
-  misses = misses;
-  tried = map string_bytes tried.items;
+  read_faults = tally.read_faults;
+  write_faults = tally.write_faults;
+  complain_faults = tally.complain_faults;
+  misses = tally.misses;
+  tried = tried_names tally;
   created = created;
   opened = opened;
 }

@@ -1,5 +1,5 @@
 -- What whole reads and writes give.
-use Rattle.std.specs.Prelude.{◌≡◌, ℕ, ◌<◌, ◌≤◌, List, [], ◌∷◌, ◌++◌, ◌⊎◌, length, drop, Option, Some, None, Result, Ok, Err, Vec, IsTrue, ⊤}
+use Rattle.std.specs.Prelude.{◌≡◌, ℕ, ◌+◌, ◌≤◌, List, [], ◌∷◌, ◌++◌, ◌⊎◌, length, drop, Option, Some, None, Result, Ok, Err, Vec, IsTrue, ⊤}
 use Rattle.std.specs.declared.alloc.Global.{Global}
 use Rattle.room_edge.specs.Outside.{Outside, Folder}
 use Rattle.room_edge.specs.Faults.{Rose}
@@ -8,11 +8,11 @@ use Rattle.room_edge.specs.declared.whole.ReadWhole.TheVariants as read
 use Rattle.room_edge.specs.declared.whole.WriteAll.{WriteAll}
 use Rattle.room_edge.specs.declared.whole.WriteAll.TheVariants as write
 
--- what is read of a file of a told folder
+-- what is read of a file of a told folder: of one past the limit just one byte more than that
 abbrev pub IsReadOf : Folder → List ℕ → ℕ → Result (Vec ℕ Global) ReadWhole → Type 0
 IsReadOf files name limit (Ok bytes) = (files name ≡ Some bytes.items) × (length bytes.items ≤ limit)
 IsReadOf files name limit (Err read.Missing) = files name ≡ None
-IsReadOf files name limit (Err (read.TooLong n)) = (bytes : List ℕ) × (files name ≡ Some bytes) × (limit < n) × (n ≤ length bytes)
+IsReadOf files name limit (Err (read.TooLong n)) = (bytes : List ℕ) × (files name ≡ Some bytes) × (n ≡ limit + 1) × (n ≤ length bytes)
 IsReadOf files name limit (Err read.ReadFault) = ⊤
 IsReadOf files name limit (Err read.Memory) = ⊤
 
@@ -47,23 +47,23 @@ Tries (Err (read.TooLong _)) name old new = new ≡ old ++ name ∷ []
 Tries (Err read.Memory) name old new = (new ≡ old) ⊎ (new ≡ old ++ name ∷ [])
 
 -- the misses rise just where the file is missing
-abbrev pub CountsMisses : {T : Type 0} → Result T ReadWhole → ℕ → ℕ → Type 0
-CountsMisses (Ok _) old new = new ≡ old
-CountsMisses (Err read.Missing) old new = Rose old new
-CountsMisses (Err read.ReadFault) old new = new ≡ old
-CountsMisses (Err (read.TooLong _)) old new = new ≡ old
-CountsMisses (Err read.Memory) old new = new ≡ old
+abbrev pub CountsMissOfWhole : {T : Type 0} → Result T ReadWhole → ℕ → ℕ → Type 0
+CountsMissOfWhole (Ok _) old new = new ≡ old
+CountsMissOfWhole (Err read.Missing) old new = Rose old new
+CountsMissOfWhole (Err read.ReadFault) old new = new ≡ old
+CountsMissOfWhole (Err (read.TooLong _)) old new = new ≡ old
+CountsMissOfWhole (Err read.Memory) old new = new ≡ old
 
 -- the faults of reading rise just where the answer is one
-abbrev pub CountsReadFaults : {T : Type 0} → Result T ReadWhole → ℕ → ℕ → Type 0
-CountsReadFaults (Ok _) old new = new ≡ old
-CountsReadFaults (Err read.Missing) old new = new ≡ old
-CountsReadFaults (Err read.ReadFault) old new = Rose old new
-CountsReadFaults (Err (read.TooLong _)) old new = new ≡ old
-CountsReadFaults (Err read.Memory) old new = new ≡ old
+abbrev pub CountsFaultOfWhole : {T : Type 0} → Result T ReadWhole → ℕ → ℕ → Type 0
+CountsFaultOfWhole (Ok _) old new = new ≡ old
+CountsFaultOfWhole (Err read.Missing) old new = new ≡ old
+CountsFaultOfWhole (Err read.ReadFault) old new = Rose old new
+CountsFaultOfWhole (Err (read.TooLong _)) old new = new ≡ old
+CountsFaultOfWhole (Err read.Memory) old new = new ≡ old
 
 -- the faults of writing rise just where the answer is one
-abbrev pub CountsWriteFaults : {T : Type 0} → Result T WriteAll → ℕ → ℕ → Type 0
-CountsWriteFaults (Ok _) old new = new ≡ old
-CountsWriteFaults (Err (write.WriteFault _)) old new = Rose old new
-CountsWriteFaults (Err (write.Memory _)) old new = new ≡ old
+abbrev pub CountsFaultOfAll : {T : Type 0} → Result T WriteAll → ℕ → ℕ → Type 0
+CountsFaultOfAll (Ok _) old new = new ≡ old
+CountsFaultOfAll (Err (write.WriteFault _)) old new = Rose old new
+CountsFaultOfAll (Err (write.Memory _)) old new = new ≡ old

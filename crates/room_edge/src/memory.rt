@@ -11,7 +11,7 @@ use quantity::OutOfMemory;
 use std::alloc::Global;
 
 /// The kinds of calls of a room.
-#[derive(Clone, Copy, Debug, PartialEq, Eq)]
+#[derive(Clone, Copy, PartialEq, Eq)]
 pub enum RoomCall {
     Open,
     Read,
@@ -22,7 +22,7 @@ pub enum RoomCall {
 }
 
 /// How often each call was made.
-#[derive(Clone, Copy, Debug)]
+#[derive(Clone, Copy)]
 struct Calls {
     opens: u64,
     reads: u64,

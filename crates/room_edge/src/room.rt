@@ -6,7 +6,7 @@ ghost use Rattle.room_edge.specs.Calls.{Opens, Reads, Creates, Appends, Shows, C
 use thiserror::Error;
 
 /// Why a file was not opened.
-#[derive(Clone, Copy, Debug, PartialEq, Eq, Error)]
+#[derive(Clone, Copy, Debug, Error)]
 pub enum OpenError {
     /// There is no file of that name.
     #[error("no such file")]
@@ -19,12 +19,12 @@ pub enum OpenError {
 }
 
 /// The input couldn't be read: a fault of reading, which is counted.
-#[derive(Clone, Copy, Debug, PartialEq, Eq, Error)]
+#[derive(Clone, Copy, Debug, Error)]
 #[error("can't be read")]
 pub struct ReadFailed;
 
 /// Why nothing was written.
-#[derive(Clone, Copy, Debug, PartialEq, Eq, Error)]
+#[derive(Clone, Copy, Debug, Error)]
 pub enum WriteError {
     /// It can't be written to: a fault of writing, which is counted.
     #[error("can't be written")]

@@ -1,27 +1,27 @@
 //! Whole files and whole pieces, over any room.
-ghost use Rattle.std.specs.Prelude.{◌≡◌, ℕ, ◌<◌, ◌≤◌, List, [], ◌∷◌, ◌++◌, length, take, Contains, IfOk, IfErr, OnErr, IsErrOf, IfSome};
+ghost use Rattle.std.specs.Prelude.{◌≡◌, ℕ, ◌+◌, ◌<◌, ◌≤◌, length, take, Contains, IfOk, OnErr, IsErrOf, IfSome};
 ghost use Rattle.room_edge.specs.Outside.{OnlyInput, OnlyMade, OnlyShown, OnlyComplained, adds, streams};
-ghost use Rattle.room_edge.specs.Faults.{Rose};
-ghost use Rattle.room_edge.specs.Whole.{IsReadOf, IsLeftOf, KeepsOpen, Tries, CountsMisses, CountsReadFaults, CountsWriteFaults, written};
+ghost use Rattle.room_edge.specs.Faults.{MissCounted, ReadFaultCounted, WriteFaultCounted, ComplaintFaultCounted, KeepsMisses, KeepsReadFaults, KeepsWriteFaults, KeepsComplaintFaults};
+ghost use Rattle.room_edge.specs.Whole.{IsReadOf, IsLeftOf, KeepsOpen, Tries, CountsMissOfWhole, CountsFaultOfWhole, CountsFaultOfAll, written};
 
 use crate::{OpenError, Room, WriteError};
 use std::alloc::{AllocError, Global};
 
 /// Why a file was not read whole.
-#[derive(Clone, Copy, Debug, PartialEq, Eq)]
+#[derive(Clone, Copy)]
 pub enum ReadWhole {
     /// There is no file of that name: a miss, which is counted.
     Missing,
     /// The room failed to open or to read it: a fault of reading, which is counted.
     ReadFault,
-    /// It is longer than the limit: so many of its bytes were taken, more than the limit.
+    /// It is longer than the limit: so many of its bytes were taken, one more than the limit.
     TooLong(u64),
     /// There is no memory for its bytes.
     Memory,
 }
 
 /// Why not all bytes were written. The number tells how many were.
-#[derive(Clone, Copy, Debug, PartialEq, Eq)]
+#[derive(Clone, Copy)]
 pub enum WriteAll {
     /// The room failed to write the next: a fault of writing, which is counted.
     WriteFault(usize),
@@ -43,9 +43,9 @@ fn zeros(alloc: Global, count: usize) -> Result<Vec<u8>, AllocError>
 ///
 /// # Errors
 ///
-/// `Missing` where there is no such file, `TooLong` where it has more bytes than the limit (no
-/// more is read then), `ReadFault` where the room failed, `Memory` where memory ran out, maybe
-/// before the file was looked for.
+/// `Missing` where there is no such file, `TooLong` where it has more bytes than the limit (just
+/// one byte past it is taken), `ReadFault` where the room failed, `Memory` where memory ran out,
+/// maybe before the file was looked for.
 pub fn read_whole<R: Room>(
     alloc: Global,
     room: &mut R,
@@ -55,16 +55,16 @@ pub fn read_whole<R: Room>(
     ensures bytes { IfSome (R.outside room.old).files (λ files. IsReadOf files name.now limit result) }
     ensures left { IfSome (R.outside room.old).files (λ files. IsLeftOf files name.now result (R.outside room.new).rest) }
     ensures short { IfOk result (λ bytes. length bytes.items ≤ limit) }
-    ensures missing { IsErrOf result ReadWhole.Missing → Rose (R.outside room.old).misses (R.outside room.new).misses }
-    ensures fault { IsErrOf result ReadWhole.ReadFault → Rose (R.outside room.old).read_faults (R.outside room.new).read_faults }
-    ensures long { (n : ℕ) → IsErrOf result (ReadWhole.TooLong n) → limit < n }
+    ensures missing { IsErrOf result ReadWhole.Missing → MissCounted (R.outside room.old) (R.outside room.new) }
+    ensures fault { IsErrOf result ReadWhole.ReadFault → ReadFaultCounted (R.outside room.old) (R.outside room.new) }
+    ensures long { (n : ℕ) → IsErrOf result (ReadWhole.TooLong n) → n ≡ limit + 1 }
     ensures tried { Tries result name.now (R.outside room.old).tried (R.outside room.new).tried }
     ensures opened { KeepsOpen result (R.outside room.old) (R.outside room.new) }
 
-    ensures counts_misses { CountsMisses result (R.outside room.old).misses (R.outside room.new).misses }
-    ensures counts_faults { CountsReadFaults result (R.outside room.old).read_faults (R.outside room.new).read_faults }
-    ensures misses { (R.outside room.old).misses ≤ (R.outside room.new).misses }
-    ensures faults { (R.outside room.old).read_faults ≤ (R.outside room.new).read_faults }
+    ensures counts_misses { CountsMissOfWhole result (R.outside room.old).misses (R.outside room.new).misses }
+    ensures counts_faults { CountsFaultOfWhole result (R.outside room.old).read_faults (R.outside room.new).read_faults }
+    ensures misses { KeepsMisses (R.outside room.old) (R.outside room.new) }
+    ensures faults { KeepsReadFaults (R.outside room.old) (R.outside room.new) }
     ensures only { OnlyInput (R.outside room.old) (R.outside room.new) }
 {
     let Ok(mut piece) = zeros(alloc, PIECE) else {
@@ -78,6 +78,7 @@ pub fn read_whole<R: Room>(
     }
     let mut bytes: Vec<u8> = Vec::new(alloc);
     loop {
+        piece.truncate(limit as usize + 1 - bytes.len());
         let Ok(n) = room.read_input(&mut piece) else {
             return Err(ReadWhole::ReadFault);
         };
@@ -104,10 +105,10 @@ pub fn write_all<R: Room>(room: &mut R, name: &str, bytes: &[u8]) -> Result<(), 
     ensures made { (R.outside room.new).made ≡ adds (R.outside room.old).made name.now (take (written result (length bytes.now)) bytes.now) }
     ensures bound { written result (length bytes.now) ≤ length bytes.now }
     ensures short { OnErr result (written result (length bytes.now) < length bytes.now) }
-    ensures fault { (n : ℕ) → IsErrOf result (WriteAll.WriteFault n) → (n < length bytes.now) × Rose (R.outside room.old).write_faults (R.outside room.new).write_faults }
+    ensures fault { (n : ℕ) → IsErrOf result (WriteAll.WriteFault n) → (n < length bytes.now) × WriteFaultCounted (R.outside room.old) (R.outside room.new) }
     ensures created { (R.outside room.new).created ≡ (R.outside room.old).created }
-    ensures counts_faults { CountsWriteFaults result (R.outside room.old).write_faults (R.outside room.new).write_faults }
-    ensures faults { (R.outside room.old).write_faults ≤ (R.outside room.new).write_faults }
+    ensures counts_faults { CountsFaultOfAll result (R.outside room.old).write_faults (R.outside room.new).write_faults }
+    ensures faults { KeepsWriteFaults (R.outside room.old) (R.outside room.new) }
     ensures only { OnlyMade (R.outside room.old) (R.outside room.new) }
 {
     let mut done = 0;
@@ -131,9 +132,9 @@ pub fn show_all<R: Room>(room: &mut R, bytes: &[u8]) -> Result<(), WriteAll>
     ensures shown { (R.outside room.new).shown ≡ streams (R.outside room.old).shown (take (written result (length bytes.now)) bytes.now) }
     ensures bound { written result (length bytes.now) ≤ length bytes.now }
     ensures short { OnErr result (written result (length bytes.now) < length bytes.now) }
-    ensures fault { (n : ℕ) → IsErrOf result (WriteAll.WriteFault n) → (n < length bytes.now) × Rose (R.outside room.old).write_faults (R.outside room.new).write_faults }
-    ensures counts_faults { CountsWriteFaults result (R.outside room.old).write_faults (R.outside room.new).write_faults }
-    ensures faults { (R.outside room.old).write_faults ≤ (R.outside room.new).write_faults }
+    ensures fault { (n : ℕ) → IsErrOf result (WriteAll.WriteFault n) → (n < length bytes.now) × WriteFaultCounted (R.outside room.old) (R.outside room.new) }
+    ensures counts_faults { CountsFaultOfAll result (R.outside room.old).write_faults (R.outside room.new).write_faults }
+    ensures faults { KeepsWriteFaults (R.outside room.old) (R.outside room.new) }
     ensures only { OnlyShown (R.outside room.old) (R.outside room.new) }
 {
     let mut done = 0;
@@ -157,11 +158,11 @@ pub fn complain_all<R: Room>(room: &mut R, bytes: &[u8]) -> Result<(), WriteAll>
     ensures complained { (R.outside room.new).complained ≡ streams (R.outside room.old).complained (take (written result (length bytes.now)) bytes.now) }
     ensures bound { written result (length bytes.now) ≤ length bytes.now }
     ensures short { OnErr result (written result (length bytes.now) < length bytes.now) }
-    ensures fault { (n : ℕ) → IsErrOf result (WriteAll.WriteFault n) → (n < length bytes.now) × Rose (R.outside room.old).write_faults (R.outside room.new).write_faults × Rose (R.outside room.old).complain_faults (R.outside room.new).complain_faults }
-    ensures counts_faults { CountsWriteFaults result (R.outside room.old).write_faults (R.outside room.new).write_faults }
-    ensures counts_complain_faults { CountsWriteFaults result (R.outside room.old).complain_faults (R.outside room.new).complain_faults }
-    ensures faults { (R.outside room.old).write_faults ≤ (R.outside room.new).write_faults }
-    ensures complain_faults { (R.outside room.old).complain_faults ≤ (R.outside room.new).complain_faults }
+    ensures fault { (n : ℕ) → IsErrOf result (WriteAll.WriteFault n) → (n < length bytes.now) × WriteFaultCounted (R.outside room.old) (R.outside room.new) × ComplaintFaultCounted (R.outside room.old) (R.outside room.new) }
+    ensures counts_faults { CountsFaultOfAll result (R.outside room.old).write_faults (R.outside room.new).write_faults }
+    ensures counts_complain_faults { CountsFaultOfAll result (R.outside room.old).complain_faults (R.outside room.new).complain_faults }
+    ensures faults { KeepsWriteFaults (R.outside room.old) (R.outside room.new) }
+    ensures complain_faults { KeepsComplaintFaults (R.outside room.old) (R.outside room.new) }
     ensures only { OnlyComplained (R.outside room.old) (R.outside room.new) }
 {
     let mut done = 0;

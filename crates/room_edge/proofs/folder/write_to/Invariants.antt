@@ -1,6 +1,6 @@
 use Rattle.std.proofs.Common.{◌≡◌, ◌≤◌, length, map}
 use Rattle.std.specs.String.{string_bytes}
-use Rattle.room_edge.proofs.folder.append_to.Given as goal
+use Rattle.room_edge.proofs.folder.write_to.Given as goal
 
 abbrev pub invariant-loop-at : goal.invariant-loop-at
 invariant-loop-at g l = record {

@@ -1,7 +1,7 @@
 use Rattle.std.proofs.Common.{refl, ◌∙◌, ◌-◌, arith}
 use Rattle.std.specs.String.{string_bytes}
 use Rattle.room_edge.proofs.Names.{map-set_same}
-use Rattle.room_edge.proofs.folder.append_to.Goals as goal
+use Rattle.room_edge.proofs.folder.write_to.Goals as goal
 
 pub returns-then-eq-clause-names : goal.returns-then-eq-clause-names
 returns-then-eq-clause-names g c =
