@@ -8,3 +8,5 @@ mod Numbered
 mod OuterBlanks
 mod Steps
 mod Unnumbered
+mod Plain
+mod Rising

@@ -1,6 +1,6 @@
 -- Sections stand on the texts of lines alone, and comments and carriage returns are no part of these.
-use Rattle.std.specs.Prelude.{◌≡◌, ℕ, true, false, List, [], ◌∷◌, ◌++◌, map}
-use Rattle.std.specs.List.{list_any}
+use Rattle.std.specs.Prelude.{◌≡◌, ℕ, ◌<◌, true, false, List, [], ◌∷◌, ◌++◌, map, All, ⊤}
+use Rattle.std.specs.List.{list_any, list_all}
 use Rattle.std.specs.declared.result.Result.{Result}
 use Rattle.std.specs.declared.result.Result.TheVariants.{Ok, Err}
 use Rattle.quantity.specs.Bytes.{Bytes, is_blank, is_byte}
@@ -8,7 +8,7 @@ use Rattle.source_text.specs.Lines.{folded, lines_of, text_of_line, without_retu
 use Rattle.ma_lines.specs.declared.section.Entry.{Entry}
 use Rattle.ma_lines.specs.declared.section.LineRefusal.{LineRefusal}
 use Rattle.ma_lines.specs.declared.section.LineRefusal.TheVariants.{BadLine, DuplicateSection, Memory}
-use Rattle.ma_lines.specs.Sections.{Section, sections_of}
+use Rattle.ma_lines.specs.Sections.{Section, is_allowed, sections_of}
 
 -- files with the same lines have the same sections
 abbrev pub StandsOnLines : Type 0
@@ -73,3 +73,37 @@ StandsOnTexts = (before line other after : Bytes) → list_any (is_byte 10) line
 pub record DropsOuterBlanks : Type 0 where
   pub in_front : (c : ℕ) (line : Bytes) → is_blank c ≡ true → text_of_line (c ∷ line) ≡ text_of_line line
   pub behind : (c : ℕ) (line : Bytes) → is_blank c ≡ true → without_return line ≡ line → text_of_line (line ++ c ∷ []) ≡ text_of_line line
+
+-- ---- bytes and numbers of what is read
+
+-- all bytes are tabs or from 32 to 126
+abbrev pub IsPlain : Bytes → Type 0
+IsPlain text = list_all is_allowed text ≡ true
+
+-- the key and the value are plain
+pub record IsPlainEntry (e : Entry) : Type 0 where
+  pub key : IsPlain e.key
+  pub value : IsPlain e.value
+
+-- the name is plain, and so are all keys and values
+pub record IsPlainSection (s : Section) : Type 0 where
+  pub name : IsPlain s.name
+  pub entries : All IsPlainEntry s.entries
+
+-- all that is read of a file is plain
+abbrev pub ReadsPlainTexts : Type 0
+ReadsPlainTexts = (bytes : Bytes) (sections : List Section) → sections_of bytes ≡ Ok sections → All IsPlainSection sections
+
+-- each number is greater than the one before it, and the first than this one
+abbrev pub RiseAbove : ℕ → List ℕ → Type 0
+RiseAbove n [] = ⊤
+RiseAbove n (m ∷ ms) = (n < m) × RiseAbove m ms
+
+-- the number of a section's line and those of its entries, one section after another
+abbrev pub numbers_in : List Section → List ℕ
+numbers_in [] = []
+numbers_in (s ∷ ss) = s.line ∷ map (λ (e : Entry). e.line) s.entries ++ numbers_in ss
+
+-- the numbers of lines rise, within a section and from section to section
+abbrev pub NumbersRise : Type 0
+NumbersRise = (bytes : Bytes) (sections : List Section) → sections_of bytes ≡ Ok sections → RiseAbove 0 (numbers_in sections)

@@ -1,5 +1,5 @@
 // Calls that name the definitions.
-ghost use Rattle.ma_lines.specs.Laws.{StandsOnLines, StandsOnTexts, DropsReturns, DropsComments, DropsOuterBlanks, FoldsLetters, SkipsEmptyLines};
+ghost use Rattle.ma_lines.specs.Laws.{StandsOnLines, StandsOnTexts, DropsReturns, DropsComments, DropsOuterBlanks, FoldsLetters, SkipsEmptyLines, ReadsPlainTexts, NumbersRise};
 ghost use Rattle.ma_lines.specs.Examples.{SectionsAreRead, LinesAreRefused};
 
 /// Sections and entries are read as these examples say.
@@ -45,4 +45,14 @@ pub fn sections_stand_on_texts()
 /// Blanks at the ends of a line are dropped.
 pub fn outer_blanks_are_dropped()
     ensures { DropsOuterBlanks }
+{}
+
+/// Names, keys and values have only tabs and bytes from 32 to 126.
+pub fn texts_are_plain()
+    ensures { ReadsPlainTexts }
+{}
+
+/// The numbers of the lines of sections and entries rise.
+pub fn numbers_rise()
+    ensures { NumbersRise }
 {}

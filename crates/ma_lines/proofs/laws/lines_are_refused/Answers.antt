@@ -17,4 +17,11 @@ returns c =
       first_counts = refl;
       left_open = refl;
       inside_open = refl;
+      bracket_behind = refl;
+      no_bracket = refl;
+      below_comments = refl;
+      deleted = refl;
+      return_inside = refl;
+      two_returns = refl;
+      twice_behind_an_entry = refl;
     }
