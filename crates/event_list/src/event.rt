@@ -2,7 +2,7 @@
 use quantity::{Time, Value};
 
 /// A value at an input of the whole model: the input by its number, and the time of the value.
-#[derive(Clone, Copy, PartialEq, Eq, Debug)]
+#[derive(Clone, Copy)]
 pub(crate) struct Event {
     pub(crate) time: Time,
     pub(crate) port: u16,
