@@ -12,8 +12,9 @@ use Rattle.rule_tree.specs.Meaning.{Sight, outs, counted, value_at}
 use Rattle.cell_grid.specs.declared.grid.Border.TheVariants.{Wrapped}
 use Rattle.cell_grid.specs.Space.{Space, neighbour}
 use Rattle.model_tree.specs.declared.group.DelayKind.TheVariants.{Transport}
+use Rattle.model_tree.specs.Tree.{Group}
 use Rattle.run_model.specs.CellStep.{PortState, CellState, and_then, and_took, all_treated, cell_moved}
-use Rattle.run_model.specs.Cycle.{cell_state, emitted_in, sight_of}
+use Rattle.run_model.specs.Cycle.{cell_state, emitted_in, seen_of, sight_of}
 use Rattle.ring_cells.specs.declared.plain.PlainRule.{PlainRule}
 use Rattle.ring_cells.specs.Ring.{Ring, beside, ring_group}
 use Rattle.ring_cells.specs.Beside.{left, right, emitted_of, around, ones_at, first_fit, with_rule, computed_cell}
@@ -77,15 +78,15 @@ left_within n k h = grind (arith, nat_tests)
 pub right_within : (n k : ℕ) → k < n → right n k < n
 right_within n k h = grind (arith, nat_tests)
 
-seen_at : (cells : List CellState) (j : ℕ) → j < length cells → emitted_in (map cell_state cells) (Some j) ≡ map (λ (p : PortState). p.emitted) (cell_of cells j).ports
+seen_at : (cells : List CellState) (j : ℕ) → j < length cells → emitted_in (map cell_state cells) j ≡ map (λ (p : PortState). p.emitted) (cell_of cells j).ports
 seen_at [] j h = absurd (omega arith)
 seen_at (c ∷ cs) zero h = refl
 seen_at (c ∷ cs) (suc j) h = seen_at cs j (omega arith)
 
-seen : (cells : List CellState) (o : Option ℕ) (j : ℕ) → o ≡ Some j → j < length cells → value_at (emitted_in (map cell_state cells) (option_map (λ n. 0 + n) o)) 0 ≡ emitted_of (cell_of cells j)
-seen cells o j is h =
-    ap (λ p. value_at (emitted_in (map cell_state cells) (option_map (λ n. 0 + n) p)) 0) is
-    ∙ ap (λ m. value_at (emitted_in (map cell_state cells) (Some m)) 0) (zero-add j)
+seen : (g : Group) (cells : List CellState) (o : Option ℕ) (j : ℕ) → o ≡ Some j → j < length cells → value_at (seen_of (map cell_state cells) g (option_map (λ n. 0 + n) o)) 0 ≡ emitted_of (cell_of cells j)
+seen g cells o j is h =
+    ap (λ p. value_at (seen_of (map cell_state cells) g (option_map (λ n. 0 + n) p)) 0) is
+    ∙ ap (λ m. value_at (emitted_in (map cell_state cells) m) 0) (zero-add j)
     ∙ ap (λ vs. value_at vs 0) (seen_at cells j h)
 
 -- what a cell of a ring sees
@@ -96,9 +97,9 @@ pub outs_are : (t : ℕ) (r : Ring) (cells : List CellState) (k : ℕ) → lengt
 outs_are t r cells k same h =
     let n = length r.values in
     let within : k < n = omega arith in
-    let le = seen cells (neighbour (ring_space n) k (beside (negsuc 0))) (left n k) (left_is n k within) (omega (arith, left_within n k within)) in
-    let he = seen cells (neighbour (ring_space n) k (beside (pos 0))) k (here_is n k within) h in
-    let re = seen cells (neighbour (ring_space n) k (beside (pos 1))) (right n k) (right_is n k within) (omega (arith, right_within n k within)) in
+    let le = seen (ring_group r) cells (neighbour (ring_space n) k (beside (negsuc 0))) (left n k) (left_is n k within) (omega (arith, left_within n k within)) in
+    let he = seen (ring_group r) cells (neighbour (ring_space n) k (beside (pos 0))) k (here_is n k within) h in
+    let re = seen (ring_group r) cells (neighbour (ring_space n) k (beside (pos 1))) (right n k) (right_is n k within) (omega (arith, right_within n k within)) in
     (λ i. le i ∷ he i ∷ re i ∷ []) ∙ ap (λ m. around cells m k) (sym same)
 
 -- the step of a woken cell in the ring's words
