@@ -6,5 +6,5 @@ pub mod Heaps
 pub mod Standing
 pub mod Moved
 pub mod Replayed
-pub mod Linked
+pub mod Links
 pub mod Lines

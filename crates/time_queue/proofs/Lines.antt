@@ -4,12 +4,12 @@ use Rattle.std.specs.Prelude.{IfSome}
 use Rattle.std.specs.List.{sum_by}
 use Rattle.std.proofs.lemmas.List.{length-set, get_or-set_other}
 use Rattle.std.proofs.lemmas.List.Sums.{sum_by_push}
-use Rattle.time_queue.specs.Waiting.{time_of, leaves_at, without, least_of, NoneBefore}
+use Rattle.time_queue.specs.Waiting.{time_of, is_due, leaves_at, least_of}
 use Rattle.time_queue.specs.Lists.{AreLinked, Links, NoneAt, TakesMore, first_time, link_of}
 use Rattle.time_queue.specs.declared.lists.Lists.{Lists}
 use Rattle.time_queue.proofs.Entered.{waits_within}
 use Rattle.time_queue.proofs.Least.{least_reached, least_below, least_is, no_least, none_waits}
-use Rattle.time_queue.proofs.Taken.{fewer_before, leaves_less, ones, without_less}
+use Rattle.time_queue.proofs.Taken.{fewer_before, leaves_less, leaves_none, length_picked, ones, without_less}
 
 pub takes_none : (at : ℕ) (ts : List (Option ℕ)) (xs : List ℕ) → TakesMore at ts ts xs xs
 takes_none at ts xs = record { counted = λ f. refl; stays = refl; same = refl; early = λ early. early }
@@ -69,16 +69,16 @@ module _ (T H B N : ℕ → Option ℕ) (links : Links T H B N None) where
 least_first_at : (l : Lists) (o : Option ℕ) → AreLinked l None → least_of l.firsts ≡ o → least_of l.times.items ≡ o
 least_first_at l None linked is =
     no_least l.times.items (λ leaf t waits.
-      let there = leads _ _ _ _ linked.links (linked.links.rank leaf) leaf t (omega arith) waits in
-      none_waits l.firsts is there.0 t there.1)
+    let there = leads _ _ _ _ linked.links (linked.links.rank leaf) leaf t (omega arith) waits in
+    none_waits l.firsts is there.0 t there.1)
 least_first_at l (Some m) linked is =
     let reached = least_reached l.firsts m is in
     let first = first_waits _ _ _ _ linked.links reached.0 m reached.1 in
     least_is l.times.items reached.0 m first.1 (λ leaf t waits.
-      let there = leads _ _ _ _ linked.links (linked.links.rank leaf) leaf t (omega arith) waits in
-      let below = least_below l.firsts there.0 t there.1 in
-      let same : below.0 ≡ m = cc (below.1, is) in
-      omega (arith, below.2))
+    let there = leads _ _ _ _ linked.links (linked.links.rank leaf) leaf t (omega arith) waits in
+    let below = least_below l.firsts there.0 t there.1 in
+    let same : below.0 ≡ m = cc (below.1, is) in
+    omega (arith, below.2))
 
 -- the least of the first ones is the least of all
 pub least_first : (l : Lists) → AreLinked l None → least_of l.times.items ≡ least_of l.firsts
@@ -92,3 +92,14 @@ next_alike l l' leaf at (Some x) linked waits next times =
     let loose = linked.links.loose_one leaf refl in
     let apart : x ≢ leaf = λ e. cc (forth.0, loose.ahead) in
     ap (λ ts. time_of ts x) times ∙ get_or-set_other l.times.items leaf x None None apart ∙ forth.1.other ∙ sym forth.1.one ∙ waits
+
+-- all leaves of the time are taken, in some order
+pub all_listed : (at : ℕ) (ts ts' : List (Option ℕ)) (xs xs' : List ℕ) → TakesMore at ts ts' xs xs' → NoneAt at ts' → xs ≡ [] → (f : ℕ → ℕ) → sum_by f xs' ≡ sum_by f (leaves_at at ts)
+all_listed at ts ts' xs xs' taken none empty f =
+    let left : sum_by f (leaves_at at ts') ≡ 0 = ap (sum_by f) (leaves_none at ts' none) in
+    let before : sum_by f xs ≡ 0 = ap (sum_by f) empty in
+    omega (arith, taken.counted f)
+
+-- there are no more of them than leaves
+pub leaves_few : (at : ℕ) (ts : List (Option ℕ)) → length (leaves_at at ts) ≤ length ts
+leaves_few at ts = length_picked (λ k. is_due at (time_of ts k)) (length ts)

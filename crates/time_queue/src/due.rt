@@ -1,6 +1,7 @@
 // The leaves of one time are taken out of a queue that shows a leaf of the least time.
 ghost use Rattle.std.specs.Prelude.{◌≡◌, ℕ, ◌+◌, ◌<◌, ◌≤◌, [], ◌∷◌, ◌++◌, false, Option, List, length, IfSome, IfNone, slice_set, if◌then◌else◌, vec_len};
 ghost use Rattle.std.specs.List.{sum_by};
+ghost use Rattle.std.specs.List.Sorted.{IsNonDecreasing};
 ghost use Rattle.std.specs.Vec.{vec_capacity};
 ghost use Rattle.time_queue.specs.Waiting.{time_of, least_of, is_due, undue, leaves_at, without, NoneBefore};
 
@@ -47,10 +48,11 @@ pub fn take_due<Q: DueFirst>(queue: &mut Q, at: Time, into: &mut Vec<u32>)
         return;
     }
     take_leading(queue, at, into);
-    into.sort_unstable();
+    sort(into);
 }
 
-fn some_before<Q: DueFirst>(queue: &Q, at: Time) -> bool
+/// Whether a leaf waits for an earlier time.
+pub fn some_before<Q: DueFirst>(queue: &Q, at: Time) -> bool
     ensures { result ≡ false → NoneBefore at (Q.waiting queue.now) }
 {
     match queue.first() {
@@ -77,8 +79,8 @@ fn take_leading<Q: DueFirst>(queue: &mut Q, at: Time, into: &mut Vec<u32>)
     }
 }
 
-// All leaves are gone through, since they stand anywhere behind those of earlier times.
-fn take_scattered<Q: DueFirst>(queue: &mut Q, at: Time, into: &mut Vec<u32>)
+/// What `TimeQueue::take_all_at` says. All leaves are gone through, since they stand anywhere behind those of earlier times.
+pub fn take_scattered<Q: DueFirst>(queue: &mut Q, at: Time, into: &mut Vec<u32>)
     requires empty { into.old.items ≡ [] }
     requires room { length (Q.waiting queue.old) ≤ vec_capacity into.old }
     ensures taken { into.new.items ≡ leaves_at at (Q.waiting queue.old) }
@@ -101,4 +103,16 @@ fn take_if_due<Q: DueFirst>(queue: &mut Q, at: Time, leaf: u32, into: &mut Vec<u
         queue.remove(leaf);
         into.push_reserved(leaf);
     }
+}
+
+/// Puts numbers into rising order. Those that rise already are only looked at.
+pub fn sort(numbers: &mut Vec<u32>)
+    ensures rising { IsNonDecreasing numbers.new.items }
+    ensures same { (f : ℕ → ℕ) → sum_by f numbers.new.items ≡ sum_by f numbers.old.items }
+    ensures capacity { vec_capacity numbers.new ≡ vec_capacity numbers.old }
+{
+    if numbers.is_sorted() {
+        return;
+    }
+    numbers.sort_unstable();
 }

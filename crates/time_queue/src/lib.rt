@@ -4,6 +4,7 @@
 mod due;
 mod entry;
 mod heap;
+mod linked;
 mod lists;
 mod moves;
 mod queue;
@@ -11,6 +12,7 @@ mod ranks;
 mod sorted;
 
 pub use heap::HeapQueue;
+pub use linked::LinkedQueue;
 pub use moves::{Move, Reply, replay};
 pub use queue::TimeQueue;
 pub use sorted::SortedQueue;

@@ -1,8 +1,8 @@
-use Rattle.std.proofs.Common.{◌<◌, Some, length, sym, ◌∙◌, arith}
+use Rattle.std.proofs.Common.{Some, sym, ◌∙◌, arith}
 use Rattle.std.proofs.lemmas.List.{length-set}
 use Rattle.time_queue.specs.Lists.{link_of}
 use Rattle.time_queue.proofs.Entered.{waits_within}
-use Rattle.time_queue.proofs.Linked.{appended, changed_set}
+use Rattle.time_queue.proofs.Links.{appended, changed_set}
 use Rattle.time_queue.proofs.lists.Lists.append.Goals as goal
 
 pub returns-clause-linked : goal.returns-clause-linked

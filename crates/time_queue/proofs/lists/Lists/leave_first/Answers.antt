@@ -1,8 +1,8 @@
-use Rattle.std.proofs.Common.{◌≡◌, ◌≢◌, ◌<◌, Some, None, length, refl, sym, ◌∙◌, ap, arith}
+use Rattle.std.proofs.Common.{◌≡◌, ◌≢◌, Some, None, length, refl, sym, ◌∙◌, ap, arith}
 use Rattle.std.proofs.lemmas.List.{length-set, get_or-set_other}
 use Rattle.time_queue.specs.Lists.{link_of}
 use Rattle.time_queue.proofs.Entered.{waits_within}
-use Rattle.time_queue.proofs.Linked.{loosened, settled, changed_set}
+use Rattle.time_queue.proofs.Links.{loosened, settled, changed_set}
 use Rattle.time_queue.proofs.lists.Lists.leave_first.Goals as goal
 
 pub release-requires : goal.release-requires

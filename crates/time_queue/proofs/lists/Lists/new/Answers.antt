@@ -1,7 +1,7 @@
 use Rattle.std.proofs.Common.{◌≡◌, ℕ, Option, None, length, replicate, sym, ◌∙◌, ap, arith, rules}
 use Rattle.std.proofs.lemmas.List.{length-replicate}
 use Rattle.time_queue.specs.Lists.{link_of}
-use Rattle.time_queue.proofs.Linked.{nothing_linked, no_link}
+use Rattle.time_queue.proofs.Links.{nothing_linked, no_link}
 use Rattle.time_queue.proofs.lists.Lists.new.Goals as goal
 
 pub returns-clause-linked : goal.returns-clause-linked

@@ -2,7 +2,7 @@ use Rattle.std.proofs.Common.{◌≡◌, ◌<◌, Some, None, length, refl, sym,
 use Rattle.std.proofs.lemmas.List.{length-set, get_or_read}
 use Rattle.time_queue.specs.Lists.{link_of}
 use Rattle.time_queue.proofs.Entered.{waits_within}
-use Rattle.time_queue.proofs.Linked.{released_last, released_next, changed_set}
+use Rattle.time_queue.proofs.Links.{released_last, released_next, changed_set}
 use Rattle.time_queue.proofs.lists.Lists.release.Goals as goal
 
 pub index_mut-requires : goal.index_mut-requires

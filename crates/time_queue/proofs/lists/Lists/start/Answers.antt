@@ -1,7 +1,7 @@
-use Rattle.std.proofs.Common.{Some, length, set, sym, ◌∙◌, ap, arith}
+use Rattle.std.proofs.Common.{Some, length, sym, ◌∙◌, ap, arith}
 use Rattle.std.proofs.lemmas.List.{length-set}
 use Rattle.time_queue.specs.Lists.{link_of}
-use Rattle.time_queue.proofs.Linked.{started, settled, changed_set}
+use Rattle.time_queue.proofs.Links.{started, settled, changed_set}
 use Rattle.time_queue.proofs.lists.Lists.start.Goals as goal
 
 pub returns-clause-linked : goal.returns-clause-linked

@@ -3,7 +3,7 @@ use Rattle.std.proofs.lemmas.List.{length-set}
 use Rattle.time_queue.specs.Lists.{link_of}
 use Rattle.time_queue.proofs.Entered.{waits_within}
 use Rattle.time_queue.proofs.Lines.{as_many, first_waits}
-use Rattle.time_queue.proofs.Linked.{loosened, changed_set}
+use Rattle.time_queue.proofs.Links.{loosened, changed_set}
 use Rattle.time_queue.proofs.lists.Lists.take_list.Goals as goal
 
 pub take_loose-next-requires-clause-linked : goal.take_loose-next-requires-clause-linked

@@ -2,7 +2,7 @@ use Rattle.std.proofs.Common.{◌≡◌, ◌<◌, Some, None, length, sym, ◌�
 use Rattle.std.proofs.lemmas.List.{length-set, get_or_read}
 use Rattle.time_queue.specs.Lists.{link_of}
 use Rattle.time_queue.proofs.Entered.{waits_within}
-use Rattle.time_queue.proofs.Linked.{unlinked_last, unlinked_next, changed_set}
+use Rattle.time_queue.proofs.Links.{unlinked_last, unlinked_next, changed_set}
 use Rattle.time_queue.proofs.lists.Lists.unlink.Goals as goal
 
 pub index_mut-requires-in_default : goal.index_mut-requires-in_default

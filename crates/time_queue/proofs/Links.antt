@@ -1,5 +1,5 @@
 -- What a change of the links makes of the lists.
-use Rattle.std.proofs.Common.{◌≡◌, ◌≢◌, ℕ, zero, suc, ◌+◌, ◌<◌, replicate, Option, Some, None, List, length, get_or, set, cond, eqb, refl, sym, ap, ◌∙◌, subst, arith, ⊎_elim}
+use Rattle.std.proofs.Common.{◌≡◌, ◌≢◌, ℕ, zero, suc, ◌+◌, ◌<◌, replicate, Option, Some, None, List, length, set, cond, eqb, refl, sym, ap, ◌∙◌, subst, arith, ⊎_elim}
 use Rattle.std.proofs.lemmas.Bool.{cases_eq}
 use Rattle.std.proofs.lemmas.Bool.Decides.{nat_tests}
 use Rattle.std.proofs.lemmas.List.{get_or-set_same, get_or-set_other}
@@ -51,11 +51,11 @@ module _ (T H B N : ℕ → Option ℕ) where
         firsts = λ z ne. let other : z ≢ x = λ e. ne (ap Some (sym e)) in
             links.firsts z (nothing_loose z) ∙ ap (first_time (B z)) (sym (change.rest z other));
         loose_one = λ z e. let one : IsLoose T' H B x = record {
-              unseen = links.firsts x (nothing_loose x) ∙ (λ i. first_time (ahead i) (idle i));
-              ahead = ahead;
-              at = at;
-              waits = change.here;
-            } in
+          unseen = links.firsts x (nothing_loose x) ∙ (λ i. first_time (ahead i) (idle i));
+          ahead = ahead;
+          at = at;
+          waits = change.here;
+        } in
             subst (IsLoose T' H B) (some_same e) one;
         forth = λ z y is.
             let there = links.forth z y is in
@@ -131,11 +131,11 @@ module _ (T H B N : ℕ → Option ℕ) where
             (λ ne'. links.firsts z (not_loose x z ne') ∙ (λ i. first_time (sym (befores.rest z other) i) (sym (times.rest z ne') i)))
             (cases_eq z x);
         loose_one = λ z e. let one : IsLoose T' H B' n = record {
-              unseen = links.firsts n (not_loose x n apart) ∙ (λ i. first_time (first.0 i) (T n));
-              ahead = befores.here;
-              at = first.1.at;
-              waits = times.rest n apart ∙ first.1.other;
-            } in
+          unseen = links.firsts n (not_loose x n apart) ∙ (λ i. first_time (first.0 i) (T n));
+          ahead = befores.here;
+          at = first.1.at;
+          waits = times.rest n apart ∙ first.1.other;
+        } in
             subst (IsLoose T' H B') (some_same e) one;
         forth = λ z y is'.
             let z_not : z ≢ x = λ e. cc (is', afters.here) in
