@@ -6,3 +6,6 @@ mod set;
 
 pub use flags::FlagSet;
 pub use set::LeafSet;
+
+#[cfg(test)]
+mod tests;
