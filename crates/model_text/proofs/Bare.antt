@@ -14,7 +14,7 @@ use Rattle.model_text.specs.Walk.{top, is_group, children_of, section_of}
 use Rattle.model_text.specs.Stock.{class_of_item}
 use Rattle.model_text.specs.Links.{links_of}
 use Rattle.model_text.specs.Trees.{group_of, atomic_of, trees, component_of, first_tree, tree_at, tree_of, no_files}
-use Rattle.model_text.proofs.Parts.{child}
+use Rattle.model_text.specs.BuildLaws.{component_at}
 
 abbrev mutual
   pub bare : Tree → Tree
@@ -44,7 +44,7 @@ same_outs (cells g) = refl
 same_outs (atomic name class settings) = refl
 
 mutual
-  same_leaves : (t : Tree) → leaf_count (bare t) ≡ leaf_count t
+  pub same_leaves : (t : Tree) → leaf_count (bare t) ≡ leaf_count t
   same_leaves (coupled name ins outs children links) = all_same_leaves children
   same_leaves (cells g) = refl
   same_leaves (atomic name class settings) = refl
@@ -54,7 +54,7 @@ mutual
   all_same_leaves (cons t ts) = ap (λ n. n + leaf_counts (all_bare ts)) (same_leaves t) ∙ ap (λ n. leaf_count t + n) (all_same_leaves ts)
 
 mutual
-  same_out : (t : Tree) (first : ℕ) (give : ℕ → List Source) (port : Word) → given_out (bare t) first give port ≡ given_out t first give port
+  pub same_out : (t : Tree) (first : ℕ) (give : ℕ → List Source) (port : Word) → given_out (bare t) first give port ≡ given_out t first give port
   same_out (coupled name ins outs children links) first give port =
       ap (λ by. brought links (is_own port) nothing by nothing) (λ k p c. same_by children first give p c k)
   same_out (cells g) first give port = refl
@@ -69,7 +69,7 @@ mutual
       ∙ ap (λ xs. cond (bytes_eq (name_of t) name) (given_out t first give port) xs) (same_by ts (first + leaf_count t) give port name)
 
 mutual
-  same_in : (t : Tree) (first : ℕ) (give : ℕ → List Source) (own : Word → List Source) → taken_in (bare t) first give own ≡ taken_in t first give own
+  pub same_in : (t : Tree) (first : ℕ) (give : ℕ → List Source) (own : Word → List Source) → taken_in (bare t) first give own ≡ taken_in t first give own
   same_in (coupled name ins outs children links) first give own =
       all_same_in children first give (λ child port. brought links (is_child port child) own (given_by (all_bare children) first give) nothing)
       ∙ ap (λ by. all_taken_in children first give (λ child port. brought links (is_child port child) own by nothing)) (λ k p c. same_by children first give p c k)
@@ -84,10 +84,10 @@ mutual
       ∙ ap (λ n. taken_in t first give (own (name_of t)) ++ all_taken_in (all_bare ts) (first + n) give own) (same_leaves t)
       ∙ ap (λ xs. taken_in t first give (own (name_of t)) ++ xs) (all_same_in ts (first + leaf_count t) give own)
 
-abbrev leaf_gives : ℕ → List Source
+abbrev pub leaf_gives : ℕ → List Source
 leaf_gives n = leaf_source n ∷ []
 
-abbrev top_gives : Word → List Source
+abbrev pub top_gives : Word → List Source
 top_gives p = top_source p ∷ []
 
 -- ---- paths
@@ -114,20 +114,20 @@ same_bare : (n : ℕ) (files : Files) (ss : List Section) (s : Section) → map 
 same_bare zero files ss s = refl
 same_bare (suc n) files ss s = go (is_group s) (same_child (same_bare n files ss))
   where
-    same_child : ((t : Section) → map bare (component_of n files ss t) ≡ map bare (component_of n no_files ss t)) → (i : Item) → map bare (child n files ss i) ≡ map bare (child n no_files ss i)
+    same_child : ((t : Section) → map bare (component_of n files ss t) ≡ map bare (component_of n no_files ss t)) → (i : Item) → map bare (component_at n files ss i) ≡ map bare (component_at n no_files ss i)
     same_child later i = by_section (section_of ss i)
       where
         by_section : (o : Option Section) → map bare (elim o [ None ↦ atomic_of ss i (class_of_item i) | Some u ↦ component_of n files ss u ]) ≡ map bare (elim o [ None ↦ atomic_of ss i (class_of_item i) | Some u ↦ component_of n no_files ss u ])
         by_section None = refl
         by_section (Some t) = later t
 
-    go : (b : Bool) → ((i : Item) → map bare (child n files ss i) ≡ map bare (child n no_files ss i))
-        → map bare (cond b (cells (group_of files ss s)) (coupled s.name (texts_of (codes "in") s) (texts_of (codes "out") s) (trees (flat_map (child n files ss) (children_of s))) (links_of s)) ∷ [])
-        ≡ map bare (cond b (cells (group_of no_files ss s)) (coupled s.name (texts_of (codes "in") s) (texts_of (codes "out") s) (trees (flat_map (child n no_files ss) (children_of s))) (links_of s)) ∷ [])
+    go : (b : Bool) → ((i : Item) → map bare (component_at n files ss i) ≡ map bare (component_at n no_files ss i))
+        → map bare (cond b (cells (group_of files ss s)) (coupled s.name (texts_of (codes "in") s) (texts_of (codes "out") s) (trees (flat_map (component_at n files ss) (children_of s))) (links_of s)) ∷ [])
+        ≡ map bare (cond b (cells (group_of no_files ss s)) (coupled s.name (texts_of (codes "in") s) (texts_of (codes "out") s) (trees (flat_map (component_at n no_files ss) (children_of s))) (links_of s)) ∷ [])
     go true later = refl
     go false later =
         ap (λ us. let x : List Tree = coupled s.name (texts_of (codes "in") s) (texts_of (codes "out") s) us (links_of s) ∷ [] in x)
-        (bare_trees (flat_map (child n files ss) (children_of s)) ∙ ap trees (bare_of_all (child n files ss) (child n no_files ss) later (children_of s)) ∙ sym (bare_trees (flat_map (child n no_files ss) (children_of s))))
+        (bare_trees (flat_map (component_at n files ss) (children_of s)) ∙ ap trees (bare_of_all (component_at n files ss) (component_at n no_files ss) later (children_of s)) ∙ sym (bare_trees (flat_map (component_at n no_files ss) (children_of s))))
 
 first_bare : (ts us : List Tree) → map bare ts ≡ map bare us → bare (first_tree ts) ≡ bare (first_tree us)
 first_bare ts us e = under ts ∙ ap first_tree e ∙ sym (under us)

@@ -56,14 +56,14 @@ has_form table key p known (x ∷ es) h v e =
 
 -- ---- keys that stand once
 
-or_right : (a b : Bool) → b ≡ true → (a || b) ≡ true
+pub or_right : (a b : Bool) → b ≡ true → (a || b) ≡ true
 or_right true b e = refl
 or_right false b e = e
 
-or_left : (a b : Bool) → a ≡ true → (a || b) ≡ true
+pub or_left : (a b : Bool) → a ≡ true → (a || b) ≡ true
 or_left a b e = ap (λ c. c || b) e
 
-not_again : (once before : List Bytes) (e : Entry) (es : List Entry) → again once before (e ∷ es) ≡ [] → (is_among once e.key && is_among before e.key ≡ false) × (again once (e.key ∷ before) es ≡ [])
+pub not_again : (once before : List Bytes) (e : Entry) (es : List Entry) → again once before (e ∷ es) ≡ [] → (is_among once e.key && is_among before e.key ≡ false) × (again once (e.key ∷ before) es ≡ [])
 not_again once before e es h =
     let p = both_empty (cond (is_among once e.key && is_among before e.key) (refusal e.line DuplicateKey ∷ []) []) (again once (e.key ∷ before) es) h in
     (go (is_among once e.key && is_among before e.key) p.0, p.1)
@@ -72,7 +72,7 @@ not_again once before e es h =
     go true f = absurd (cons_nil f)
     go false f = refl
 
-both_stand : (once before : List Bytes) (k key : Bytes) → k ≡ key → is_among once key ≡ true → is_among before key ≡ true → (is_among once k && is_among before k) ≡ false → ⊥
+pub both_stand : (once before : List Bytes) (k key : Bytes) → k ≡ key → is_among once key ≡ true → is_among before key ≡ true → (is_among once k && is_among before k) ≡ false → ⊥
 both_stand once before k key same o b f =
     true_false (sym (ap (λ c. c && is_among before key) o ∙ b) ∙ subst (λ x. (is_among once x && is_among before x) ≡ false) same f)
 

@@ -18,3 +18,7 @@ mod Top
 mod Totals
 mod Bare
 mod Whole
+mod Stays
+mod Held
+mod Once
+mod Made

@@ -25,17 +25,12 @@ use Rattle.model_text.specs.Stock.{class_of_item, params_of}
 use Rattle.model_text.specs.Links as L
 use Rattle.model_text.specs.Links.{links_of, child_named, ports_in, inputs_of_class, face_of}
 use Rattle.model_text.specs.Trees.{group_of, atomic_of, trees, component_of, first_tree}
+use Rattle.model_text.specs.Met.{RightSection, RightItem, Met}
+use Rattle.model_text.specs.BuildLaws.{component_at, tree_at_item}
 use Rattle.model_text.proofs.Basics.{some_none, none_some, true_false, both_none, both_true, if_none}
 use Rattle.model_text.proofs.Keys.{some_same, same_bytes}
-use Rattle.model_text.proofs.Steps.{RightSection, RightItem, Met}
 
 -- ---- the tree of an item
-
-abbrev pub child : ℕ → Files → List Section → Item → List Tree
-child n files ss i = elim (section_of ss i) [ None ↦ atomic_of ss i (class_of_item i) | Some t ↦ component_of n files ss t ]
-
-abbrev pub tree_at_item : ℕ → Files → List Section → Item → Tree
-tree_at_item n files ss i = first_tree (child n files ss i)
 
 -- a component of a section stands alone, with the name and ports of the section, and is sound
 pub record Component (n : ℕ) (files : Files) (ss : List Section) (s : Section) : Type 0 where
@@ -46,7 +41,7 @@ pub record Component (n : ℕ) (files : Files) (ss : List Section) (s : Section)
   pub sound : is_sound_part (first_tree (component_of n files ss s)) ≡ true
 
 pub record ItemTree (n : ℕ) (files : Files) (ss : List Section) (i : Item) : Type 0 where
-  pub one : child n files ss i ≡ tree_at_item n files ss i ∷ []
+  pub one : component_at n files ss i ≡ tree_at_item n files ss i ∷ []
   pub name : T.name_of (tree_at_item n files ss i) ≡ name_of i
   pub ins : F.inputs_of (Some (tree_at_item n files ss i)) ≡ L.inputs_of ss (Some i)
   pub outs : F.outputs_of (Some (tree_at_item n files ss i)) ≡ L.outputs_of ss (Some i)
@@ -70,7 +65,7 @@ behind ss i t e = go (is_atomic i) e
 
 item_of_section : (n : ℕ) (files : Files) (ss : List Section) (i : Item) (t : Section) → section_of ss i ≡ Some t → Component n files ss t → ItemTree n files ss i
 item_of_section n files ss i t e c =
-    let same : child n files ss i ≡ component_of n files ss t = ap (λ (o : Option Section). let x : List Tree = elim o [ None ↦ atomic_of ss i (class_of_item i) | Some u ↦ component_of n files ss u ] in x) e in
+    let same : component_at n files ss i ≡ component_of n files ss t = ap (λ (o : Option Section). let x : List Tree = elim o [ None ↦ atomic_of ss i (class_of_item i) | Some u ↦ component_of n files ss u ] in x) e in
     let bare = behind ss i t e in
     record {
       one = subst (λ ts. ts ≡ first_tree ts ∷ []) (sym same) c.one;
@@ -90,7 +85,7 @@ item_of_class n files ss i e a c = go (class_of_item i) refl c
     go None same there = absurd (true_false (sym there))
     go (Some class) same there =
         let made : Tree = atomic (name_of i) class (settings_of class (params_of ss i)) in
-        let alone : child n files ss i ≡ made ∷ [] = ap (λ (o : Option Section). let x : List Tree = elim o [ None ↦ atomic_of ss i (class_of_item i) | Some u ↦ component_of n files ss u ] in x) e ∙ ap (atomic_of ss i) same in
+        let alone : component_at n files ss i ≡ made ∷ [] = ap (λ (o : Option Section). let x : List Tree = elim o [ None ↦ atomic_of ss i (class_of_item i) | Some u ↦ component_of n files ss u ] in x) e ∙ ap (atomic_of ss i) same in
         record {
           one = subst (λ ts. ts ≡ first_tree ts ∷ []) (sym alone) refl;
           name = subst (λ ts. T.name_of (first_tree ts) ≡ name_of i) (sym alone) refl;
@@ -104,10 +99,10 @@ item_of_class n files ss i e a c = go (class_of_item i) refl c
 abbrev pub ItemTrees : ℕ → Files → List Section → List Item → Type 0
 ItemTrees n files ss is = AllByRecursion (ItemTree n files ss) is
 
-pub alone : (n : ℕ) (files : Files) (ss : List Section) (is : List Item) → ItemTrees n files ss is → flat_map (child n files ss) is ≡ map (tree_at_item n files ss) is
+pub alone : (n : ℕ) (files : Files) (ss : List Section) (is : List Item) → ItemTrees n files ss is → flat_map (component_at n files ss) is ≡ map (tree_at_item n files ss) is
 alone n files ss [] h = refl
 alone n files ss (i ∷ is) h =
-    ap (λ ts. ts ++ flat_map (child n files ss) is) h.0.one ∙ ap (λ ts. tree_at_item n files ss i ∷ ts) (alone n files ss is h.1)
+    ap (λ ts. ts ++ flat_map (component_at n files ss) is) h.0.one ∙ ap (λ ts. tree_at_item n files ss i ∷ ts) (alone n files ss is h.1)
 
 children_sound : (n : ℕ) (files : Files) (ss : List Section) (is : List Item) → ItemTrees n files ss is → are_sound_parts (trees (map (tree_at_item n files ss) is)) ≡ true
 children_sound n files ss [] h = refl
@@ -248,12 +243,12 @@ item_trees n files ss walks around (i ∷ is) h =
 
 pub made_group : (n : ℕ) (files : Files) (ss : List Section) (s : Section) → is_group s ≡ true → component_of (suc n) files ss s ≡ cells (group_of files ss s) ∷ []
 made_group n files ss s g =
-    ap (λ b. let x : List Tree = cond b (cells (group_of files ss s)) (coupled s.name (texts_of (codes "in") s) (texts_of (codes "out") s) (trees (flat_map (child n files ss) (children_of s))) (links_of s)) ∷ [] in x) g
+    ap (λ b. let x : List Tree = cond b (cells (group_of files ss s)) (coupled s.name (texts_of (codes "in") s) (texts_of (codes "out") s) (trees (flat_map (component_at n files ss) (children_of s))) (links_of s)) ∷ [] in x) g
 
 pub made_coupled : (n : ℕ) (files : Files) (ss : List Section) (s : Section) → is_group s ≡ false → ItemTrees n files ss (children_of s)
     → component_of (suc n) files ss s ≡ coupled s.name (texts_of (codes "in") s) (texts_of (codes "out") s) (trees (map (tree_at_item n files ss) (children_of s))) (links_of s) ∷ []
 made_coupled n files ss s g kids =
-    ap (λ b. let x : List Tree = cond b (cells (group_of files ss s)) (coupled s.name (texts_of (codes "in") s) (texts_of (codes "out") s) (trees (flat_map (child n files ss) (children_of s))) (links_of s)) ∷ [] in x) g
+    ap (λ b. let x : List Tree = cond b (cells (group_of files ss s)) (coupled s.name (texts_of (codes "in") s) (texts_of (codes "out") s) (trees (flat_map (component_at n files ss) (children_of s))) (links_of s)) ∷ [] in x) g
     ∙ ap (λ ts. let x : List Tree = coupled s.name (texts_of (codes "in") s) (texts_of (codes "out") s) (trees ts) (links_of s) ∷ [] in x) (alone n files ss (children_of s) kids)
 
 pub components_are_sound : (n : ℕ) (files : Files) (ss : List Section) → Walks n files ss

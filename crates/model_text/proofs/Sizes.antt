@@ -43,10 +43,10 @@ delay_fits s k = go (value_of (codes "defaultdelaytime") s) (has_form (group_for
 
 -- ---- sizes
 
-abbrev AreSizes : List ℤ → Type 0
+abbrev pub AreSizes : List ℤ → Type 0
 AreSizes ns = (has_length 2 3 ns ≡ true) × (list_all (λ n. int_le (pos 1) n) ns ≡ true)
 
-one_or_more : (n : ℤ) → int_le (pos 1) n ≡ true → 1 ≤ unsigned_abs n
+pub one_or_more : (n : ℤ) → int_le (pos 1) n ≡ true → 1 ≤ unsigned_abs n
 one_or_more (pos n) e = search (rules, nat_tests)
 one_or_more (negsuc n) e = absurd (true_false (sym e))
 
@@ -107,7 +107,7 @@ or_else : (a b : Bool) → (a || b) ≡ true → a ≡ false → b ≡ true
 or_else true b e f = absurd (true_false f)
 or_else false b e f = e
 
-are_right : (s : Section) → KeyedGroup s → AreSizes (sizes_of s)
+pub are_right : (s : Section) → KeyedGroup s → AreSizes (sizes_of s)
 are_right s k = go (value_of (codes "dim") s) refl (has_form (group_forms s) (codes "dim") is_dim refl s.entries k.forms)
   where
     two : has_key (codes "height") s ≡ true → has_key (codes "width") s ≡ true → AreSizes (size_of (codes "height") s ∷ size_of (codes "width") s ∷ [])

@@ -23,9 +23,11 @@ use Rattle.model_text.specs.Rules.{of_group_rules}
 use Rattle.model_text.specs.Links.{links_of, face_of}
 use Rattle.model_text.specs.Trees.{group_of}
 use Rattle.model_text.specs.Accepted.{Passed}
+use Rattle.model_text.specs.Met.{RightSection, HasClass, Met}
+use Rattle.model_text.specs.BuildLaws.{PassedLinks}
 use Rattle.model_text.proofs.Basics.{some_none, cons_nil, true_false, both_none, neither, both_empty, each_of_phase, all_imply}
 use Rattle.model_text.proofs.Keys.{same_bytes}
-use Rattle.model_text.proofs.Walked.{Right, item_is_right, mapped_none}
+use Rattle.model_text.proofs.Walked.{item_is_right, mapped_none}
 use Rattle.model_text.proofs.Linked.{links_are_accepted}
 use Rattle.model_text.proofs.GroupKeys.{Keyed, keyed_group, all_keyed}
 use Rattle.model_text.proofs.GroupSound.{group_is_sound}
@@ -37,7 +39,7 @@ or_right : (a b : Bool) → b ≡ true → (a || b) ≡ true
 or_right true b e = refl
 or_right false b e = e
 
-same_as_itself : (t : Bytes) → bytes_eq t t ≡ true
+pub same_as_itself : (t : Bytes) → bytes_eq t t ≡ true
 same_as_itself t = search (rules, bytes_eq-Decides)
 
 not_repeated : (before : List Bytes) (i : Item) (is : List Item) → repeated before (i ∷ is) ≡ [] → (is_among before i.text ≡ false) × (repeated (i.text ∷ before) is ≡ [])
@@ -69,12 +71,6 @@ stand_once before (i ∷ is) h =
 
 -- ---- sections
 
-pub record RightSection (files : Files) (ss : List Section) (s : Section) : Type 0 where
-  pub ins : has_repeat (texts_of (codes "in") s) ≡ false
-  pub outs : has_repeat (texts_of (codes "out") s) ≡ false
-  pub links : are_accepted (face_of ss s) [] (links_of s) ≡ true
-  pub group : is_group s ≡ true → is_sound_group (group_of files ss s) ≡ true
-
 unfiltered : {X : Type 0} (P : X → Type 0) (test : X → Bool) (xs : List X) → AllByRecursion P (filter test xs) → AllByRecursion (λ x. test x ≡ true → P x) xs
 unfiltered P test [] h = tt
 unfiltered {X} P test (x ∷ xs) h = go (λ k. unfiltered P test xs k) (test x) refl h
@@ -95,7 +91,7 @@ right_section files ss s k links group =
       group = λ g. let p = group g in group_is_sound files ss s (keyed_group s g k) p.0 p.1;
     }
 
-sections_right : (files : Files) (classes : List Class) (ss : List Section) → Passed classes ss → AllByRecursion (RightSection files ss) (reached ss)
+sections_right : (files : Files) (classes : List Class) (ss : List Section) → PassedLinks classes ss → AllByRecursion (RightSection files ss) (reached ss)
 sections_right files classes ss p =
     all_imply (λ s q. right_section files ss s q.0 q.1.0 q.1.1) (reached ss)
     (both_of_all Keyed (λ s. (are_accepted (face_of ss s) [] (links_of s) ≡ true) × (is_group s ≡ true → SpaceAndRules ss s)) (reached ss) (all_keyed ss p.keys)
@@ -104,9 +100,6 @@ sections_right files classes ss p =
     (both_of_all (λ s. of_space s ≡ []) (λ s. of_group_rules ss s ≡ []) (groups ss) (each_of_phase of_space (groups ss) p.spaces) (each_of_phase (of_group_rules ss) (groups ss) p.rules)))))
 
 -- ---- classes
-
-abbrev HasClass : Item → Type 0
-HasClass i = is_some (class_of_item i) ≡ true
 
 mapped_line : (line : ℕ) (o : Option Kind) → option_map (refusal line) o ≡ None → o ≡ None
 mapped_line line None e = refl
@@ -128,13 +121,6 @@ have_classes ss classes taken (i ∷ is) e =
 
 -- ---- steps
 
-abbrev pub RightItem : List Section → List Bytes → Item → Type 0
-RightItem ss around i = (before : List Item) × Right ss before around i
-
-abbrev pub Met : Files → List Section → Step → Type 0
-Met files ss (at_section line deep s) = (section_refused line deep s ≡ None) × RightSection files ss s
-Met files ss (at_item around i) = RightItem ss around i × (is_atomic i ≡ true → HasClass i)
-
 all_met : (files : Files) (ss : List Section) (before : List Item) (steps : List Step) → first_step_refused ss before steps ≡ None → AllByRecursion (RightSection files ss) (filter_map section_in steps)
     → AllByRecursion (λ i. is_atomic i ≡ true → HasClass i) (items_in steps) → AllByRecursion (Met files ss) steps
 all_met files ss before [] e rs cs = tt
@@ -145,7 +131,11 @@ all_met files ss before (at_item around i ∷ steps) e rs cs =
     let p = both_none (option_map (refusal i.line) (item_refused ss before around i)) (first_step_refused ss (before ++ i ∷ []) steps) e in
     (((before, item_is_right ss before around i (mapped_none i.line (item_refused ss before around i) p.0)), cs.0), all_met files ss (before ++ i ∷ []) steps p.1 rs cs.1)
 
-pub walk_is_met : (files : Files) (classes : List Class) (ss : List Section) → Passed classes ss → AllByRecursion (Met files ss) (walk ss)
+pub links_passed : (classes : List Class) (ss : List Section) → Passed classes ss → PassedLinks classes ss
+links_passed classes ss p =
+    record { top = p.top; tree = p.tree; keys = p.keys; cells = p.cells; spaces = p.spaces; stock = p.stock; rules = p.rules; links = p.links; link_limit = p.link_limit }
+
+pub walk_is_met : (files : Files) (classes : List Class) (ss : List Section) → PassedLinks classes ss → AllByRecursion (Met files ss) (walk ss)
 walk_is_met files classes ss p =
     all_met files ss [] (walk ss) p.tree (sections_right files classes ss p)
     (unfiltered HasClass is_atomic (items_in (walk ss)) (have_classes ss classes [] (atomics ss) p.stock))

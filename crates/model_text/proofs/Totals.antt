@@ -17,8 +17,9 @@ use Rattle.model_text.specs.Links.{link_of, link_entries, links_of}
 use Rattle.model_text.specs.Trees.{atomic_of, trees, component_of, first_tree}
 use Rattle.model_text.proofs.Basics.{some_none}
 use Rattle.model_text.proofs.GroupSound.{shorter}
-use Rattle.model_text.proofs.Steps.{Met}
-use Rattle.model_text.proofs.Parts.{child, tree_at_item, ItemTrees, AllMet, item_steps, is_below, behind, split_all, item_trees, no_children, made_group, made_coupled, class_there, components_are_sound}
+use Rattle.model_text.specs.Met.{Met}
+use Rattle.model_text.specs.BuildLaws.{component_at, tree_at_item}
+use Rattle.model_text.proofs.Parts.{ItemTrees, AllMet, item_steps, is_below, behind, split_all, item_trees, no_children, made_group, made_coupled, class_there, components_are_sound}
 
 -- ---- counts over steps
 
@@ -90,7 +91,7 @@ count_item n files ss counting around i h = go (section_of ss i) refl
     go None e =
         let steps : item_steps n ss around i ≡ steps_behind n ss around i None = ap (steps_behind n ss around i) (is_below ss around i h.0.0.1.not_around ∙ e) in
         let a = class_there ss around i h.0 e in
-        let alone : child n files ss i ≡ atomic (name_of i) a.1 (settings_of a.1 (params_of ss i)) ∷ [] = ap (trees_behind n files ss i) e ∙ ap (atomic_of ss i) a.2 in
+        let alone : component_at n files ss i ≡ atomic (name_of i) a.1 (settings_of a.1 (params_of ss i)) ∷ [] = ap (trees_behind n files ss i) e ∙ ap (atomic_of ss i) a.2 in
         let one : 1 ≡ cond (is_atomic i) 1 0 + 0 = sym (ap (λ b. cond b 1 0 + 0) a.0) in
         subst (λ xs. Counts n (names_in xs) xs (totals (tree_at_item n files ss i))) (sym steps)
         (subst (λ ts. CountsOf n (steps_behind n ss around i None) ts) (sym alone) (record { names = refl; cells = refl; atomics = one; links = omega arith; depth = omega arith }))
@@ -98,7 +99,7 @@ count_item n files ss counting around i h = go (section_of ss i) refl
         let steps : item_steps n ss around i ≡ steps_behind n ss around i (Some t) = ap (steps_behind n ss around i) (is_below ss around i h.0.0.1.not_around ∙ e) in
         let met : AllMet files ss (steps_behind n ss around i (Some t)) = subst (λ xs. AllMet files ss xs) steps h in
         let c = counting around i.line t met.1 in
-        let alone : child n files ss i ≡ component_of n files ss t = ap (trees_behind n files ss i) e in
+        let alone : component_at n files ss i ≡ component_of n files ss t = ap (trees_behind n files ss i) e in
         let bare = behind ss i t e in
         let none : cond (is_atomic i) 1 0 ≡ 0 = ap (λ b. cond b 1 0) bare.0 in
         subst (λ xs. Counts n (names_in xs) xs (totals (tree_at_item n files ss i))) (sym steps)

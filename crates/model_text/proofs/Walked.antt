@@ -16,18 +16,10 @@ use Rattle.model_text.specs.Refusals.{refusal}
 use Rattle.model_text.specs.Keyed.{Item}
 use Rattle.model_text.specs.Walk.{top, is_item, is_atomic, name_of, section_of, Step, at_section, at_item, items_in, walk, item_refused, section_refused, first_step_refused}
 use Rattle.model_text.specs.Accepted.{ComponentsDiffer, AtomicsFit}
+use Rattle.model_text.specs.Met.{Right}
 use Rattle.model_text.proofs.Basics.{some_none, both_none, both_false, neither, if_none, repeat_last}
 
 -- ---- items
-
--- what an item that isn't refused is
-pub record Right (ss : List Section) (before : List Item) (around : List Bytes) (i : Item) : Type 0 where
-  pub form : not (is_item i) ≡ false
-  pub not_top : bytes_eq (name_of i) top ≡ false
-  pub not_around : is_among around (name_of i) ≡ false
-  pub new : is_among (map name_of before) (name_of i) ≡ false
-  pub fits : (is_atomic i && nat_le 4096 (length (filter is_atomic before))) ≡ false
-  pub found : (not (is_atomic i) && not (is_some (section_of ss i))) ≡ false
 
 pub item_is_right : (ss : List Section) (before : List Item) (around : List Bytes) (i : Item) → item_refused ss before around i ≡ None → Right ss before around i
 item_is_right ss before around i e =

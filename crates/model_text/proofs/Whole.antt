@@ -23,16 +23,18 @@ use Rattle.model_text.specs.Accepted.{Passed, ReadsSoundModels}
 use Rattle.model_text.proofs.Basics.{true_false, both_none, both_false, both_true, if_none}
 use Rattle.model_text.proofs.Phases.{passes_each_phase}
 use Rattle.model_text.proofs.Walked.{components_differ, atomics_fit}
-use Rattle.model_text.proofs.Steps.{Met, walk_is_met}
+use Rattle.model_text.specs.Met.{Met}
+use Rattle.model_text.specs.BuildLaws.{PassedLinks, TotalsAreWithinLimits}
+use Rattle.model_text.proofs.Steps.{links_passed, walk_is_met}
 use Rattle.model_text.proofs.Parts.{find_is}
-use Rattle.model_text.proofs.Top.{no_top_refused, parts_are_sound}
+use Rattle.model_text.proofs.Top.{no_top_refused, parts_sound}
 use Rattle.model_text.proofs.Totals.{names_in, measure, cells_at, atomics_at, links_at, count_components}
-use Rattle.model_text.proofs.Bare.{same_ins, same_outs, same_paths, same_tree}
+use Rattle.model_text.proofs.Stays.{paths_stay}
 
 at_most : (n m : ℕ) → n ≤ m → nat_le n m ≡ true
 at_most n m h = search (rules, nat_tests)
 
-not_above : (n m : ℕ) → nat_lt n m ≡ false → m ≤ n
+pub not_above : (n m : ℕ) → nat_lt n m ≡ false → m ≤ n
 not_above n m h = search (rules, nat_tests)
 
 -- ---- the counts of the walk are those of the phases
@@ -113,43 +115,42 @@ pub record Limits (ss : List Section) (t : Tree) : Type 0 where
   pub links : link_count ss ≤ 16384
   pub ins : length (ins_of t) ≤ 65536
   pub outs : length (outs_of t) ≤ 65536
-  pub paths : path_count t ≤ 65536
 
-limits_without : (ss : List Section) → link_limit_refused ss ≡ None → routes_refused ss ≡ None → Limits ss (tree_of no_files ss)
-limits_without ss links routes =
+limits_without : (ss : List Section) → link_limit_refused ss ≡ None → Limits ss (tree_of no_files ss)
+limits_without ss links =
     let a = if_none (has_too_many_links ss (tree_of no_files ss)) (refusal 0 TooLarge) None links in
-    let b = if_none (nat_lt 65536 (path_count (tree_of no_files ss))) (refusal 0 TooManyRoutes) None routes in
     let c = both_false (nat_lt 16384 (link_count ss) || nat_lt 65536 (length (ins_of (tree_of no_files ss)))) (nat_lt 65536 (length (outs_of (tree_of no_files ss)))) a.0 in
     let d = both_false (nat_lt 16384 (link_count ss)) (nat_lt 65536 (length (ins_of (tree_of no_files ss)))) c.0 in
     record {
       links = not_above 16384 (link_count ss) d.0;
       ins = not_above 65536 (length (ins_of (tree_of no_files ss))) d.1;
       outs = not_above 65536 (length (outs_of (tree_of no_files ss))) c.1;
-      paths = not_above 65536 (path_count (tree_of no_files ss)) b.0;
     }
+
+paths_fit : (files : Files) (ss : List Section) → routes_refused ss ≡ None → path_count (tree_of files ss) ≤ 65536
+paths_fit files ss routes =
+    let b = if_none (nat_lt 65536 (path_count (tree_of no_files ss))) (refusal 0 TooManyRoutes) None routes in
+    subst (λ n. n ≤ 65536) (sym (paths_stay files ss).paths) (not_above 65536 (path_count (tree_of no_files ss)) b.0)
 
 limits_of : (files : Files) (ss : List Section) → Limits ss (tree_of no_files ss) → Limits ss (tree_of files ss)
 limits_of files ss l =
-    let t = tree_of files ss in
-    let u = tree_of no_files ss in
-    let same = same_tree files ss in
+    let stay = paths_stay files ss in
     record {
       links = l.links;
-      ins = subst (λ xs. length xs ≤ 65536) (sym (sym (same_ins t) ∙ ap ins_of same ∙ same_ins u)) l.ins;
-      outs = subst (λ xs. length xs ≤ 65536) (sym (sym (same_outs t) ∙ ap outs_of same ∙ same_outs u)) l.outs;
-      paths = subst (λ n. n ≤ 65536) (sym (sym (same_paths t) ∙ ap path_count same ∙ same_paths u)) l.paths;
+      ins = subst (λ xs. length xs ≤ 65536) (sym stay.ins) l.ins;
+      outs = subst (λ xs. length xs ≤ 65536) (sym stay.outs) l.outs;
     }
 
 five : (a b c d e : Bool) → a ≡ true → b ≡ true → c ≡ true → d ≡ true → e ≡ true → (a && b && c && d && e) ≡ true
 five a b c d e ha hb hc hd he =
     both_true (a && b && c && d) e (both_true (a && b && c) d (both_true (a && b) c (both_true a b ha hb) hc) hd) he
 
-within_limits : (files : Files) (classes : List Class) (ss : List Section) → Passed classes ss → is_within_limits (totals (tree_of files ss)) ≡ true
+within_limits : (files : Files) (classes : List Class) (ss : List Section) → PassedLinks classes ss → is_within_limits (totals (tree_of files ss)) ≡ true
 within_limits files classes ss p =
     go (section_named ss top) (no_top_refused (section_named ss top) p.top) (λ s e. find_is top ss s e) (walk_is_met files classes ss p) (components_differ ss p.tree)
     (subst (λ n. n ≤ 4096) (sym (atomics_are (walk ss))) (atomics_fit ss p.tree))
     (subst (λ n. n ≤ 1048576) (sym (cells_are (walk ss))) (less (total cells_of_section (groups ss)) (cells_fit (groups ss) 0 p.cells (omega arith))))
-    (subst (λ n. n ≤ 16384) (sym (links_counted_walk)) (limits_without ss p.link_limit p.routes).links)
+    (subst (λ n. n ≤ 16384) (sym (links_counted_walk)) (limits_without ss p.link_limit).links)
   where
     less : (n : ℕ) → 0 + n ≤ 1048576 → n ≤ 1048576
     less n h = omega arith
@@ -174,12 +175,17 @@ within_limits files classes ss p =
         less_than : (a b m : ℕ) → a ≤ b → b ≤ m → a ≤ m
         less_than a b m e h = omega arith
 
+pub totals_are_within_limits : TotalsAreWithinLimits
+totals_are_within_limits files classes ss p =
+    let l = limits_of files ss (limits_without ss p.link_limit) in
+    record { sound = parts_sound files classes ss p; totals = within_limits files classes ss p; ins = l.ins; outs = l.outs }
+
 sound_tree : (files : Files) (classes : List Class) (ss : List Section) → Passed classes ss → is_sound_model (tree_of files ss) ≡ true
 sound_tree files classes ss p =
     let t = tree_of files ss in
-    let l = limits_of files ss (limits_without ss p.link_limit p.routes) in
+    let l = totals_are_within_limits files classes ss (links_passed classes ss p) in
     five (is_sound_part t) (is_within_limits (totals t)) (nat_le (length (ins_of t)) 65536) (nat_le (length (outs_of t)) 65536) (nat_le (path_count t) 65536)
-    (parts_are_sound files classes ss p) (within_limits files classes ss p) (at_most (length (ins_of t)) 65536 l.ins) (at_most (length (outs_of t)) 65536 l.outs) (at_most (path_count t) 65536 l.paths)
+    l.sound l.totals (at_most (length (ins_of t)) 65536 l.ins) (at_most (length (outs_of t)) 65536 l.outs) (at_most (path_count t) 65536 (paths_fit files ss p.routes))
 
 pub reads_sound_models : ReadsSoundModels
 reads_sound_models bytes files classes drawing t e =

@@ -13,6 +13,8 @@ pub mod Drawings
 pub mod ModelOf
 pub mod Accepted
 pub mod GroupLaws
+pub mod Met
+pub mod BuildLaws
 pub mod Models
 pub mod Examples
 pub mod RefusalExamples

@@ -1,0 +1,63 @@
+-- No parameter that may stand once stands again.
+use Rattle.std.proofs.Common.{◌≡◌, Bool, true, false, cond, Option, Some, None, List, [], ◌∷◌, map, refl, ap}
+use Rattle.std.specs.Prelude.{◌&&◌, not, IfSome}
+use Rattle.std.specs.List.{filter, flat_map}
+use Rattle.std.specs.Str.{bytes_eq}
+use Rattle.quantity.specs.Bytes.{Bytes, is_among, has_repeat}
+use Rattle.ma_lines.specs.declared.section.Entry.{Entry}
+use Rattle.ma_lines.specs.Sections.{Section}
+use Rattle.atomic_face.specs.declared.class.Class.{Class}
+use Rattle.atomic_face.specs.declared.params.Param.{Param}
+use Rattle.atomic_face.specs.ClassNames.{class_named}
+use Rattle.atomic_face.specs.Settings.{once_keys, are_once}
+use Rattle.model_text.specs.Keyed.{section_named, Item}
+use Rattle.model_text.specs.Walk.{name_of, class_of, reached, atomics}
+use Rattle.model_text.specs.Keys.{again, of_section, parameters_again, of_atomic}
+use Rattle.model_text.specs.Stock.{param_of, params_in}
+use Rattle.model_text.specs.BuildLaws.{ParametersStandOnce}
+use Rattle.model_text.proofs.Basics.{both_empty, least_none, each_empty, all_imply, neither}
+use Rattle.model_text.proofs.Keys.{same_bytes, equals_back, or_right, or_left, not_again, both_stand}
+use Rattle.model_text.proofs.Steps.{same_as_itself}
+
+-- the keys that may stand once, of these entries
+abbrev kept : List Bytes → List Entry → List Bytes
+kept once es = filter (is_among once) (map (λ (p : Param). p.key) (map param_of es))
+
+none_kept : (once before : List Bytes) (t : Bytes) → is_among once t ≡ true → is_among before t ≡ true → (es : List Entry) → again once before es ≡ [] → is_among (kept once es) t ≡ false
+none_kept once before t o b [] h = refl
+none_kept once before t o b (e ∷ es) h =
+    go (is_among once e.key) (none_kept once (e.key ∷ before) t o (or_right (bytes_eq t e.key) (is_among before t) b) es parts.1)
+  where
+    parts : (is_among once e.key && is_among before e.key ≡ false) × (again once (e.key ∷ before) es ≡ [])
+    parts = not_again once before e es h
+
+    apart : (c : Bool) → bytes_eq t e.key ≡ c → c ≡ false
+    apart true f = absurd (both_stand once before e.key t (same_bytes e.key t (equals_back t e.key f)) o b parts.0)
+    apart false f = refl
+
+    go : (c : Bool) → is_among (kept once es) t ≡ false → is_among (cond c (e.key ∷ kept once es) (kept once es)) t ≡ false
+    go true rest = neither (bytes_eq t e.key) (is_among (kept once es) t) (apart (bytes_eq t e.key) refl) rest
+    go false rest = rest
+
+no_repeat : (once before : List Bytes) (es : List Entry) → again once before es ≡ [] → has_repeat (kept once es) ≡ false
+no_repeat once before [] h = refl
+no_repeat once before (e ∷ es) h = go (is_among once e.key) refl (no_repeat once (e.key ∷ before) es parts.1)
+  where
+    parts : (is_among once e.key && is_among before e.key ≡ false) × (again once (e.key ∷ before) es ≡ [])
+    parts = not_again once before e es h
+
+    go : (c : Bool) → is_among once e.key ≡ c → has_repeat (kept once es) ≡ false → has_repeat (cond c (e.key ∷ kept once es) (kept once es)) ≡ false
+    go true o rest =
+        neither (is_among (kept once es) e.key) (has_repeat (kept once es))
+        (none_kept once (e.key ∷ before) e.key o (or_left (bytes_eq e.key e.key) (is_among before e.key) (same_as_itself e.key)) es parts.1) rest
+    go false o rest = rest
+
+once_of : (o : Option Class) (s : Option Section) → parameters_again o s ≡ [] → IfSome o (λ class. are_once class (params_in s) ≡ true)
+once_of None s e = tt
+once_of (Some class) None e = refl
+once_of (Some class) (Some s) e = ap not (no_repeat (once_keys class) [] s.entries e)
+
+pub parameters_stand_once : ParametersStandOnce
+parameters_stand_once ss h =
+    let parts = both_empty (flat_map of_section (reached ss)) (flat_map (of_atomic ss) (atomics ss)) (least_none _ h) in
+    all_imply (λ i e. once_of (class_named (class_of i)) (section_named ss (name_of i)) e) (atomics ss) (each_empty (of_atomic ss) (atomics ss) parts.1)

@@ -1,0 +1,34 @@
+// Laws of models before their paths are counted and their files are read: what makes a model, part by part.
+ghost use Rattle.model_text.specs.BuildLaws.{SpacesCanBeHeld, NamesAreFew, ParametersStandOnce, TotalsAreWithinLimits, PathsStay, WalkIsMet, ItemsAreMade, SectionsAreMade};
+
+/// A space of the sizes of each group can be held once the keys and the number of cells pass.
+pub fn spaces_can_be_held()
+    ensures { SpacesCanBeHeld }
+{}
+
+/// The rules of a group may use at most 128 offsets, 8 variables and 3 further ports.
+pub fn names_of_groups_are_few()
+    ensures { NamesAreFew }
+{}
+
+/// No parameter of an atomic component that may stand once stands again.
+pub fn parameters_stand_once()
+    ensures { ParametersStandOnce }
+{}
+
+/// Once all phases up to the limit of links pass, the components are sound and all totals within the limits, with any files.
+pub fn totals_are_within_limits()
+    ensures { TotalsAreWithinLimits }
+{}
+
+/// The initial files change no port, no source of a port and no number of paths.
+pub fn files_change_no_path()
+    ensures { PathsStay }
+{}
+
+/// What a component is, item by item, and that the walk of a model that passes all phases up to the limit of links meets right sections and items.
+pub fn components_are_made_item_by_item()
+    ensures walk { WalkIsMet }
+    ensures items { ItemsAreMade }
+    ensures sections { SectionsAreMade }
+{}
