@@ -1,3 +1,4 @@
+pub mod Pairs
 pub mod Roots
 pub mod DigitLemmas
 pub mod TimeLemmas

@@ -1,11 +1,15 @@
 // Short texts, written from their right end on.
-ghost use Rattle.std.specs.Prelude.{◌≡◌, ◌+◌, ◌-◌, ◌<◌, ◌≤◌, [], ◌∷◌, ◌++◌, length, replicate, decimal, OnOk, OnErr};
-ghost use Rattle.quantity.specs.ByteNames.{space_character};
+ghost use Rattle.std.specs.Prelude.{◌≡◌, ◌+◌, ◌-◌, ◌/◌, ◌%◌, ◌<◌, ◌≤◌, [], ◌∷◌, ◌++◌, length, replicate, decimal, OnOk, OnErr};
+ghost use Rattle.quantity.specs.ByteNames.{digit_zero, space_character};
 ghost use Rattle.quantity.specs.Digits.{last_digits};
 
 use crate::memory::OutOfMemory;
 use itoa::write_digits;
 use std::marker::Model;
+
+// The two digits of each number below 100.
+static PAIRS: [u8; 200] =
+    *b"00010203040506070809101112131415161718192021222324252627282930313233343536373839404142434445464748495051525354555657585960616263646566676869707172737475767778798081828384858687888990919293949596979899";
 
 /// A text of at most 24 bytes, which grows on its left.
 #[derive(Drop)]
@@ -25,6 +29,7 @@ impl Model for ShortText {
 }
 
 impl ShortText {
+    #[inline(always)]
     pub(crate) fn new() -> ShortText
         ensures { result ≡ [] }
     {
@@ -34,6 +39,7 @@ impl ShortText {
         }
     }
 
+    #[inline(always)]
     pub(crate) fn put_byte(&mut self, byte: u8)
         requires { length self.old < 24 }
         ensures { self.new ≡ byte ∷ self.old }
@@ -43,16 +49,32 @@ impl ShortText {
     }
 
     /// Puts the last digits of the number in front, so many of them.
+    #[inline(always)]
     pub(crate) fn put_digits(&mut self, count: usize, number: u64)
         requires { length self.old + count ≤ 24 }
         ensures value { self.new ≡ last_digits count number ++ self.old }
         ensures length { length self.new ≡ count + length self.old }
     {
         let mut left = number;
-        for _digit in 0..count {
-            self.put_byte(b'0' + (left % 10) as u8);
-            left /= 10;
+        for _pair in 0..count / 2 {
+            self.put_two_digits(left % 100);
+            left /= 100;
         }
+        if count % 2 == 1 {
+            self.put_byte(b'0' + (left % 10) as u8);
+        }
+    }
+
+    /// Puts the two digits of a number below 100 in front.
+    #[inline(always)]
+    fn put_two_digits(&mut self, number: u64)
+        requires room { length self.old + 2 ≤ 24 }
+        requires short { number < 100 }
+        ensures { self.new ≡ (digit_zero + number / 10) ∷ (digit_zero + number % 10) ∷ self.old }
+    {
+        let at = number as usize * 2;
+        self.put_byte(PAIRS[at + 1]);
+        self.put_byte(PAIRS[at]);
     }
 
     pub(crate) fn put_number(&mut self, number: u64)

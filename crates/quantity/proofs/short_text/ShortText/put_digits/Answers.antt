@@ -1,11 +1,16 @@
-use Rattle.std.proofs.Common.{◌≡◌, ◌+◌, ◌-◌, ◌/◌, ◌%◌, ◌∷◌, ◌++◌, [], ℕ, List, suc, sym, ap, ◌∙◌, arith, length, append_assoc}
+use Rattle.std.proofs.Common.{◌≡◌, ◌+◌, ◌-◌, ◌*◌, ◌/◌, ◌++◌, suc, ap, ◌∙◌, arith, length}
 use Rattle.quantity.specs.Digits.{last_digits}
+use Rattle.quantity.proofs.Pairs.{one_pair}
 use Rattle.quantity.proofs.short_text.ShortText.put_digits.Goals as goal
 
-one_more : (j k n : ℕ) (text : List ℕ) → j ≡ suc k → last_digits k (n / 10) ++ (48 + n % 10) ∷ text ≡ last_digits j n ++ text
-one_more j k n text e = sym (append_assoc (last_digits k (n / 10)) ((48 + n % 10) ∷ []) text) ∙ ap (λ i. last_digits i n ++ text) (sym e)
-
-pub loop-digit-preserved : goal.loop-digit-preserved
-loop-digit-preserved c =
-    let left = c.args.count - (c.loop-digit._digit + 1) in
-    (omega (arith, ap length c.put_byte.ensures), ap (λ t. last_digits left (c.loop-digit.left / 10) ++ t) c.put_byte.ensures ∙ one_more (c.args.count - c.loop-digit._digit) left c.loop-digit.left c.loop-digit.self (omega arith) ∙ c.loop-digit.invariant.1)
+pub loop-pair-preserved : goal.loop-pair-preserved
+loop-pair-preserved c =
+    let number = c.loop-pair.left in
+    let left = c.args.count - (c.loop-pair._pair + 1) * 2 in
+    let two_more : suc (suc left) ≡ c.args.count - c.loop-pair._pair * 2 = omega arith in (
+      omega (arith, ap length c.put_two_digits.ensures),
+      ap (λ t. last_digits left (number / 100) ++ t) c.put_two_digits.ensures
+          ∙ one_pair left number c.loop-pair.self
+          ∙ ap (λ i. last_digits i number ++ c.loop-pair.self) two_more
+          ∙ c.loop-pair.invariant.1,
+    )
