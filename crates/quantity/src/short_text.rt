@@ -11,6 +11,17 @@ use std::marker::Model;
 static PAIRS: [u8; 200] =
     *b"00010203040506070809101112131415161718192021222324252627282930313233343536373839404142434445464748495051525354555657585960616263646566676869707172737475767778798081828384858687888990919293949596979899";
 
+/// The two digits of a number below 100.
+#[inline(always)]
+pub(crate) fn two_digits(number: u64) -> (u8, u8)
+    requires { number < 100 }
+    ensures tens { result.0 ≡ digit_zero + number / 10 }
+    ensures ones { result.1 ≡ digit_zero + number % 10 }
+{
+    let at = number as usize * 2;
+    (PAIRS[at], PAIRS[at + 1])
+}
+
 /// A text of at most 24 bytes, which grows on its left.
 #[derive(Drop)]
 pub(crate) struct ShortText {
@@ -72,9 +83,9 @@ impl ShortText {
         requires short { number < 100 }
         ensures { self.new ≡ (digit_zero + number / 10) ∷ (digit_zero + number % 10) ∷ self.old }
     {
-        let at = number as usize * 2;
-        self.put_byte(PAIRS[at + 1]);
-        self.put_byte(PAIRS[at]);
+        let (tens, ones) = two_digits(number);
+        self.put_byte(ones);
+        self.put_byte(tens);
     }
 
     pub(crate) fn put_number(&mut self, number: u64)
