@@ -100,3 +100,30 @@ pub record IsFree (look : Look) (first : Option ℕ) (at : ℕ) (before next : O
 abbrev pub BelongsAt : Look → Option ℕ → ℕ → Spot → Type 0
 BelongsAt look first at (Taken key) = IsTaken look first at key
 BelongsAt look first at (Free before next) = IsFree look first at before next
+
+-- the link from the node that a link leads to
+abbrev pub next_of : Look → Option ℕ → Option ℕ
+next_of look from = option_map_or (λ node. node.next) (option_and_then look from) None
+
+-- the link to the node of the last pair of a list that begins at a link
+abbrev pub last_link : Look → Option ℕ → List Pair → Option ℕ
+last_link look from [] = None
+last_link look from (p ∷ []) = from
+last_link look from (p ∷ q ∷ qs) = last_link look (next_of look from) (q ∷ qs)
+
+-- the lists are laid, and the last node of each is known
+pub record AreHeld (look : Look) (firsts lasts : List (Option ℕ)) (lists : List (List Pair)) : Type 0 where
+  pub laid : AreLaid look firsts lists
+  pub many : length lasts ≡ length firsts
+  pub ends : (cell : ℕ) → cell < length firsts
+      → slice_index_or lasts cell None ≡ last_link look (slice_index_or firsts cell None) (slice_index_or lists cell [])
+
+-- the last node once another one stands before this link
+abbrev pub last_with : Option ℕ → ℕ → Option ℕ → Option ℕ
+last_with None key last = Some key
+last_with (Some next) key last = last
+
+-- the last node once the first one is gone, whose link this was
+abbrev pub last_left : Option ℕ → Option ℕ → Option ℕ
+last_left None last = None
+last_left (Some next) last = last

@@ -3,7 +3,7 @@ ghost use Rattle.std.specs.Prelude.{◌≡◌, ◌+◌, ◌<◌, ◌≤◌, [], 
 ghost use Rattle.quantity.specs.Delay.{put_pair};
 ghost use Rattle.delay_lines.specs.Lists.{list_of, first_pair, ChangesList, IsRising, KeepsPlaces};
 
-use crate::nodes::{Node, Spot, append_from, spot_of};
+use crate::nodes::{Node, Spot, append_from, last_left, last_with, place_of};
 use quantity::{OutOfMemory, Time, Value};
 use slab::Slab;
 use std::alloc::Global;
@@ -17,6 +17,8 @@ pub struct Delays {
     nodes: Slab<Node>,
     // The number of the first node of each cell's list.
     firsts: Vec<Option<usize>>,
+    // The number of the last node of each cell's list.
+    lasts: Vec<Option<usize>>,
 }
 
 impl Model for Delays {
@@ -26,14 +28,14 @@ impl Model for Delays {
 
     ghost Value = { DelayLists };
 
-    ghost use Rattle.delay_lines.specs.Nodes.{AreLaid, lists_from};
+    ghost use Rattle.delay_lines.specs.Nodes.{AreHeld, lists_from};
 
     ghost view = { λ d. record {
       lists = lists_from (get d.nodes) d.firsts.items;
       spare = d.nodes.capacity - slab_len d.nodes;
     } };
 
-    ghost invariant = { λ d. AreLaid (get d.nodes) d.firsts.items (lists_from (get d.nodes) d.firsts.items) };
+    ghost invariant = { λ d. AreHeld (get d.nodes) d.firsts.items d.lasts.items (lists_from (get d.nodes) d.firsts.items) };
 }
 
 impl Delays {
@@ -44,6 +46,7 @@ impl Delays {
         Ok(Delays {
             nodes: Slab::new(alloc),
             firsts: vec![in alloc; None; cells as usize]?,
+            lasts: vec![in alloc; None; cells as usize]?,
         })
     }
 
@@ -78,11 +81,13 @@ impl Delays {
         if let Some(key) = self.firsts[cell as usize] {
             let node = self.nodes.remove(key);
             self.firsts[cell as usize] = node.next;
+            let last = self.lasts[cell as usize];
+            self.lasts[cell as usize] = last_left(node.next, last);
         }
     }
 
     /// Puts a value into a cell's list at its time, in the place of a pair of that time. It visits the
-    /// nodes of that list alone. It takes memory only where nothing is spare; where that is refused,
+    /// nodes of that list alone, and only the last one where the time is later than its. It takes memory only where nothing is spare; where that is refused,
     /// nothing changes, and no room is lost.
     pub fn transport(&mut self, cell: u32, at: Time, value: Value) -> Result<(), OutOfMemory>
         requires { cell < length self.old.lists }
@@ -96,12 +101,14 @@ impl Delays {
         ensures had_room { 1 ≤ self.old.spare → KeepsPlaces self.old self.new cell }
         ensures spare { self.old.spare ≤ self.new.spare + 1 }
     {
-        match spot_of(&self.nodes, self.firsts[cell as usize], at) {
+        let last = self.lasts[cell as usize];
+        match place_of(&self.nodes, self.firsts[cell as usize], last, at) {
             Spot::Taken(key) => self.nodes[key].pair = (at, value),
             Spot::Free(before, next) => {
                 let Ok(key) = self.nodes.insert(Node::new(at, value, next)) else {
                     return Err(OutOfMemory);
                 };
+                self.lasts[cell as usize] = last_with(next, key, last);
                 match before {
                     Some(before) => self.nodes[before].next = Some(key),
                     None => self.firsts[cell as usize] = Some(key),
@@ -145,5 +152,6 @@ impl Delays {
     {
         let key = self.nodes.insert_reserved(Node::new(at, value, None));
         self.firsts[cell as usize] = Some(key);
+        self.lasts[cell as usize] = Some(key);
     }
 }

@@ -1,7 +1,7 @@
 // The nodes of all lists, and the links between them.
 ghost use Rattle.std.specs.Prelude.{◌≡◌, ◌≤◌, ◌++◌, OnOk, OnErr};
 ghost use Rattle.slab.specs.Slab.{get};
-ghost use Rattle.delay_lines.specs.Nodes.{BelongsAt, IsOrdered, last_time, node_of, pairs_from};
+ghost use Rattle.delay_lines.specs.Nodes.{BelongsAt, IsOrdered, last_left, last_link, last_time, last_with, node_of, pairs_from};
 
 use quantity::{OutOfMemory, Time, Value};
 use slab::Slab;
@@ -56,6 +56,41 @@ pub fn spot_of(nodes: &Slab<Node>, first: Option<usize>, at: Time) -> Spot
         next = node.next;
     }
     Spot::Free(before, None)
+}
+
+/// The same where the last node is known: behind it a later pair finds its place at once.
+pub fn place_of(nodes: &Slab<Node>, first: Option<usize>, last: Option<usize>, at: Time) -> Spot
+    requires ordered { IsOrdered (get nodes.now) first }
+    requires last { last ≡ last_link (get nodes.now) first (pairs_from (get nodes.now) first) }
+    ensures { BelongsAt (get nodes.now) first at result }
+{
+    let Some(key) = last else {
+        return Spot::Free(None, None);
+    };
+    if nodes[key].pair.0.ms() < at.ms() {
+        return Spot::Free(Some(key), None);
+    }
+    spot_of(nodes, first, at)
+}
+
+/// The last node once this one stands before the next.
+pub fn last_with(next: Option<usize>, key: usize, last: Option<usize>) -> Option<usize>
+    ensures { result ≡ last_with next key last }
+{
+    match next {
+        None => Some(key),
+        Some(_) => last,
+    }
+}
+
+/// The last node once the first one is gone, behind which the next stood.
+pub fn last_left(next: Option<usize>, last: Option<usize>) -> Option<usize>
+    ensures { result ≡ last_left next last }
+{
+    match next {
+        None => None,
+        Some(_) => last,
+    }
 }
 
 /// Appends the pairs from a node on. Where memory is refused, `into` stays as it was.

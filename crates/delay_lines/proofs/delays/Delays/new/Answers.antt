@@ -1,12 +1,14 @@
 use Rattle.std.proofs.Common.{◌≡◌, None, replicate, rules}
 use Rattle.slab.specs.Slab.{get}
-use Rattle.delay_lines.proofs.Laid.{AreLaid-empty, AreLaid-seen, lists_from-laid}
+use Rattle.delay_lines.proofs.Laid.{AreLaid-empty, lists_from-laid}
+use Rattle.delay_lines.proofs.Ends.{AreHeld-empty, AreHeld-seen}
 use Rattle.delay_lines.proofs.delays.Delays.new.Goals as goal
 
 pub invariant_of-result : goal.invariant_of-result
 invariant_of-result c =
     let items : c.in_ok-vec.field-0.items ≡ replicate c.args.cells None = c.in_ok-vec.ensures.items_if_clones_equal (λ y clone. search rules) in
-    rw items (AreLaid-seen _ _ _ (AreLaid-empty (get c.new.result) c.args.cells))
+    let lasts : c.in_ok-vec-2.field-0.items ≡ replicate c.args.cells None = c.in_ok-vec-2.ensures.items_if_clones_equal (λ y clone. search rules) in
+    rw (items, lasts) (AreHeld-seen _ _ _ _ (AreHeld-empty (get c.new.result) c.args.cells))
 
 pub returns : goal.returns
 returns c =

@@ -10,7 +10,7 @@ append_from-requires c =
     let seen = ap (λ d. d.lists) c.self.view_is in
     let within = within_seen _ _ c.args.self.now c.args.cell seen c.requires in
     let read = get_or_read _ c.args.cell _ within c.index.ensures None in
-    subst (λ o. IsOrdered (get c.self.inside.nodes) o) (sym read) (IsOrdered-laid _ _ c.self.invariant c.args.cell within)
+    subst (λ o. IsOrdered (get c.self.inside.nodes) o) (sym read) (IsOrdered-laid _ _ c.self.invariant.laid c.args.cell within)
 
 pub returns-clause-ok : goal.returns-clause-ok
 returns-clause-ok c =
@@ -24,4 +24,4 @@ pub returns-clause-rising : goal.returns-clause-rising
 returns-clause-rising c =
     let seen = ap (λ d. d.lists) c.self.view_is in
     let within = within_seen _ _ c.args.self.now c.args.cell seen c.requires in
-    rw (list_of-seen _ _ c.args.self.now c.args.cell seen within) (IsOrdered-laid _ _ c.self.invariant c.args.cell within).rising
+    rw (list_of-seen _ _ c.args.self.now c.args.cell seen within) (IsOrdered-laid _ _ c.self.invariant.laid c.args.cell within).rising

@@ -4,18 +4,27 @@ use Rattle.quantity.specs.Delay.{put_pair}
 use Rattle.slab.specs.Slab.{get}
 use Rattle.slab.proofs.SlabLemmas.{Updates-with_value}
 use Rattle.delay_lines.specs.Lists.{list_of}
-use Rattle.delay_lines.specs.Nodes.{IsOrdered, IsTaken, node_of}
+use Rattle.delay_lines.specs.Nodes.{IsOrdered, IsTaken, last_link, node_of, pairs_from}
 use Rattle.delay_lines.proofs.Chains.{AreLaid-headed, AreLaid-replaced, AreLaid-stands_linked, length-free, length-taken}
-use Rattle.delay_lines.proofs.Laid.{AreLaid-seen, IsOrdered-laid, list_of-changed, list_of-seen, lists_from-changed, slab_len-with_value, within_seen}
+use Rattle.delay_lines.proofs.Ends.{AreHeld-headed, AreHeld-replaced, AreHeld-seen, AreHeld-stands_linked, end_of}
+use Rattle.delay_lines.proofs.Laid.{IsOrdered-laid, list_of-changed, list_of-seen, lists_from-changed, slab_len-with_value, within_seen}
 use Rattle.delay_lines.proofs.Puts.{length-put_pair}
 use Rattle.delay_lines.proofs.Spots.{IsFree-at}
 use Rattle.delay_lines.proofs.delays.Delays.transport.Goals as goal
 
-pub spot_of-requires : goal.spot_of-requires
-spot_of-requires c =
+pub place_of-requires-clause-ordered : goal.place_of-requires-clause-ordered
+place_of-requires-clause-ordered c =
     let within = within_seen _ _ c.args.self.now c.args.cell (ap (λ d. d.lists) c.self.view_is) c.requires in
     let read = get_or_read _ c.args.cell _ within c.index.ensures None in
-    subst (λ o. IsOrdered (get c.self.inside.nodes) o) (sym read) (IsOrdered-laid _ _ c.self.invariant c.args.cell within)
+    subst (λ o. IsOrdered (get c.self.inside.nodes) o) (sym read) (IsOrdered-laid _ _ c.self.invariant.laid c.args.cell within)
+
+pub place_of-requires-clause-last : goal.place_of-requires-clause-last
+place_of-requires-clause-last c =
+    let look = get c.self.inside.nodes in
+    let within = within_seen _ _ c.args.self.now c.args.cell (ap (λ d. d.lists) c.self.view_is) c.requires in
+    let read = get_or_read _ c.args.cell _ within c.index.ensures None in
+    let last = get_or_read _ c.args.cell _ (omega (arith, within, c.self.invariant.many)) c.index-last.ensures None in
+    last ∙ end_of look c.self.inside.firsts.items c.self.inside.lasts.items c.self.invariant c.args.cell within ∙ ap (λ o. last_link look o (pairs_from look o)) (sym read)
 
 pub index_mut-requires : goal.index_mut-requires
 index_mut-requires c = subst IsSome (sym c.in-Taken.ensures.holds) refl
@@ -27,7 +36,7 @@ invariant_of-self c =
     let taken = subst (λ o. IsTaken (get c.self.inside.nodes) o c.args.at c.in-Taken.key) read c.in-Taken.ensures in
     let node = c.index_mut.result.now in
     let written = Updates-with_value c.self.inside.nodes c.in-Taken.key (node_of (c.args.at, c.args.value) node.next) (subst IsSome (sym c.index_mut.ensures.value) refl) in
-    AreLaid-seen _ _ _ (AreLaid-replaced _ _ _ c.self.invariant c.args.cell c.args.at c.args.value c.in-Taken.key node within taken c.index_mut.ensures.value written.changed written.others)
+    AreHeld-seen _ _ _ _ (AreHeld-replaced _ _ _ _ c.self.invariant c.args.cell c.args.at c.args.value c.in-Taken.key node within taken c.index_mut.ensures.value written.changed written.others)
 
 pub returns-in-Taken-clause-ok : goal.returns-in-Taken-clause-ok
 returns-in-Taken-clause-ok c =
@@ -37,13 +46,13 @@ returns-in-Taken-clause-ok c =
     let taken = subst (λ o. IsTaken (get c.self.inside.nodes) o c.args.at c.in-Taken.key) read c.in-Taken.ensures in
     let node = c.index_mut.result.now in
     let written = Updates-with_value c.self.inside.nodes c.in-Taken.key (node_of (c.args.at, c.args.value) node.next) (subst IsSome (sym c.index_mut.ensures.value) refl) in
-    let laid = AreLaid-replaced _ _ _ c.self.invariant c.args.cell c.args.at c.args.value c.in-Taken.key node within taken c.index_mut.ensures.value written.changed written.others in
+    let laid = AreLaid-replaced _ _ _ c.self.invariant.laid c.args.cell c.args.at c.args.value c.in-Taken.key node within taken c.index_mut.ensures.value written.changed written.others in
     lists_from-changed _ _ _ _ c.args.self.now c.args.cell (put_pair c.args.at c.args.value) seen within laid
 
 pub returns-in-Taken-clause-rising : goal.returns-in-Taken-clause-rising
 returns-in-Taken-clause-rising c =
     let within = within_seen _ _ c.args.self.now c.args.cell (ap (λ d. d.lists) c.self.view_is) c.requires in
-    ((invariant_of-self c).chains c.args.cell within).rising
+    ((invariant_of-self c).laid.chains c.args.cell within).rising
 
 -- as many pairs and as many nodes
 pub returns-in-Taken-clause-had_room : goal.returns-in-Taken-clause-had_room
@@ -78,7 +87,8 @@ invariant_of-self-in-Some c =
     let made = c.in-Ok.ensures in
     let node = c.index_mut-in-Some.result.now in
     let linked = Updates-with_value c.insert.new.self c.in-Some.before (node_of node.pair (Some c.in-Ok.key)) (subst IsSome (sym c.index_mut-in-Some.ensures.value) refl) in
-    AreLaid-seen _ _ _ (AreLaid-stands_linked _ _ _ _ c.self.invariant c.args.cell c.args.at c.args.value c.in-Ok.key c.in-Some.before c.in-Free.next node within c.new.ensures.time free made.was_vacant (made.updates.changed ∙ ap Some c.new.ensures.node) made.updates.others c.index_mut-in-Some.ensures.value linked.changed linked.others)
+    let last = get_or_read _ c.args.cell _ (omega (arith, within, c.self.invariant.many)) c.index-last.ensures None in
+    rw (c.last_with.ensures, last) (AreHeld-seen _ _ _ _ (AreHeld-stands_linked _ _ _ _ _ c.self.invariant c.args.cell c.args.at c.args.value c.in-Ok.key c.in-Some.before c.in-Free.next node within c.new.ensures.time free made.was_vacant (made.updates.changed ∙ ap Some c.new.ensures.node) made.updates.others c.index_mut-in-Some.ensures.value linked.changed linked.others))
 
 pub returns-in-Some-clause-ok : goal.returns-in-Some-clause-ok
 returns-in-Some-clause-ok c =
@@ -89,13 +99,13 @@ returns-in-Some-clause-ok c =
     let made = c.in-Ok.ensures in
     let node = c.index_mut-in-Some.result.now in
     let linked = Updates-with_value c.insert.new.self c.in-Some.before (node_of node.pair (Some c.in-Ok.key)) (subst IsSome (sym c.index_mut-in-Some.ensures.value) refl) in
-    let laid = AreLaid-stands_linked _ _ _ _ c.self.invariant c.args.cell c.args.at c.args.value c.in-Ok.key c.in-Some.before c.in-Free.next node within c.new.ensures.time free made.was_vacant (made.updates.changed ∙ ap Some c.new.ensures.node) made.updates.others c.index_mut-in-Some.ensures.value linked.changed linked.others in
+    let laid = AreLaid-stands_linked _ _ _ _ c.self.invariant.laid c.args.cell c.args.at c.args.value c.in-Ok.key c.in-Some.before c.in-Free.next node within c.new.ensures.time free made.was_vacant (made.updates.changed ∙ ap Some c.new.ensures.node) made.updates.others c.index_mut-in-Some.ensures.value linked.changed linked.others in
     lists_from-changed _ _ _ _ c.args.self.now c.args.cell (put_pair c.args.at c.args.value) seen within laid
 
 pub returns-in-Some-clause-rising : goal.returns-in-Some-clause-rising
 returns-in-Some-clause-rising c =
     let within = within_seen _ _ c.args.self.now c.args.cell (ap (λ d. d.lists) c.self.view_is) c.requires in
-    ((invariant_of-self-in-Some c).chains c.args.cell within).rising
+    ((invariant_of-self-in-Some c).laid.chains c.args.cell within).rising
 
 pub returns-in-Some-clause-had_room : goal.returns-in-Some-clause-had_room
 returns-in-Some-clause-had_room c =
@@ -131,7 +141,8 @@ invariant_of-self-in-None c =
     let read = get_or_read _ c.args.cell _ within c.index.ensures None in
     let free = IsFree-at _ _ _ _ _ _ _ read c.in-None.is c.in-Free.ensures in
     let made = c.in-Ok.ensures in
-    AreLaid-seen _ _ _ (AreLaid-headed _ _ _ c.self.invariant c.args.cell c.args.at c.args.value c.in-Ok.key c.in-Free.next within c.new.ensures.time free made.was_vacant (made.updates.changed ∙ ap Some c.new.ensures.node) made.updates.others)
+    let last = get_or_read _ c.args.cell _ (omega (arith, within, c.self.invariant.many)) c.index-last.ensures None in
+    rw (c.last_with.ensures, last) (AreHeld-seen _ _ _ _ (AreHeld-headed _ _ _ _ c.self.invariant c.args.cell c.args.at c.args.value c.in-Ok.key c.in-Free.next within c.new.ensures.time free made.was_vacant (made.updates.changed ∙ ap Some c.new.ensures.node) made.updates.others))
 
 pub returns-in-None-clause-ok : goal.returns-in-None-clause-ok
 returns-in-None-clause-ok c =
@@ -140,13 +151,13 @@ returns-in-None-clause-ok c =
     let read = get_or_read _ c.args.cell _ within c.index.ensures None in
     let free = IsFree-at _ _ _ _ _ _ _ read c.in-None.is c.in-Free.ensures in
     let made = c.in-Ok.ensures in
-    let laid = AreLaid-headed _ _ _ c.self.invariant c.args.cell c.args.at c.args.value c.in-Ok.key c.in-Free.next within c.new.ensures.time free made.was_vacant (made.updates.changed ∙ ap Some c.new.ensures.node) made.updates.others in
+    let laid = AreLaid-headed _ _ _ c.self.invariant.laid c.args.cell c.args.at c.args.value c.in-Ok.key c.in-Free.next within c.new.ensures.time free made.was_vacant (made.updates.changed ∙ ap Some c.new.ensures.node) made.updates.others in
     lists_from-changed _ _ _ _ c.args.self.now c.args.cell (put_pair c.args.at c.args.value) seen within laid
 
 pub returns-in-None-clause-rising : goal.returns-in-None-clause-rising
 returns-in-None-clause-rising c =
     let within = within_seen _ _ c.args.self.now c.args.cell (ap (λ d. d.lists) c.self.view_is) c.requires in
-    ((invariant_of-self-in-None c).chains c.args.cell (omega (arith, length-set c.self.inside.firsts.items c.args.cell (Some c.in-Ok.key)))).rising
+    ((invariant_of-self-in-None c).laid.chains c.args.cell (omega (arith, length-set c.self.inside.firsts.items c.args.cell (Some c.in-Ok.key)))).rising
 
 pub returns-in-None-clause-had_room : goal.returns-in-None-clause-had_room
 returns-in-None-clause-had_room c =
