@@ -1,10 +1,13 @@
 -- Parameters that give settings, and parameters that are off their form.
-use Rattle.std.specs.Prelude.{◌≡◌, ℕ, ◌^◌, ◌+◌, true, false, Option, Some, None, List, [], ◌∷◌, pos, negsuc, codes}
+use Rattle.std.specs.Prelude.{◌≡◌, ℕ, ◌^◌, ◌+◌, true, false, Option, Some, None, List, [], ◌∷◌, ◌++◌, length, map, replicate, pos, negsuc, codes}
+use Rattle.std.specs.List.{flat_map}
+use Rattle.std.specs.Option.{option_map}
 use Rattle.quantity.specs.Bytes.{Bytes}
 use Rattle.atomic_face.specs.declared.class.Class.TheVariants.{Queue, Generator, Cpu, Counter, Table}
 use Rattle.atomic_face.specs.declared.class.PortNo.{PortNo}
 use Rattle.atomic_face.specs.declared.params.Param.{Param}
 use Rattle.atomic_face.specs.ClassNames.{class_named, output_named, port_named}
+use Rattle.atomic_face.specs.TableSettings.{one_too_many, states_of}
 use Rattle.atomic_face.specs.Settings.{settings_of, lines_off, first_line_off, are_once}
 use Rattle.atomic_face.specs.BoxStates.{is_box_state}
 
@@ -37,6 +40,15 @@ pub record PortsAreNumbered : Type 0 where
   pub e : port_named Table (codes "e") ≡ None
   pub out : output_named (codes "out") ≡ port 0
   pub no_input_is_an_output : output_named (codes "in") ≡ None
+
+-- 64 names: each letter alone, and behind an a, a b and a c, of the first 16
+abbrev pub sixty_four : List Bytes
+sixty_four =
+    flat_map (λ first. map (λ second. first ++ second ∷ []) (codes "abcdefghijklmnop")) ([] ∷ codes "a" ∷ codes "b" ∷ codes "c" ∷ [])
+
+-- names with a blank behind each
+abbrev pub join_words : List Bytes → Bytes
+join_words names = flat_map (λ name. name ++ codes " ") names
 
 -- a table of two states, with this line
 abbrev pub light : Param → List Param
@@ -72,6 +84,10 @@ pub record ParametersAreRefused : Type 0 where
   pub no_port : first_line_off Table (light (param 9 (codes "take") (codes "red e 1 red"))) ≡ Some 9
   pub states_alone : lines_off Table (param 7 (codes "states") (codes "red red") ∷ param 8 (codes "hold") (codes "x") ∷ []) ≡ 7 ∷ []
   pub right : first_line_off Table (light (param 9 (codes "hold") (codes "red 00:00:00:030 1 green"))) ≡ None
+  pub too_many_states : states_of (param 7 (codes "states") (join_words (sixty_four ++ codes "dd" ∷ [])) ∷ []) ≡ None
+  pub states : option_map length (states_of (param 7 (codes "states") (join_words sixty_four) ∷ [])) ≡ Some 64
+  pub too_many_entries : one_too_many (replicate 1024 (param 5 (codes "take") []) ++ param 6 (codes "hold") [] ∷ []) ≡ 6 ∷ []
+  pub entries : one_too_many (replicate 1024 (param 5 (codes "take") [])) ≡ []
   pub twice : are_once Queue (param 3 (codes "preparation") (codes "x") ∷ param 4 (codes "preparation") (codes "y") ∷ []) ≡ false
   pub holds_again : are_once Table (light (param 9 (codes "hold") (codes "red 00:00:00:030 1 green"))) ≡ true
 
@@ -86,6 +102,7 @@ pub record WordsAreAState : Type 0 where
   pub falling : is_box_state Cpu (pos 0 ∷ []) (pos 5 ∷ pos 1 ∷ pos 4 ∷ pos 1 ∷ []) ≡ false
   pub half_a_pair : is_box_state Cpu (pos 0 ∷ []) (pos 5 ∷ []) ≡ false
   pub counter : is_box_state Counter (pos 0 ∷ pos 0 ∷ pos 0 ∷ []) (pos (10 ^ 16) ∷ pos 719999998 ∷ []) ≡ true
+  pub one_word : is_box_state Counter (pos 0 ∷ pos 0 ∷ pos 0 ∷ []) (pos 0 ∷ []) ≡ false
   pub no_value : is_box_state Counter (pos 0 ∷ pos 0 ∷ pos 0 ∷ []) (pos (10 ^ 16 + 1) ∷ negsuc 0 ∷ []) ≡ false
   pub table : is_box_state Table (pos 1 ∷ pos 0 ∷ negsuc 0 ∷ pos 0 ∷ pos 0 ∷ []) (pos 0 ∷ negsuc 0 ∷ pos (10 ^ 16) ∷ []) ≡ true
   pub no_such_state : is_box_state Table (pos 1 ∷ pos 0 ∷ negsuc 0 ∷ pos 0 ∷ pos 0 ∷ []) (pos 1 ∷ negsuc 0 ∷ pos (10 ^ 16) ∷ []) ≡ false
