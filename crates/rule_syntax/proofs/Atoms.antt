@@ -6,7 +6,7 @@ use Rattle.std.specs.Bool.{then_some}
 use Rattle.std.specs.Str.{bytes_eq}
 use Rattle.quantity.specs.Bytes.{Bytes, is_empty}
 use Rattle.rule_tree.specs.declared.node.Count.{Count}
-use Rattle.rule_tree.specs.declared.node.Function.{Function}
+use Rattle.rule_tree.specs.declared.function.Function.{Function}
 use Rattle.rule_syntax.specs.Tokens.{Token, word, number, mark, is_mark}
 use Rattle.rule_tree.specs.Phrases as P
 use Rattle.rule_tree.specs.Phrases.{Cell, Phrase, expr, out, counts, functions, looked_up}

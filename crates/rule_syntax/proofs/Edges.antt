@@ -5,7 +5,7 @@ use Rattle.std.specs.List.{last_or}
 use Rattle.std.specs.Str.{bytes_eq}
 use Rattle.quantity.specs.Bytes.{Bytes}
 use Rattle.rule_tree.specs.declared.node.Count.{Count}
-use Rattle.rule_tree.specs.declared.node.Function.{Function}
+use Rattle.rule_tree.specs.declared.function.Function.{Function}
 use Rattle.rule_syntax.specs.Tokens.{Token, word, number, mark, is_mark, is_word}
 use Rattle.rule_tree.specs.Phrases.{Cell, Phrase, Level, expr, disj, conj, neg, comp, sum, prod, signed, primary, tighter, left_of, counts, functions, looked_up}
 use Rattle.rule_syntax.specs.Grammar.{IsInt, IsPort, IsCell, IsPhrase}

@@ -11,7 +11,7 @@ use Rattle.quantity.specs.Bytes.{Bytes, parts_outside, all_there, in_front}
 use Rattle.rule_tree.specs.declared.node.Unary.{Unary}
 use Rattle.rule_tree.specs.declared.node.Unary.TheVariants.{Plus, Minus, Not}
 use Rattle.rule_tree.specs.declared.node.Binary.{Binary}
-use Rattle.rule_tree.specs.declared.node.Function.{Function}
+use Rattle.rule_tree.specs.declared.function.Function.{Function}
 use Rattle.rule_syntax.specs.Tokens.{Token, word, number, mark, is_mark}
 use Rattle.rule_tree.specs.Phrases as P
 use Rattle.rule_tree.specs.Phrases.{Phrase, Level, expr, disj, conj, neg, comp, sum, prod, signed, primary, tighter, left_of, phrases, argument_count, looked_up, functions}

@@ -40,3 +40,5 @@ pub mod TokenParts
 pub mod Gathered
 pub mod ReadParts
 mod RuleRead
+pub mod RefusedTexts
+pub mod ReadTexts

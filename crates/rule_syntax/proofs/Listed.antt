@@ -8,7 +8,7 @@ use Rattle.quantity.specs.Bytes.{Bytes}
 use Rattle.rule_syntax.specs.declared.term.Term.{Term}
 use Rattle.rule_syntax.specs.declared.front.Front.{Front}
 use Rattle.rule_syntax.specs.declared.between.Arguments.{Arguments}
-use Rattle.rule_tree.specs.declared.node.Function.{Function}
+use Rattle.rule_tree.specs.declared.function.Function.{Function}
 use Rattle.rule_syntax.specs.Tokens.{Token, is_mark}
 use Rattle.rule_tree.specs.Phrases as P
 use Rattle.rule_tree.specs.Phrases.{Phrase, phrases, argument_count}

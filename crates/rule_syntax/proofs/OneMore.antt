@@ -8,8 +8,9 @@ use Rattle.rule_tree.specs.Expression.{expr_of}
 use Rattle.rule_tree.specs.Phrases.{Phrase, Assigned}
 use Rattle.rule_syntax.specs.RulesRead.{AreNamed, is_number, named_for, names_for, number_for, phrase_for, value_for, values_of, words_of}
 use Rattle.rule_tree.specs.Scope.{Names, Named, named_in}
-use Rattle.rule_tree.specs.Sound.{a_number, is_sort}
-use Rattle.rule_syntax.specs.Terms.{Misses, Stands, sort_or_none}
+use Rattle.rule_tree.specs.declared.function.Sort.TheVariants.{Number}
+use Rattle.rule_tree.specs.Sound.{is_sort}
+use Rattle.rule_syntax.specs.Terms.{Misses, Stands}
 use Rattle.rule_syntax.specs.declared.named.Kind.{Kind}
 use Rattle.rule_syntax.specs.declared.named.NamedValue.{NamedValue}
 use Rattle.rule_syntax.specs.declared.named.NamedValues.{NamedValues}
@@ -46,7 +47,7 @@ pub record OneMore (names : Names) (kind : Kind) (word : Bytes) (term : Term) (o
   pub words : words_of new.list.items ≡ words_of old.list.items ++ word ∷ []
   pub values : values_of new.list.items ≡ values_of old.list.items ++ (number_for names kind word, expr_of term.node) ∷ []
   pub misses : (ns ms : List Named) → Misses names old.lacks ns → Misses names term.lacks ms → Misses names new.lacks ((ns ++ named_for kind word ∷ []) ++ ms)
-  pub sorted : new.are_numbers ≡ (old.are_numbers && is_sort a_number (sort_or_none term.sort))
+  pub sorted : new.are_numbers ≡ (old.are_numbers && is_sort Number term.sort)
 
 pub one_more_named : (names : Names) (kind : Kind) (word : Bytes) (term : Term) (old new : NamedValues) (xs : List Assigned) (x : Phrase)
     → OneMore names kind word term old new → AreNamed names kind old xs → Stands names term x → AreNamed names kind new (xs ++ phrase_for word x ∷ [])
@@ -57,8 +58,8 @@ one_more_named names kind word term old new xs x more before stands =
           ∙ ap (λ e. map (value_for names kind) xs ++ (number_for names kind word, e) ∷ []) stands.tree
           ∙ sym (mapped_behind (value_for names kind) xs (phrase_for word x));
       misses = subst (λ ns. Misses names new.lacks ns) named (more.misses (flat_map (names_for kind) xs) (named_in x) before.misses stands.misses);
-      sorted = more.sorted ∙ ap (λ b. b && is_sort a_number (sort_or_none term.sort)) before.sorted
-          ∙ ap (λ s. list_all (is_number offsets) (map (value_for names kind) xs) && is_sort a_number s) stands.sorted
+      sorted = more.sorted ∙ ap (λ b. b && is_sort Number term.sort) before.sorted
+          ∙ ap (λ s. list_all (is_number offsets) (map (value_for names kind) xs) && is_sort Number s) stands.sorted
           ∙ sym (all_behind (is_number offsets) (map (value_for names kind) xs) (value_for names kind (phrase_for word x)))
           ∙ ap (list_all (is_number offsets)) (sym (mapped_behind (value_for names kind) xs (phrase_for word x)));
     }
@@ -72,7 +73,7 @@ one_more_named names kind word term old new xs x more before stands =
 pub pushed : (names : Names) (kind : Kind) (term : Term) (old new : NamedValues) (v : NamedValue) → new.list.items ≡ old.list.items ++ v ∷ []
     → v.number ≡ number_for names kind v.word.now → v.value ≡ term.node
     → ((ns ms : List Named) → Misses names old.lacks ns → Misses names term.lacks ms → Misses names new.lacks ((ns ++ named_for kind v.word.now ∷ []) ++ ms))
-    → new.are_numbers ≡ (old.are_numbers && is_sort a_number (sort_or_none term.sort)) → OneMore names kind v.word.now term old new
+    → new.are_numbers ≡ (old.are_numbers && is_sort Number term.sort) → OneMore names kind v.word.now term old new
 pushed names kind term old new v items number value misses sorted =
     record {
       words = ap words_of items ∙ mapped_behind (λ (u : NamedValue). u.word.now) old.list.items v;

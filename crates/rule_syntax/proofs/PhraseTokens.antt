@@ -5,7 +5,7 @@ use Rattle.std.specs.List.{last_or, AllByRecursion}
 use Rattle.quantity.specs.Bytes.{Bytes, is_among}
 use Rattle.rule_tree.specs.declared.node.Binary.{Binary}
 use Rattle.rule_tree.specs.declared.node.Count.{Count}
-use Rattle.rule_tree.specs.declared.node.Function.{Function}
+use Rattle.rule_tree.specs.declared.function.Function.{Function}
 use Rattle.rule_syntax.specs.Tokens.{Token, word, number, mark, is_mark}
 use Rattle.rule_tree.specs.Phrases.{Cell, Phrase, Level, expr, disj, conj, neg, comp, sum, prod, signed, primary, tighter, left_of, operator_marks, counts, functions, looked_up}
 use Rattle.rule_syntax.specs.Grammar.{Joins, IsInt, IsPort, IsCell, IsPhrase, IsList}

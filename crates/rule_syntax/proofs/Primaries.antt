@@ -3,7 +3,7 @@ use Rattle.std.proofs.Common.{◌≡◌, ◌<◌, ◌≤◌, ℕ, zero, suc, Opt
 use Rattle.std.specs.Option.{option_or}
 use Rattle.rule_syntax.specs.declared.level.Level as L
 use Rattle.rule_syntax.specs.declared.level.Level.TheVariants.{Expression, Disjunction, Conjunction, Negation, Comparison, Sum, Product, Signed, Primary}
-use Rattle.rule_tree.specs.declared.node.Function.{Function}
+use Rattle.rule_tree.specs.declared.function.Function.{Function}
 use Rattle.rule_syntax.specs.declared.front.Front.{Front}
 use Rattle.rule_syntax.specs.Tokens.{Token}
 use Rattle.rule_tree.specs.Phrases.{Phrase, expr, comp, primary}

@@ -15,8 +15,9 @@ use Rattle.rule_syntax.specs.Reading.{Part, all_assigned, and_on, block, delay_b
 use Rattle.rule_syntax.specs.RulesRead.{AreNamed, AreRead, AreValues, IsNamedFront, IsRead, braced_value, give_of, is_number, set_of, phrase_for, value_for, values_of, words_of}
 use Rattle.rule_tree.specs.Scope.{Names, named_by, numbered}
 use Rattle.rule_syntax.specs.Shown.{token_of, tokens_of}
-use Rattle.rule_tree.specs.Sound.{a_number, a_truth, is_sort, sort_of}
-use Rattle.rule_syntax.specs.Terms.{IsFront, IsTerm, Misses, Stands, sort_or_none}
+use Rattle.rule_tree.specs.declared.function.Sort.TheVariants.{Number, Truth}
+use Rattle.rule_tree.specs.Sound.{is_sort, sort_of}
+use Rattle.rule_syntax.specs.Terms.{IsFront, IsTerm, Misses, Stands}
 use Rattle.rule_syntax.specs.Tokens.{Token, is_mark}
 use Rattle.rule_syntax.specs.declared.assigned.NamedFront.{NamedFront}
 use Rattle.rule_syntax.specs.declared.front.Front.{Front}
@@ -215,7 +216,7 @@ pub record IsMadeOf (r : ReadRule) (given : NamedValues) (delay condition : Term
   pub condition_node : r.tree.condition ≡ condition.node
   pub sets : r.tree.sets.items ≡ map set_of set.list.items
   pub repeats : r.port_twice ≡ has_repeat (words_of given.list.items)
-  pub sorted : r.right_sorts ≡ ((given.are_numbers && is_sort a_number (sort_or_none delay.sort) && is_sort a_truth (sort_or_none condition.sort)) && set.are_numbers)
+  pub sorted : r.right_sorts ≡ ((given.are_numbers && is_sort Number delay.sort && is_sort Truth condition.sort) && set.are_numbers)
 
 pub made_rule : (names : Names) (r : ReadRule) (given : NamedValues) (delay condition : Term) (set : NamedValues) (w : Written) → IsMadeOf r given delay condition set → Misses names r.lacks (named_by w)
     → AreNamed names Port given w.gives → Stands names delay w.delay → Stands names condition w.condition → AreNamed names Variable set w.sets → IsRead names r w
@@ -227,10 +228,10 @@ made_rule names r given delay condition set w made misses g d c s =
           (ap (map (λ (x : SetVariable). (x.variable, expr_of x.value))) made.sets ∙ sets_shown set.list.items ∙ s.values);
       misses = misses;
       repeats = made.repeats ∙ ap has_repeat g.words;
-      sorted = made.sorted ∙ ap (λ b. (b && is_sort a_number (sort_or_none delay.sort) && is_sort a_truth (sort_or_none condition.sort)) && set.are_numbers) g.sorted
-          ∙ ap (λ o. (list_all (is_number offsets) (map (value_for names Port) w.gives) && is_sort a_number o && is_sort a_truth (sort_or_none condition.sort)) && set.are_numbers) d.sorted
-          ∙ ap (λ o. (list_all (is_number offsets) (map (value_for names Port) w.gives) && is_sort a_number (sort_of (numbered names w.delay) offsets) && is_sort a_truth o) && set.are_numbers) c.sorted
-          ∙ ap (λ b. (list_all (is_number offsets) (map (value_for names Port) w.gives) && is_sort a_number (sort_of (numbered names w.delay) offsets) && is_sort a_truth (sort_of (numbered names w.condition) offsets)) && b) s.sorted;
+      sorted = made.sorted ∙ ap (λ b. (b && is_sort Number delay.sort && is_sort Truth condition.sort) && set.are_numbers) g.sorted
+          ∙ ap (λ o. (list_all (is_number offsets) (map (value_for names Port) w.gives) && is_sort Number o && is_sort Truth condition.sort) && set.are_numbers) d.sorted
+          ∙ ap (λ o. (list_all (is_number offsets) (map (value_for names Port) w.gives) && is_sort Number (sort_of (numbered names w.delay) offsets) && is_sort Truth o) && set.are_numbers) c.sorted
+          ∙ ap (λ b. (list_all (is_number offsets) (map (value_for names Port) w.gives) && is_sort Number (sort_of (numbered names w.delay) offsets) && is_sort Truth (sort_of (numbered names w.condition) offsets)) && b) s.sorted;
     }
   where
     offsets : ℕ

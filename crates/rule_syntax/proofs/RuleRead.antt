@@ -9,16 +9,14 @@ use Rattle.rule_syntax.specs.declared.refusal.RuleRefusal.{RuleRefusal}
 use Rattle.rule_syntax.specs.declared.refusal.RuleRefusal.TheVariants.{BadRule, Memory, TooLarge}
 use Rattle.rule_syntax.specs.declared.written.ReadRule.{ReadRule}
 use Rattle.rule_tree.specs.Expression as E
-use Rattle.rule_tree.specs.Expression.{Rule}
 use Rattle.rule_tree.specs.Phrases.{Written}
 use Rattle.rule_syntax.specs.Reading.{written_rule}
-use Rattle.rule_syntax.specs.RuleOf.{words_refused, judged, rule_of, Readable, RuleIs}
+use Rattle.rule_syntax.specs.RuleOf.{words_refused, judged, rule_of, Readable}
 use Rattle.rule_syntax.specs.RulesRead.{IsRead, AreRead}
 use Rattle.rule_tree.specs.Scope.{Names, extent_of, is_sound}
 use Rattle.rule_syntax.specs.Shown.{tokens_of}
 use Rattle.rule_syntax.specs.declared.token.Token as T
 use Rattle.rule_syntax.specs.Tokens.{Token, tokens, words_in, is_large}
-use Rattle.rule_syntax.proofs.OneOutcome.{has_one_outcome}
 use Rattle.rule_syntax.proofs.ReadSound.{read_sound}
 
 -- what an option holds that is another's, mapped
@@ -63,13 +61,7 @@ judged_rule names text ts w h e = rw (h.tokens, h.words, h.size, e) refl
 pub record Judged (names : Names) (text : Bytes) (result : Result RuleTree RuleRefusal) : Type 0 where
   pub rule : IfOk result (λ tree. rule_of names text ≡ Ok (E.rule_of tree))
   pub refusal : IfErr result (λ why. ((why ≡ Memory) → ⊥) → rule_of names text ≡ Err why)
-  pub grammar : IfOk result (λ tree. RuleIs names text (Ok (E.rule_of tree)))
-  pub order : IfErr result (λ why. ((why ≡ Memory) → ⊥) → RuleIs names text (Err why))
   pub sound : IfOk result (λ tree. is_sound (extent_of names) (E.rule_of tree) ≡ true)
-
--- an outcome that is computed is the one of the grammar
-pub by_grammar : (names : Names) (text : Bytes) (a : Result Rule RuleRefusal) → rule_of names text ≡ a → RuleIs names text a
-by_grammar names text a = (has_one_outcome names text a).0
 
 pub judged_read :
     (names : Names) (text : Bytes) (ts : List Token) (r : ReadRule) (result : Result RuleTree RuleRefusal) →
@@ -88,17 +80,9 @@ judged_read names text ts r result h a ok err =
     refused (Ok tree) e = e
     refused (Err why) e = λ _. e
 
-    grammar : (o : Result RuleTree RuleRefusal) → IfOk o (λ tree. rule_of names text ≡ Ok (E.rule_of tree)) → IfOk o (λ tree. RuleIs names text (Ok (E.rule_of tree)))
-    grammar (Ok tree) e = by_grammar names text (Ok (E.rule_of tree)) e
-    grammar (Err why) e = e
-
-    order : (o : Result RuleTree RuleRefusal) → IfErr o (λ why. rule_of names text ≡ Err why) → IfErr o (λ why. ((why ≡ Memory) → ⊥) → RuleIs names text (Err why))
-    order (Ok tree) e = e
-    order (Err why) e = λ _. by_grammar names text (Err why) e
-
     by_rule : (o : Option Written) → written_rule ts ≡ o → AreRead names o (Some r) → Judged names text result
     by_rule None e a = absurd a
     by_rule (Some w) e a =
         let rule : IfOk result (λ tree. rule_of names text ≡ Ok (E.rule_of tree)) = subst (λ x. IfOk result (λ tree. x ≡ Ok (E.rule_of tree))) (judged_rule names text ts w h e) (ok names w a) in
         let refusal : IfErr result (λ why. rule_of names text ≡ Err why) = subst (λ x. IfErr result (λ why. x ≡ Err why)) (judged_rule names text ts w h e) (err names w a) in
-        record { rule = rule; refusal = refused result refusal; grammar = grammar result rule; order = order result refusal; sound = sound result rule }
+        record { rule = rule; refusal = refused result refusal; sound = sound result rule }

@@ -7,20 +7,19 @@ use Rattle.std.specs.Cmp.Lexicographic.{pointwise}
 use Rattle.std.proofs.lemmas.List.Folds.{list_any-append}
 use mathlib.Core.Former.{Count}
 use Rattle.rule_tree.specs.declared.node.Binary.{Binary}
-use Rattle.rule_tree.specs.declared.node.Function.{Function}
+use Rattle.rule_tree.specs.declared.function.Function.{Function}
+use Rattle.rule_tree.specs.declared.function.Sort.{Sort}
 use Rattle.rule_tree.specs.declared.node.Node.{Node, Row_of-Node, end_of-Node, more_of-Node, items-the_row-Node, items_hidden-the_row-Node-0}
 use Rattle.rule_tree.specs.declared.node.Node.TheVariants.{Call as Call_of, Call'}
 use Rattle.rule_syntax.specs.declared.term.Lacks.{Lacks}
-use Rattle.rule_syntax.specs.declared.term.Sort as T
 use Rattle.rule_syntax.specs.declared.term.Term.{Term}
 use Rattle.rule_tree.specs.Expression as E
 use Rattle.rule_tree.specs.Expression.{Exprs, expr_of, exprs_of}
 use Rattle.rule_tree.specs.Phrases as P
 use Rattle.rule_tree.specs.Phrases.{Phrase, phrases}
 use Rattle.rule_tree.specs.Scope.{Names, Named, named_in, all_named_in, numbered, all_numbered, is_no_neighbour, is_no_variable, is_no_port}
-use Rattle.rule_tree.specs.Sound as S
 use Rattle.rule_tree.specs.Sound.{Signature, same_sorts, applied, in_front, is_sort, same_sort, sort_of, sorts_of, binary_signature, function_signature}
-use Rattle.rule_syntax.specs.Terms.{Misses, Stands, AllStand, sort_shown, sort_or_none}
+use Rattle.rule_syntax.specs.Terms.{Misses, Stands, AllStand}
 
 -- ---- what is lacking
 
@@ -51,11 +50,11 @@ all_miss (t ∷ ts) first rest both l e h k =
 
 -- ---- two operands
 
-pub two_stands : (operator : Binary) (left right term : Term) → expr_of term.node ≡ E.two operator (expr_of left.node) (expr_of right.node) → sort_or_none term.sort ≡ applied (binary_signature operator) (in_front (sort_or_none left.sort) (in_front (sort_or_none right.sort) (Some []))) → ((names : Names) (ns ms : List Named) → Misses names left.lacks ns → Misses names right.lacks ms → Misses names term.lacks (ns ++ ms)) → (names : Names) (x y : Phrase) → Stands names left x → Stands names right y → Stands names term (P.two operator x y)
+pub two_stands : (operator : Binary) (left right term : Term) → expr_of term.node ≡ E.two operator (expr_of left.node) (expr_of right.node) → term.sort ≡ applied (binary_signature operator) (in_front left.sort (in_front right.sort (Some []))) → ((names : Names) (ns ms : List Named) → Misses names left.lacks ns → Misses names right.lacks ms → Misses names term.lacks (ns ++ ms)) → (names : Names) (x y : Phrase) → Stands names left x → Stands names right y → Stands names term (P.two operator x y)
 two_stands operator left right term tree sorted misses names x y l r = record {
   tree = tree ∙ ap (λ e. E.two operator e (expr_of right.node)) l.tree ∙ ap (λ e. E.two operator (numbered names x) e) r.tree;
   sorted =
-      sorted ∙ ap (λ s. applied (binary_signature operator) (in_front s (in_front (sort_or_none right.sort) (Some [])))) l.sorted
+      sorted ∙ ap (λ s. applied (binary_signature operator) (in_front s (in_front right.sort (Some [])))) l.sorted
       ∙ ap (λ s. applied (binary_signature operator) (in_front (sort_of (numbered names x) (length names.offsets)) (in_front s (Some [])))) r.sorted;
   misses = misses names (named_in x) (named_in y) l.misses r.misses;
 }
@@ -94,25 +93,25 @@ call_tree f nodes terms e names xs h =
 
 -- ---- a call's sort
 
-abbrev given_sorts : List Term → Option (List S.Sort)
+abbrev given_sorts : List Term → Option (List Sort)
 given_sorts [] = Some []
-given_sorts (t ∷ ts) = in_front (sort_or_none t.sort) (given_sorts ts)
+given_sorts (t ∷ ts) = in_front t.sort (given_sorts ts)
 
 sorts_stand : (names : Names) (terms : List Term) (xs : List Phrase) → AllStand names terms xs → sorts_of (all_numbered names (phrases xs)) (length names.offsets) ≡ given_sorts terms
 sorts_stand names [] [] h = refl
 sorts_stand names [] (x ∷ xs) h = absurd h
 sorts_stand names (t ∷ ts) [] h = absurd h
 sorts_stand names (t ∷ ts) (x ∷ xs) h =
-    ap (λ s. in_front s (sorts_of (all_numbered names (phrases xs)) (length names.offsets))) (sym h.0.sorted) ∙ ap (in_front (sort_or_none t.sort)) (sorts_stand names ts xs h.1)
+    ap (λ s. in_front s (sorts_of (all_numbered names (phrases xs)) (length names.offsets))) (sym h.0.sorted) ∙ ap (in_front t.sort) (sorts_stand names ts xs h.1)
 
-abbrev is_of_sort : T.Sort → Term → Bool
-is_of_sort a t = is_sort (sort_shown a) (sort_or_none t.sort)
+abbrev is_of_sort : Sort → Term → Bool
+is_of_sort a t = is_sort a t.sort
 
-abbrev accepts : List S.Sort → Option (List S.Sort) → Bool
+abbrev accepts : List Sort → Option (List Sort) → Bool
 accepts sorts None = false
 accepts sorts (Some given) = same_sorts sorts given
 
-never : (s : Option S.Sort) (given : Option (List S.Sort)) → accepts [] (in_front s given) ≡ false
+never : (s : Option Sort) (given : Option (List Sort)) → accepts [] (in_front s given) ≡ false
 never None given = refl
 never (Some a) None = refl
 never (Some a) (Some rest) = refl
@@ -121,38 +120,38 @@ both_false : (b : Bool) → false ≡ (b && false)
 both_false true = refl
 both_false false = refl
 
-first_and_rest : (a : S.Sort) (sorts : List S.Sort) (s : Option S.Sort) (given : Option (List S.Sort)) → accepts (a ∷ sorts) (in_front s given) ≡ (is_sort a s && accepts sorts given)
+first_and_rest : (a : Sort) (sorts : List Sort) (s : Option Sort) (given : Option (List Sort)) → accepts (a ∷ sorts) (in_front s given) ≡ (is_sort a s && accepts sorts given)
 first_and_rest a sorts None given = refl
 first_and_rest a sorts (Some b) None = both_false (same_sort a b)
 first_and_rest a sorts (Some b) (Some rest) = refl
 
-accepts_terms : (sorts : List T.Sort) (terms : List Term) → accepts (map sort_shown sorts) (given_sorts terms) ≡ pointwise is_of_sort sorts terms
+accepts_terms : (sorts : List Sort) (terms : List Term) → accepts sorts (given_sorts terms) ≡ pointwise is_of_sort sorts terms
 accepts_terms [] [] = refl
-accepts_terms [] (t ∷ ts) = never (sort_or_none t.sort) (given_sorts ts)
+accepts_terms [] (t ∷ ts) = never t.sort (given_sorts ts)
 accepts_terms (a ∷ sorts) [] = refl
 accepts_terms (a ∷ sorts) (t ∷ ts) =
-    first_and_rest (sort_shown a) (map sort_shown sorts) (sort_or_none t.sort) (given_sorts ts) ∙ ap (λ b. is_of_sort a t && b) (accepts_terms sorts ts)
+    first_and_rest a sorts t.sort (given_sorts ts) ∙ ap (λ b. is_of_sort a t && b) (accepts_terms sorts ts)
 
-abbrev signature : List S.Sort → S.Sort → Signature
+abbrev signature : List Sort → Sort → Signature
 signature takes gives = record { takes = takes; gives = gives }
 
-given_where : (sorts : List S.Sort) (gives : T.Sort) (b : Bool) (given : List S.Sort) → b ≡ same_sorts sorts given → sort_or_none (then_some b gives) ≡ applied (signature sorts (sort_shown gives)) (Some given)
+given_where : (sorts : List Sort) (gives : Sort) (b : Bool) (given : List Sort) → b ≡ same_sorts sorts given → then_some b gives ≡ applied (signature sorts gives) (Some given)
 given_where sorts gives b given e = go b (same_sorts sorts given) e
   where
-    go : (b d : Bool) → b ≡ d → sort_or_none (then_some b gives) ≡ cond d (Some (sort_shown gives)) None
+    go : (b d : Bool) → b ≡ d → then_some b gives ≡ cond d (Some gives) None
     go true true e = refl
     go true false e = cc e
     go false true e = cc e
     go false false e = refl
 
-applied_where : (sorts : List S.Sort) (gives : T.Sort) (b : Bool) (given : Option (List S.Sort)) → b ≡ accepts sorts given → sort_or_none (then_some b gives) ≡ applied (signature sorts (sort_shown gives)) given
-applied_where sorts gives b None e = ap (λ b. sort_or_none (then_some b gives)) e
+applied_where : (sorts : List Sort) (gives : Sort) (b : Bool) (given : Option (List Sort)) → b ≡ accepts sorts given → then_some b gives ≡ applied (signature sorts gives) given
+applied_where sorts gives b None e = ap (λ b. then_some b gives) e
 applied_where sorts gives b (Some given) e = given_where sorts gives b given e
 
-pub call_sorted : (f : Function) (sorts : List T.Sort) (gives : T.Sort) (terms : List Term) (b : Bool) (r : Option T.Sort) → map sort_shown sorts ≡ (function_signature f).takes → (function_signature f).gives ≡ sort_shown gives → b ≡ pointwise is_of_sort sorts terms → r ≡ then_some b gives → (names : Names) (xs : List Phrase) → AllStand names terms xs → sort_or_none r ≡ applied (function_signature f) (sorts_of (all_numbered names (phrases xs)) (length names.offsets))
+pub call_sorted : (f : Function) (sorts : List Sort) (gives : Sort) (terms : List Term) (b : Bool) (r : Option Sort) → sorts ≡ (function_signature f).takes → (function_signature f).gives ≡ gives → b ≡ pointwise is_of_sort sorts terms → r ≡ then_some b gives → (names : Names) (xs : List Phrase) → AllStand names terms xs → r ≡ applied (function_signature f) (sorts_of (all_numbered names (phrases xs)) (length names.offsets))
 call_sorted f sorts gives terms b r et eg eb er names xs h =
-    ap sort_or_none er
-    ∙ applied_where (map sort_shown sorts) gives b (given_sorts terms) (eb ∙ sym (accepts_terms sorts terms))
-    ∙ ap (λ ts. applied (signature ts (sort_shown gives)) (given_sorts terms)) et
+    er
+    ∙ applied_where sorts gives b (given_sorts terms) (eb ∙ sym (accepts_terms sorts terms))
+    ∙ ap (λ ts. applied (signature ts gives) (given_sorts terms)) et
     ∙ ap (λ s. applied (signature (function_signature f).takes s) (given_sorts terms)) (sym eg)
     ∙ ap (applied (function_signature f)) (sym (sorts_stand names terms xs h))

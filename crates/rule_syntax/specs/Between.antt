@@ -3,7 +3,7 @@ use Rattle.std.specs.Prelude.{ℕ, ⊤, ◌≡◌, Option, Some, None, List, [],
 use Rattle.std.specs.Option.{option_map}
 use Rattle.rule_tree.specs.declared.node.Unary.{Unary}
 use Rattle.rule_tree.specs.declared.node.Binary.{Binary}
-use Rattle.rule_tree.specs.declared.node.Function.{Function}
+use Rattle.rule_tree.specs.declared.function.Function.{Function}
 use Rattle.rule_syntax.specs.declared.between.Arguments.{Arguments}
 use Rattle.rule_syntax.specs.Tokens.{Token}
 use Rattle.rule_tree.specs.Phrases as P

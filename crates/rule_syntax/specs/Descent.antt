@@ -8,7 +8,7 @@ use Rattle.quantity.specs.Bytes.{Bytes, is_empty}
 use Rattle.quantity.specs.Literals.{unsigned_literal}
 use Rattle.rule_tree.specs.declared.node.Unary.{Unary}
 use Rattle.rule_tree.specs.declared.node.Unary.TheVariants.{Plus, Minus, Not}
-use Rattle.rule_tree.specs.declared.node.Function.{Function}
+use Rattle.rule_tree.specs.declared.function.Function.{Function}
 use Rattle.rule_syntax.specs.Tokens.{Token, word, number, mark, is_mark, is_word}
 use Rattle.rule_tree.specs.Phrases as P
 use Rattle.rule_tree.specs.Phrases.{Phrase, Level, expr, disj, conj, neg, comp, sum, prod, signed, primary, functions, looked_up}

@@ -5,7 +5,7 @@ use Rattle.quantity.specs.declared.value.Value.TheVariants.{Undefined, Num}
 use Rattle.rule_tree.specs.declared.node.Unary.TheVariants.{Plus, Minus, Not}
 use Rattle.rule_tree.specs.declared.node.Binary.{Binary}
 use Rattle.rule_tree.specs.declared.node.Count.{Count}
-use Rattle.rule_tree.specs.declared.node.Function.{Function}
+use Rattle.rule_tree.specs.declared.function.Function.{Function}
 use Rattle.quantity.specs.Bytes.{Bytes}
 use Rattle.quantity.specs.Digits.{whole_number}
 use Rattle.quantity.specs.Literals.{unsigned_literal}

@@ -9,6 +9,7 @@ pub mod Descent
 pub mod Between
 pub mod RulesRead
 pub mod TokenSteps
-pub mod FunctionWords
 pub mod AtomParts
 pub mod CellParts
+pub mod RefusalExamples
+pub mod ReadExamples

@@ -9,7 +9,7 @@ use Rattle.quantity.specs.declared.value.Value.TheVariants.{Undefined, Num}
 use Rattle.rule_tree.specs.declared.node.Unary.{Unary}
 use Rattle.rule_tree.specs.declared.node.Unary.TheVariants.{Plus, Minus, Not}
 use Rattle.rule_tree.specs.declared.node.Binary.{Binary}
-use Rattle.rule_tree.specs.declared.node.Function.{Function}
+use Rattle.rule_tree.specs.declared.function.Function.{Function}
 use Rattle.quantity.specs.Bytes.{Bytes, is_empty, parts_outside, all_there}
 use Rattle.quantity.specs.Digits.{whole_number, with_sign_of, has_length}
 use Rattle.quantity.specs.Literals.{unsigned_literal}

@@ -13,7 +13,8 @@ use Rattle.rule_syntax.specs.Reading.{Part, and_on, block, cell_phrase_before, g
 use Rattle.rule_syntax.specs.RuleOf.{has_port_twice}
 use Rattle.rule_tree.specs.Scope.{Names, Named, a_port, a_variable, named_by, named_in, numbered, port_number, rule_in, variable_number, has_right_sorts}
 use Rattle.rule_syntax.specs.Shown.{tokens_of}
-use Rattle.rule_tree.specs.Sound.{a_number, is_sort, sort_of}
+use Rattle.rule_tree.specs.declared.function.Sort.TheVariants.{Number}
+use Rattle.rule_tree.specs.Sound.{is_sort, sort_of}
 use Rattle.rule_syntax.specs.Terms.{Misses}
 use Rattle.rule_syntax.specs.Tokens.{Token, word, mark, is_mark}
 use Rattle.rule_syntax.specs.declared.named.Kind.{Kind}
@@ -64,7 +65,7 @@ abbrev pub names_for : Kind → Assigned → List Named
 names_for kind x = named_for kind x.name ∷ named_in x.phrase
 
 abbrev pub is_number : ℕ → ℕ × Expr → Bool
-is_number offsets v = is_sort a_number (sort_of v.1 offsets)
+is_number offsets v = is_sort Number (sort_of v.1 offsets)
 
 abbrev pub words_of : List NamedValue → List Bytes
 words_of vs = map (λ (v : NamedValue). v.word.now) vs

@@ -4,23 +4,12 @@ use Rattle.std.specs.List.{list_any}
 use Rattle.rule_tree.specs.Expression.{expr_of}
 use Rattle.rule_tree.specs.Phrases.{Phrase}
 use Rattle.rule_tree.specs.Scope.{Names, Named, named_in, numbered, is_no_neighbour, is_no_variable, is_no_port}
-use Rattle.rule_tree.specs.Sound as E
 use Rattle.rule_tree.specs.Sound.{sort_of}
 use Rattle.rule_syntax.specs.Reading.{Part}
 use Rattle.rule_syntax.specs.Shown.{tokens_of}
 use Rattle.rule_syntax.specs.declared.front.Front.{Front}
-use Rattle.rule_syntax.specs.declared.term.Sort as T
-use Rattle.rule_syntax.specs.declared.term.Sort.TheVariants.{Number, Truth}
 use Rattle.rule_syntax.specs.declared.term.Lacks.{Lacks}
 use Rattle.rule_syntax.specs.declared.term.Term.{Term}
-
-abbrev pub sort_shown : T.Sort → E.Sort
-sort_shown Number = E.a_number
-sort_shown Truth = E.a_truth
-
-abbrev pub sort_or_none : Option T.Sort → Option E.Sort
-sort_or_none None = None
-sort_or_none (Some s) = Some (sort_shown s)
 
 -- just these kinds of names are lacking
 pub record Misses (names : Names) (l : Lacks) (ns : List Named) : Type 0 where
@@ -31,7 +20,7 @@ pub record Misses (names : Names) (l : Lacks) (ns : List Named) : Type 0 where
 -- a term is what a phrase is in a group
 pub record Stands (names : Names) (t : Term) (x : Phrase) : Type 0 where
   pub tree : expr_of t.node ≡ numbered names x
-  pub sorted : sort_or_none t.sort ≡ sort_of (numbered names x) (length names.offsets)
+  pub sorted : t.sort ≡ sort_of (numbered names x) (length names.offsets)
   pub misses : Misses names t.lacks (named_in x)
 
 -- the same, where there is a phrase

@@ -8,7 +8,7 @@ use Rattle.quantity.specs.declared.value.Compare.TheVariants.{Equal, Greater}
 use Rattle.rule_tree.specs.declared.node.Unary.TheVariants.{Plus, Minus, Not}
 use Rattle.rule_tree.specs.declared.node.Binary.TheVariants.{Imp, Or, And, Cmp, Add, Sub, Mul}
 use Rattle.rule_tree.specs.declared.node.Count.TheVariants.{Ones}
-use Rattle.rule_tree.specs.declared.node.Function.TheVariants.{Min}
+use Rattle.rule_tree.specs.declared.function.Function.TheVariants.{Min}
 use Rattle.rule_tree.specs.Expression.{Expr, Rule, number, truth, neighbour, variable, now, counted, one, two, call, nil, cons}
 use Rattle.rule_tree.specs.Meaning.{whole}
 use Rattle.quantity.specs.Bytes.{Bytes}

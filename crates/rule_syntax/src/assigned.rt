@@ -12,6 +12,7 @@ ghost use Rattle.rule_syntax.specs.Tokens.{is_mark};
 use crate::named::{Kind, NamedValues};
 use crate::names::Names;
 use crate::phrase::phrase;
+use crate::table::same_mark;
 use crate::token::{Mark, Token};
 use quantity::OutOfMemory;
 use std::alloc::{AllocError, Global};
@@ -138,7 +139,7 @@ pub(crate) fn is_question(token: &Token<'_>) -> bool
 fn is_becomes(mark: Mark) -> bool
     ensures { result ≡ bytes_eq (text_of mark) (codes ":=") }
 {
-    mark == Mark::Becomes
+    same_mark(mark, Mark::Becomes)
 }
 
 /// Whether a value for a port stands at the front.

@@ -16,11 +16,11 @@ ghost use Rattle.rule_syntax.specs.Tokens.{is_mark};
 use crate::cell::{WrittenCell, after_mark, place_before, port_before};
 use crate::front::Front;
 use crate::names::Names;
-use rule_tree::Function;
 use crate::table::{count_in, function_in, is_mark};
 use crate::term::Term;
 use crate::token::{Mark, Token};
 use quantity::{Tri, Value};
+use rule_tree::Function;
 
 /// The tokens between an opening mark at the front and the first closing one, and those behind it.
 pub(crate) fn block<'t, 'a>(

@@ -9,11 +9,11 @@ ghost use Rattle.rule_syntax.specs.Terms.{IsFront, Stands};
 use crate::cell::after_mark;
 use crate::front::Front;
 use crate::level::Level;
-use rule_tree::{Binary, Function, Unary};
 use crate::table::{argument_count, not_in, operator_in, sign_in};
 use crate::term::Term;
 use crate::token::{Mark, Token};
 use quantity::OutOfMemory;
+use rule_tree::{Binary, Function, Unary};
 use std::alloc::Global;
 
 /// The arguments at the front of tokens, and the tokens behind them.

@@ -12,7 +12,7 @@ use crate::token::{Mark, Token};
 use quantity::digits::whole_number;
 
 /// A neighbour by its written coordinates, and the port that is read there.
-#[derive(Clone, Copy, Debug)]
+#[derive(Clone, Copy)]
 pub(crate) struct WrittenCell<'a> {
     pub row: i64,
     pub column: i64,

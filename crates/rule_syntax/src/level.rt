@@ -1,7 +1,7 @@
 // The levels of the grammar.
 
 /// A level of the grammar of phrases, the loosest first.
-#[derive(Clone, Copy, PartialEq, Eq, Debug)]
+#[derive(Clone, Copy)]
 pub(crate) enum Level {
     /// `imp`, `eqv`
     Expression,

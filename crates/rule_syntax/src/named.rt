@@ -7,20 +7,21 @@ ghost use Rattle.rule_syntax.specs.Grammar.{at_out};
 ghost use Rattle.rule_tree.specs.Phrases.{Assigned, Phrase};
 ghost use Rattle.rule_syntax.specs.RulesRead.{AreNamed, give_of, mark_for, named_for, number_for, set_of, phrase_for, words_of};
 ghost use Rattle.rule_syntax.specs.Shown.{AreFew, names_of, text_of};
-ghost use Rattle.rule_tree.specs.Sound.{a_number, a_truth, is_sort};
-ghost use Rattle.rule_syntax.specs.Terms.{Misses, Stands, sort_or_none};
+ghost use Rattle.rule_tree.specs.Sound.{is_sort};
+ghost use Rattle.rule_syntax.specs.Terms.{Misses, Stands};
 ghost use Rattle.rule_syntax.specs.declared.named.NamedValue.{NamedValue as AnyValue};
 
 use crate::names::Names;
-use rule_tree::{Give, Node, SetVariable};
 use crate::scope::{port_number, variable_number};
-use crate::term::{Lacks, Sort, Term};
+use crate::table::same_mark;
+use crate::term::{Lacks, Term};
 use crate::token::Mark;
 use quantity::OutOfMemory;
+use rule_tree::{Give, Node, SetVariable, Sort};
 use std::alloc::{AllocError, Global};
 
 /// What a value is for.
-#[derive(Clone, Copy, PartialEq, Eq, Debug)]
+#[derive(Clone, Copy)]
 pub(crate) enum Kind {
     Port,
     Variable,
@@ -32,8 +33,8 @@ impl Kind {
         ensures { result ≡ bytes_eq (text_of mark) (mark_for self) }
     {
         match self {
-            Kind::Port => mark == Mark::Tilde,
-            Kind::Variable => mark == Mark::Dollar,
+            Kind::Port => same_mark(mark, Mark::Tilde),
+            Kind::Variable => same_mark(mark, Mark::Dollar),
         }
     }
 
@@ -127,13 +128,13 @@ impl<'a> NamedValues<'a> {
 }
 
 pub(crate) fn is_number(term: &Term) -> bool
-    ensures { result ≡ is_sort a_number (sort_or_none term.now.sort) }
+    ensures { result ≡ is_sort Sort.Number term.now.sort }
 {
     matches!(term.sort, Some(Sort::Number))
 }
 
 pub(crate) fn is_truth(term: &Term) -> bool
-    ensures { result ≡ is_sort a_truth (sort_or_none term.now.sort) }
+    ensures { result ≡ is_sort Sort.Truth term.now.sort }
 {
     matches!(term.sort, Some(Sort::Truth))
 }

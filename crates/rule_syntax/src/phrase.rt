@@ -16,10 +16,10 @@ use crate::cell::after_mark;
 use crate::front::Front;
 use crate::level::Level;
 use crate::names::Names;
-use rule_tree::Function;
 use crate::term::Term;
 use crate::token::{Mark, Token};
 use quantity::OutOfMemory;
+use rule_tree::Function;
 use std::alloc::Global;
 
 /// The expression that all tokens are; None where they are none.

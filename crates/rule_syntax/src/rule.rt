@@ -2,17 +2,17 @@
 ghost use Rattle.std.specs.Prelude.{◌≡◌, true, IfOk, IfErr};
 ghost use Rattle.std.specs.declared.result.Result.TheVariants.{Ok, Err};
 ghost use Rattle.rule_tree.specs.Expression as E;
-ghost use Rattle.rule_syntax.specs.RuleOf.{judged, rule_of, RuleIs};
+ghost use Rattle.rule_syntax.specs.RuleOf.{judged, rule_of};
 ghost use Rattle.rule_syntax.specs.RulesRead.{IsRead};
 ghost use Rattle.rule_tree.specs.Scope.{extent_of, is_sound};
 ghost use Rattle.rule_syntax.specs.Shown.{AreFew, names_of};
 
 use crate::names::Names;
-use rule_tree::RuleTree;
 use crate::refusal::RuleRefusal;
 use crate::tokens::{is_large, tokens, words_refused};
 use crate::written::{ReadRule, written_rule};
 use quantity::OutOfMemory;
+use rule_tree::RuleTree;
 use std::alloc::Global;
 
 /// The rule language as text.
@@ -22,13 +22,12 @@ impl Rule {
     /// The rule that a text in lower-case letters is in a group, or the first refusal that applies: BadRule where a
     /// piece is no token; RandomRefused or UnknownFunction at the first word, not behind `$` or `~`, that is none of
     /// the language; TooLarge; BadRule where the tokens are no rule, or a port is given twice; NotANeighbour;
-    /// UnknownVariable; UnknownNeighbourPort; BadSort. Memory says nothing of the text.
+    /// UnknownVariable; UnknownNeighbourPort; BadSort. Memory says nothing of the text. The law `one_outcome` says that
+    /// this is the one outcome that the grammar gives.
     pub fn read(alloc: Global, text: &[u8], names: &Names) -> Result<RuleTree, RuleRefusal>
         requires { AreFew (names_of names.now) }
         ensures rule { IfOk result (λ tree. rule_of (names_of names.now) text.now ≡ Ok (E.rule_of tree)) }
         ensures refusal { IfErr result (λ why. ((why ≡ RuleRefusal.Memory) → ⊥) → rule_of (names_of names.now) text.now ≡ Err why) }
-        ensures grammar { IfOk result (λ tree. RuleIs (names_of names.now) text.now (Ok (E.rule_of tree))) }
-        ensures order { IfErr result (λ why. ((why ≡ RuleRefusal.Memory) → ⊥) → RuleIs (names_of names.now) text.now (Err why)) }
         ensures sound { IfOk result (λ tree. is_sound (extent_of (names_of names.now)) (E.rule_of tree) ≡ true) }
     {
         let Some(tokens) = tokens(alloc, text)? else {

@@ -3,7 +3,7 @@ ghost use Rattle.std.specs.Prelude.{◌≡◌, [], ◌∷◌};
 ghost use Rattle.std.specs.List.{find};
 ghost use Rattle.std.specs.Str.{bytes_eq};
 ghost use Rattle.rule_syntax.specs.Descent.{not_in, sign_in};
-ghost use Rattle.rule_syntax.specs.FunctionWords.{function_word};
+ghost use Rattle.rule_tree.specs.Functions.{row};
 ghost use Rattle.rule_tree.specs.Phrases as P;
 ghost use Rattle.rule_tree.specs.Phrases.{argument_count, counts, functions, looked_up, operator_marks, operator_words};
 ghost use Rattle.rule_syntax.specs.Reading.{operator_in};
@@ -11,29 +11,9 @@ ghost use Rattle.rule_syntax.specs.Shown.{level_of, text_of, token_of};
 ghost use Rattle.rule_syntax.specs.Tokens.{is_mark};
 
 use crate::level::Level;
-use rule_tree::{Binary, Count, Function, Unary};
 use crate::token::{Mark, Token};
 use quantity::Compare;
-
-const FUNCTIONS: [Function; 17] = [
-    Function::StateCount,
-    Function::CellPos,
-    Function::If,
-    Function::Ifu,
-    Function::Abs,
-    Function::Sign,
-    Function::Sqrt,
-    Function::Trunc,
-    Function::Fractional,
-    Function::Round,
-    Function::Min,
-    Function::Max,
-    Function::Remainder,
-    Function::Even,
-    Function::Odd,
-    Function::IsInt,
-    Function::IsUndefined,
-];
+use rule_tree::{Binary, Count, Function, Unary};
 
 /// The operator that a token is between two operands of a level.
 pub(crate) fn operator_in(level: Level, token: Token<'_>) -> Option<Binary>
@@ -142,10 +122,11 @@ pub(crate) fn is_mark(mark: Mark, token: Token<'_>) -> bool
     }
 }
 
-fn same_mark(mark: Mark, other: Mark) -> bool
+/// Whether two marks are one.
+pub(crate) fn same_mark(mark: Mark, other: Mark) -> bool
     ensures { result ≡ bytes_eq (text_of mark) (text_of other) }
 {
-    mark == other
+    mark.text() == other.text()
 }
 
 /// The sign that a token is before an operand.
@@ -174,40 +155,16 @@ pub(crate) fn not_in(token: Token<'_>) -> Option<Unary>
 pub(crate) fn function_in(word: &[u8]) -> Option<Function>
     ensures { result ≡ looked_up functions word.now }
 {
-    named(&FUNCTIONS, word)
+    named(&Function::ALL, word)
 }
 
 fn named(functions: &[Function], word: &[u8]) -> Option<Function>
-    ensures { result ≡ find (λ f. bytes_eq (function_word f) word.now) functions.now }
+    ensures { result ≡ find (λ f. bytes_eq (row f).word word.now) functions.now }
 {
     functions
         .iter()
         .copied()
-        .find(|function| function_word(*function) == word)
-}
-
-fn function_word(function: Function) -> &'static [u8]
-    ensures { result.now ≡ function_word function }
-{
-    match function {
-        Function::StateCount => b"statecount",
-        Function::CellPos => b"cellpos",
-        Function::If => b"if",
-        Function::Ifu => b"ifu",
-        Function::Abs => b"abs",
-        Function::Sign => b"sign",
-        Function::Sqrt => b"sqrt",
-        Function::Trunc => b"trunc",
-        Function::Round => b"round",
-        Function::Fractional => b"fractional",
-        Function::Min => b"min",
-        Function::Max => b"max",
-        Function::Remainder => b"remainder",
-        Function::Even => b"even",
-        Function::Odd => b"odd",
-        Function::IsInt => b"isint",
-        Function::IsUndefined => b"isundefined",
-    }
+        .find(|function| function.word() == word)
 }
 
 /// The count of this name.
@@ -229,21 +186,5 @@ pub(crate) fn count_in(word: &[u8]) -> Option<Count>
 pub(crate) fn argument_count(function: Function) -> usize
     ensures { result ≡ argument_count function }
 {
-    match function {
-        Function::CellPos
-        | Function::Abs
-        | Function::Sign
-        | Function::Sqrt
-        | Function::Trunc
-        | Function::Round
-        | Function::Fractional
-        | Function::Even
-        | Function::Odd
-        | Function::IsInt
-        | Function::IsUndefined
-        | Function::StateCount => 1,
-        Function::Min | Function::Max | Function::Remainder => 2,
-        Function::If => 3,
-        Function::Ifu => 4,
-    }
+    function.takes().len()
 }

@@ -5,27 +5,19 @@ ghost use Rattle.rule_tree.specs.Expression.{expr_of};
 ghost use Rattle.rule_tree.specs.Phrases as P;
 ghost use Rattle.rule_tree.specs.Scope.{a_cell, a_port, a_variable, all_named_in, offset_number};
 ghost use Rattle.rule_syntax.specs.Shown.{AreFew, cell_of, names_of};
-ghost use Rattle.rule_tree.specs.Sound.{a_number};
-ghost use Rattle.rule_syntax.specs.Terms.{AllStand, Misses, Stands, sort_or_none};
+ghost use Rattle.rule_syntax.specs.Terms.{AllStand, Misses, Stands};
 ghost use Rattle.rule_syntax.specs.declared.term.Term.{Term as AnyTerm};
 
 use crate::cell::WrittenCell;
 use crate::names::Names;
-use rule_tree::{Binary, Count, Function, Node, Unary};
 use crate::scope::{offset_number, port_number, variable_number};
 use crate::sort::{sort_of_call, sort_of_one, sort_of_two};
 use quantity::{OutOfMemory, Tri, Value};
+use rule_tree::{Binary, Count, Function, Node, Sort, Unary};
 use std::alloc::{AllocError, Global};
 
-/// What an expression gives.
-#[derive(Clone, Copy, PartialEq, Eq, Debug)]
-pub(crate) enum Sort {
-    Number,
-    Truth,
-}
-
 /// Which kinds of names stand in an expression that the group has not.
-#[derive(Clone, Copy, Debug)]
+#[derive(Clone, Copy)]
 pub(crate) struct Lacks {
     /// A cell that is no offset, or has a wrong number of coordinates.
     pub neighbour: bool,
@@ -284,7 +276,7 @@ fn coordinates(cell: &WrittenCell<'_>) -> u8
 
 /// The sort of an offset of this number, among so many.
 fn sort_at(offset: u8, offsets: usize) -> Option<Sort>
-    ensures { sort_or_none result ≡ (if nat_lt offset offsets then Some a_number else None) }
+    ensures { result ≡ (if nat_lt offset offsets then Some Sort.Number else None) }
 {
     if usize::from(offset) < offsets {
         Some(Sort::Number)

@@ -1,10 +1,22 @@
 // Laws of rules as texts.
 ghost use Rattle.rule_syntax.specs.RuleOf.{FindsTheGrammar, HasOneOutcome, ReadsOneWay, ReadsSoundRules};
+ghost use Rattle.rule_syntax.specs.ReadExamples.{TextsAreRead};
+ghost use Rattle.rule_syntax.specs.RefusalExamples.{TextsAreRefused};
 ghost use Rattle.rule_syntax.specs.TextExamples.{DepthIsBounded, RulesAreRead, TokensAreBounded};
 
 /// Texts of rules and what they are read to, or why they are refused.
 pub fn examples()
     ensures { RulesAreRead }
+{}
+
+/// Texts and the trees that they are: precedence, grouping, cells, functions, whole rules.
+pub fn trees()
+    ensures { TextsAreRead }
+{}
+
+/// Texts that are refused, for each reason, and which of two reasons is told.
+pub fn refusals()
+    ensures { TextsAreRefused }
 {}
 
 /// At most 64 parentheses are open at once.

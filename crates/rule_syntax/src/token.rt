@@ -9,7 +9,7 @@ ghost use Rattle.rule_syntax.specs.Shown.{text_of};
 ghost use Rattle.rule_syntax.specs.Tokens.{marks};
 
 /// A mark of the rule language.
-#[derive(Clone, Copy, PartialEq, Eq, Debug)]
+#[derive(Clone, Copy)]
 pub enum Mark {
     /// `?`
     Question,
@@ -54,7 +54,7 @@ pub enum Mark {
 }
 
 /// A token of a rule: a word, a number without a sign, or a mark.
-#[derive(Clone, Copy, Debug)]
+#[derive(Clone, Copy)]
 pub enum Token<'a> {
     Word(&'a [u8]),
     Number(&'a [u8]),
@@ -92,7 +92,8 @@ impl Mark {
         mark_in(&MARKS, text)
     }
 
-    fn text(self) -> &'static [u8]
+    /// Its text.
+    pub(crate) fn text(self) -> &'static [u8]
         ensures { result.now ≡ text_of self }
     {
         match self {

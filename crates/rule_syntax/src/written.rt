@@ -12,11 +12,11 @@ use crate::atom::{block, cell_before, number_before};
 use crate::front::Front;
 use crate::named::{Kind, NamedValues, gives, has_repeat, is_number, is_truth, sets};
 use crate::names::Names;
-use rule_tree::RuleTree;
 use crate::phrase::phrase;
 use crate::term::{Lacks, Term};
 use crate::token::{Mark, Token};
 use quantity::{OutOfMemory, Value};
+use rule_tree::RuleTree;
 use std::alloc::Global;
 
 /// A rule of the grammar with numbers in the place of names, and what it is judged by.

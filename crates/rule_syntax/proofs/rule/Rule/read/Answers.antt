@@ -1,6 +1,6 @@
 -- Each outcome is the one of the first test that stops, and a rule's is the one that it is judged to be.
 use Rattle.std.proofs.Common.{◌≡◌, true, Some, None}
-use Rattle.rule_syntax.proofs.RuleRead.{mapped_none, mapped_some, read_there, no_tokens, words_stop, size_stops, no_rule, judged_read, by_grammar}
+use Rattle.rule_syntax.proofs.RuleRead.{mapped_none, mapped_some, read_there, no_tokens, words_stop, size_stops, no_rule, judged_read}
 use Rattle.rule_syntax.specs.RuleOf.{words_refused, Readable}
 use Rattle.rule_syntax.specs.Shown.{names_of, tokens_of}
 use Rattle.rule_syntax.specs.Tokens.{tokens, words_in, is_large}
@@ -10,16 +10,10 @@ pub returns-in_default-clause-refusal : goal.returns-in_default-clause-refusal
 returns-in_default-clause-refusal c =
     λ _. no_tokens (names_of c.args.names.now) c.args.text.now (mapped_none (λ list. tokens_of list.items) c.in_ok-tokens.field-0 (tokens c.args.text.now) c.in_default.is c.in_ok-tokens.ensures)
 
-pub returns-in_default-clause-order : goal.returns-in_default-clause-order
-returns-in_default-clause-order c = λ h. by_grammar (names_of c.args.names.now) c.args.text.now _ (returns-in_default-clause-refusal c h)
-
 pub returns-in-Some-words_refused-clause-refusal : goal.returns-in-Some-words_refused-clause-refusal
 returns-in-Some-words_refused-clause-refusal c =
     λ _. words_stop (names_of c.args.names.now) c.args.text.now (tokens_of c.in-Some.tokens.items) c.in-Some-words_refused.why
     (mapped_some (λ list. tokens_of list.items) c.in_ok-tokens.field-0 c.in-Some.tokens (tokens c.args.text.now) c.in-Some.is c.in_ok-tokens.ensures) cc
-
-pub returns-in-Some-words_refused-clause-order : goal.returns-in-Some-words_refused-clause-order
-returns-in-Some-words_refused-clause-order c = λ h. by_grammar (names_of c.args.names.now) c.args.text.now _ (returns-in-Some-words_refused-clause-refusal c h)
 
 pub returns-then-is_large-clause-refusal : goal.returns-then-is_large-clause-refusal
 returns-then-is_large-clause-refusal c =
@@ -28,9 +22,6 @@ returns-then-is_large-clause-refusal c =
     λ _. size_stops (names_of c.args.names.now) c.args.text.now (tokens_of c.in-Some.tokens.items)
     (mapped_some (λ list. tokens_of list.items) c.in_ok-tokens.field-0 c.in-Some.tokens (tokens c.args.text.now) c.in-Some.is c.in_ok-tokens.ensures) w s
 
-pub returns-then-is_large-clause-order : goal.returns-then-is_large-clause-order
-returns-then-is_large-clause-order c = λ h. by_grammar (names_of c.args.names.now) c.args.text.now _ (returns-then-is_large-clause-refusal c h)
-
 pub returns-in-Some-2 : goal.returns-in-Some-2
 returns-in-Some-2 c =
     let t : tokens c.args.text.now ≡ Some (tokens_of c.in-Some.tokens.items) = mapped_some (λ list. tokens_of list.items) c.in_ok-tokens.field-0 c.in-Some.tokens (tokens c.args.text.now) c.in-Some.is c.in_ok-tokens.ensures in
@@ -38,7 +29,7 @@ returns-in-Some-2 c =
     let judged =
     judged_read (names_of c.args.names.now) c.args.text.now (tokens_of c.in-Some.tokens.items) c.in-Some-2.rule c.judged.result h
     (read_there (names_of c.args.names.now) c.deref-3.result.now c.in-Some.tokens.items c.in_ok-rule.field-0 (Some c.in-Some-2.rule) (cc) (cc) c.in_ok-rule.ensures) c.judged.ensures.rule c.judged.ensures.refusal in
-    record { rule = judged.rule; refusal = judged.refusal; grammar = judged.grammar; order = judged.order; sound = judged.sound }
+    record { rule = judged.rule; refusal = judged.refusal; sound = judged.sound }
 
 pub returns-clause-refusal : goal.returns-clause-refusal
 returns-clause-refusal c =
@@ -46,6 +37,3 @@ returns-clause-refusal c =
     let h : Readable c.args.text.now (tokens_of c.in-Some.tokens.items) = record { tokens = t; words = cc; size = cc } in
     λ _. no_rule (names_of c.args.names.now) c.args.text.now (tokens_of c.in-Some.tokens.items) h
     (read_there (names_of c.args.names.now) c.deref-3.result.now c.in-Some.tokens.items c.in_ok-rule.field-0 None (cc) (cc) c.in_ok-rule.ensures)
-
-pub returns-clause-order : goal.returns-clause-order
-returns-clause-order c = λ h. by_grammar (names_of c.args.names.now) c.args.text.now _ (returns-clause-refusal c h)
