@@ -1,0 +1,4 @@
+pub mod Stood
+pub mod Spans
+pub mod Totals
+pub mod Reading

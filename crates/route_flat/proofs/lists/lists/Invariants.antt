@@ -1,0 +1,9 @@
+use Rattle.std.proofs.Common.{◌≡◌, ◌++◌, List, Some, map, take}
+use Rattle.std.specs.List.{flat_map}
+use Rattle.route_flat.specs.declared.source.Source.{Source}
+use Rattle.route_flat.specs.Nodes.{list_of}
+use Rattle.route_flat.specs.Lists.{AreLists}
+use Rattle.route_flat.proofs.lists.lists.Given as goal
+
+abbrev pub invariant-loop-port : goal.invariant-loop-port
+invariant-loop-port l = AreLists l.nodes (take l.port-index l.ports) l.fn.paths.items l.paths.items l.spans.items

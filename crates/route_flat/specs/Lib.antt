@@ -1,0 +1,4 @@
+pub mod Nodes
+pub mod Nets
+pub mod Counts
+pub mod Lists

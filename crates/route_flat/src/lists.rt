@@ -1,0 +1,54 @@
+// The lists of sources at ports, one behind another.
+ghost use Rattle.std.specs.Prelude.{◌≡◌, IfOk};
+ghost use Rattle.route_flat.specs.Counts.{AreCounts};
+ghost use Rattle.route_flat.specs.Lists.{IsList, AreLists};
+
+use crate::follow::follow;
+use crate::net::Node;
+use crate::source::{Source, Span};
+use quantity::OutOfMemory;
+use std::alloc::{AllocError, Global};
+
+/// Appends the lists at these nodes: where each stands.
+pub(crate) fn lists(
+    alloc: Global,
+    nodes: &[Node],
+    counts: &[u32],
+    ports: &[u32],
+    paths: &mut Vec<Source>,
+) -> Result<Vec<Span>, OutOfMemory>
+    requires { AreCounts nodes.now counts.now }
+    ensures { IfOk result
+        (λ spans. AreLists nodes.now ports.now paths.old.items paths.new.items spans.items) }
+{
+    let mut spans = Vec::new(alloc);
+    for port in ports {
+        let span = list(nodes, counts, *port, paths)?;
+        spans.push(span).map_err(AllocError::from)?;
+    }
+    Ok(spans)
+}
+
+/// Appends the list at a node: where it stands.
+fn list(
+    nodes: &[Node],
+    counts: &[u32],
+    node: u32,
+    paths: &mut Vec<Source>,
+) -> Result<Span, OutOfMemory>
+    requires { AreCounts nodes.now counts.now }
+    ensures { IfOk result (λ span. IsList nodes.now node paths.old.items paths.new.items span) }
+{
+    let before = paths.len();
+    let first = counted(before)?;
+    follow(nodes, counts, node, paths)?;
+    let count = counted(paths.len().saturating_sub(before))?;
+    Ok(Span { first, count })
+}
+
+/// A number of things, which refuses as if there were no memory for more.
+fn counted(number: usize) -> Result<u32, OutOfMemory>
+    ensures { IfOk result (λ n. n ≡ number) }
+{
+    u32::try_from(number).map_err(|_| OutOfMemory)
+}

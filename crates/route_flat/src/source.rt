@@ -1,0 +1,30 @@
+// Where values come from and where they go.
+use atomic_face::PortNo;
+
+/// The output port `out` of a leaf, or an input of top, by its number.
+#[derive(Clone, Copy, PartialEq, Eq, Debug)]
+pub enum Source {
+    Leaf(u32),
+    TopIn(u16),
+}
+
+/// An input port of a leaf, or an output of top, by its number.
+#[derive(Clone, Copy, PartialEq, Eq, Debug)]
+pub enum TargetPort {
+    Leaf(u32, PortNo),
+    TopOut(u16),
+}
+
+/// A path along links, from a source to a port.
+#[derive(Clone, Copy, PartialEq, Eq, Debug)]
+pub struct Path {
+    pub from: Source,
+    pub to: TargetPort,
+}
+
+/// A part of a list: where it begins, and how much belongs to it.
+#[derive(Clone, Copy, PartialEq, Eq, Debug)]
+pub struct Span {
+    pub first: u32,
+    pub count: u32,
+}
