@@ -22,3 +22,4 @@ mod Stays
 mod Held
 mod Once
 mod Made
+mod LaidOn

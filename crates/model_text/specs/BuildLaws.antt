@@ -18,8 +18,9 @@ use Rattle.model_text.specs.Spaces.{space_of, cells_refused, spaces_refused}
 use Rattle.model_text.specs.Stock.{class_of_item, params_of, stock_refused}
 use Rattle.model_text.specs.Rules.{names_of, rules_refused}
 use Rattle.model_text.specs.Links.{links_of, links_refused}
-use Rattle.model_text.specs.Trees.{group_of, atomic_of, trees, component_of, first_tree, tree_of, no_files}
+use Rattle.model_text.specs.Trees.{initial_of, group_of, atomic_of, trees, component_of, first_tree, tree_of, no_files}
 use Rattle.model_text.specs.ModelOf.{link_limit_refused}
+use Rattle.model_text.specs.Laid.{laid}
 use Rattle.model_text.specs.Met.{Met}
 
 -- the phases up to the limit of links refuse nothing
@@ -73,6 +74,11 @@ pub record FilesChangeNoPath (files : Files) (ss : List Section) : Type 0 where
   pub sources : sources (tree_of files ss) ≡ sources (tree_of no_files ss)
   pub top_sources : top_sources (tree_of files ss) ≡ top_sources (tree_of no_files ss)
   pub paths : path_count (tree_of files ss) ≡ path_count (tree_of no_files ss)
+
+-- the tree with files is the tree without them, with the values of each group laid on it
+abbrev pub FilesAreLaid : Type 0
+FilesAreLaid =
+    (files : Files) (classes : List Class) (ss : List Section) → PassedLinks classes ss → tree_of files ss ≡ laid (map (initial_of files) (groups ss)) (tree_of no_files ss)
 
 abbrev pub PathsStay : Type 0
 PathsStay = (files : Files) (ss : List Section) → FilesChangeNoPath files ss

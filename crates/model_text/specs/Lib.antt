@@ -13,6 +13,7 @@ pub mod Drawings
 pub mod ModelOf
 pub mod Accepted
 pub mod GroupLaws
+pub mod Laid
 pub mod Met
 pub mod BuildLaws
 pub mod Models

@@ -1,5 +1,5 @@
 // Laws of models before their paths are counted and their files are read: what makes a model, part by part.
-ghost use Rattle.model_text.specs.BuildLaws.{SpacesCanBeHeld, NamesAreFew, ParametersStandOnce, TotalsAreWithinLimits, PathsStay, WalkIsMet, ItemsAreMade, SectionsAreMade};
+ghost use Rattle.model_text.specs.BuildLaws.{SpacesCanBeHeld, NamesAreFew, ParametersStandOnce, TotalsAreWithinLimits, PathsStay, FilesAreLaid, WalkIsMet, ItemsAreMade, SectionsAreMade};
 
 /// A space of the sizes of each group can be held once the keys and the number of cells pass.
 pub fn spaces_can_be_held()
@@ -24,6 +24,11 @@ pub fn totals_are_within_limits()
 /// The initial files change no port, no source of a port and no number of paths.
 pub fn files_change_no_path()
     ensures { PathsStay }
+{}
+
+/// The tree with initial files is the tree without them, with the values of each group laid on it.
+pub fn files_are_laid()
+    ensures { FilesAreLaid }
 {}
 
 /// What a component is, item by item, and that the walk of a model that passes all phases up to the limit of links meets right sections and items.
