@@ -29,6 +29,7 @@ phases classes ss =
     top_refused ss ∷ tree_refused ss ∷ keys_refused ss ∷ cells_refused ss ∷ spaces_refused ss ∷ stock_refused classes ss ∷ rules_refused ss
     ∷ links_refused ss ∷ link_limit_refused ss ∷ routes_refused ss ∷ []
 
+-- the first refusal
 abbrev pub first_of : List (Option Refusal) → Option Refusal
 first_of [] = None
 first_of (o ∷ os) = option_or o (first_of os)
@@ -41,6 +42,7 @@ FirstPhaseDecides =
 
 -- ---- what is accepted
 
+-- no phase between the lines and the initial files refuses
 pub record Passed (classes : List Class) (ss : List Section) : Type 0 where
   pub top : top_refused ss ≡ None
   pub tree : tree_refused ss ≡ None
@@ -62,6 +64,7 @@ pub record Accepted (bytes : Bytes) (files : Files) (classes : List Class) (draw
   pub drawn : drawing_refused drawing t ≡ None
   pub tree : t ≡ tree_of files sections
 
+-- an accepted model has passed each phase
 abbrev pub PassesEachPhase : Type 0
 PassesEachPhase =
     (bytes : Bytes) (files : Files) (classes : List Class) (drawing : Option Drawing) (t : Tree) →
@@ -73,6 +76,7 @@ PassesEachPhase =
 abbrev pub ComponentsDiffer : Type 0
 ComponentsDiffer = (ss : List Section) → tree_refused ss ≡ None → has_repeat (top ∷ map name_of (items_in (walk ss))) ≡ false
 
+-- at most 4096 atomic components
 abbrev pub AtomicsFit : Type 0
 AtomicsFit = (ss : List Section) → tree_refused ss ≡ None → length (atomics ss) ≤ 4096
 
@@ -91,6 +95,7 @@ PartsAreSound = (files : Files) (classes : List Class) (ss : List Section) → P
 
 -- ---- accepted models are sound
 
+-- whatever its bytes, files, boxes and drawing
 abbrev pub ReadsSoundModels : Type 0
 ReadsSoundModels =
     (bytes : Bytes) (files : Files) (classes : List Class) (drawing : Option Drawing) (t : Tree) →

@@ -63,6 +63,7 @@ pub record IsWithinLimits (t : Tree) : Type 0 where
   pub ins : length (ins_of t) ≤ 65536
   pub outs : length (outs_of t) ≤ 65536
 
+-- whatever its files
 abbrev pub TotalsAreWithinLimits : Type 0
 TotalsAreWithinLimits = (files : Files) (classes : List Class) (ss : List Section) → PassedLinks classes ss → IsWithinLimits (tree_of files ss)
 
@@ -80,6 +81,7 @@ abbrev pub FilesAreLaid : Type 0
 FilesAreLaid =
     (files : Files) (classes : List Class) (ss : List Section) → PassedLinks classes ss → tree_of files ss ≡ laid (map (initial_of files) (groups ss)) (tree_of no_files ss)
 
+-- whatever the files and the sections
 abbrev pub PathsStay : Type 0
 PathsStay = (files : Files) (ss : List Section) → FilesChangeNoPath files ss
 
@@ -89,9 +91,11 @@ PathsStay = (files : Files) (ss : List Section) → FilesChangeNoPath files ss
 abbrev pub component_at : ℕ → Files → List Section → Item → List Tree
 component_at n files ss i = elim (section_of ss i) [ None ↦ atomic_of ss i (class_of_item i) | Some t ↦ component_of n files ss t ]
 
+-- the same where it stands alone
 abbrev pub tree_at_item : ℕ → Files → List Section → Item → Tree
 tree_at_item n files ss i = first_tree (component_at n files ss i)
 
+-- each step of the walk is that of a right section or item
 abbrev pub WalkIsMet : Type 0
 WalkIsMet = (files : Files) (classes : List Class) (ss : List Section) → PassedLinks classes ss → AllByRecursion (Met files ss) (walk ss)
 

@@ -15,36 +15,46 @@ use Rattle.std.specs.Char.{is_ascii_alphabetic}
 
 -- ---- sizes and words
 
+-- a number that is there and is not 0
 abbrev pub is_positive : Option ℕ → Bool
 is_positive None = false
 is_positive (Some n) = nat_le 1 n
 
+-- at most 7 digits, and not 0
 abbrev pub is_size : Bytes → Bool
 is_size text = is_positive (whole_number 7 text)
 
+-- numbers that are there, none of them below 1
 abbrev pub are_sizes : Option (List ℤ) → Bool
 are_sizes None = false
 are_sizes (Some ns) = list_all (λ n. int_le (pos 1) n) ns
 
+-- a tuple of sizes
 abbrev pub is_dim : Bytes → Bool
 is_dim text = are_sizes (tuple text)
 
+-- a number that is there and is at most this
 abbrev pub is_at_most : ℕ → Option ℕ → Bool
 is_at_most most None = false
 is_at_most most (Some n) = nat_le n most
 
+-- whole milliseconds, at most 99:59:59:999
 abbrev pub is_delay_time : Bytes → Bool
 is_delay_time text = is_at_most 359999999 (whole_number 9 text)
 
+-- one of these texts
 abbrev pub is_one_of : List Bytes → Bytes → Bool
 is_one_of texts text = is_among texts text
 
+-- a value or `?`
 abbrev pub is_value_text : Bytes → Bool
 is_value_text text = is_some (value_in text)
 
+-- any text but none
 abbrev pub is_file_name : Bytes → Bool
 is_file_name text = not (is_empty text)
 
+-- names between blanks
 abbrev pub are_names : Bytes → Bool
 are_names text = list_all is_name (words text)
 
@@ -57,6 +67,7 @@ is_word (c ∷ cs) = is_ascii_alphabetic c && list_all is_of_word cs && has_leng
 abbrev pub are_words : ℕ → Bytes → Bool
 are_words most text = has_length 1 most (words text) && list_all is_word (words text) && not (has_repeat (words text))
 
+-- at most 3 different words, none of them out
 abbrev pub are_ports : Bytes → Bool
 are_ports text = are_words 3 text && not (is_among (words text) (codes "out"))
 
@@ -66,6 +77,7 @@ are_ports text = are_words 3 text && not (is_among (words text) (codes "out"))
 abbrev pub is_of_group : Bytes → NamedTuple → Bool
 is_of_group group t = is_empty t.name || bytes_eq t.name group
 
+-- all tuples of a text, none of them behind another name
 abbrev pub tuples_of : Bytes → Bytes → Option (List NamedTuple)
 tuples_of group text =
     option_and_then (λ ts. then_some (list_all (is_of_group group) ts) ts)
@@ -73,20 +85,24 @@ tuples_of group text =
 
 -- ---- port@group(tuple) rules
 
+-- a port, the place of a cell and the name of its rules
 pub record PortRuleText : Type 0 where
   pub port : Bytes
   pub place : List ℤ
   pub rules : Bytes
 
+-- port@group( and the numbers of a tuple
 abbrev pub port_and_place : Bytes → Bytes → Option (Bytes × List ℤ)
 port_and_place group text =
     option_and_then (λ t. then_some (is_name (before_first (is_byte 64) text) && bytes_eq t.name group) (before_first (is_byte 64) text, t.place))
     (named_tuple (after_first (is_byte 64) text))
 
+-- a blank is the first byte
 abbrev pub begins_with_blank : Bytes → Bool
 begins_with_blank [] = false
 begins_with_blank (c ∷ cs) = is_blank c
 
+-- port@group(tuple), a blank and the name of rules
 abbrev pub port_rule_text : Bytes → Bytes → Option PortRuleText
 port_rule_text group text =
     let rules = after_first (is_byte 41) text in
@@ -95,6 +111,7 @@ port_rule_text group text =
 
 -- ---- the ends of a link
 
+-- without any blank
 abbrev pub without_blanks : Bytes → Bytes
 without_blanks text = filter (λ c. not (is_blank c)) text
 
@@ -113,5 +130,6 @@ with_whole_tuples (p ∷ ps) = p ++ flat_map (λ q. 40 ∷ with_whole_tuple q) p
 abbrev pub ends_of : Bytes → List Bytes
 ends_of text = words (with_whole_tuples (slice_split (is_byte 40) text))
 
+-- two ends, or nothing at all
 abbrev pub has_two_ends : Bytes → Bool
 has_two_ends text = is_empty text || (length (ends_of text) == 2)

@@ -22,6 +22,7 @@ pub record RightOffsets (s : Section) : Type 0 where
   pub near : list_all is_near_offset (offsets_of s) ≡ true
   pub differ : offsets_differ (offsets_of s) ≡ true
 
+-- of each group, once the spaces pass
 abbrev pub OffsetsAreRight : Type 0
 OffsetsAreRight = (ss : List Section) → spaces_refused ss ≡ None → AllByRecursion RightOffsets (groups ss)
 
@@ -34,6 +35,7 @@ pub record RightSizes (s : Section) : Type 0 where
   pub cells : 1 ≤ cell_count (space_of s)
   pub delay : default_delay_of s ≤ 359999999
 
+-- of each group, once the keys pass
 abbrev pub SizesAreRight : Type 0
 SizesAreRight = (ss : List Section) → keys_refused ss ≡ None → AllByRecursion RightSizes (groups ss)
 
@@ -46,6 +48,7 @@ pub record RightNames (s : Section) : Type 0 where
   pub port_values : length (values_of (value_of (codes "portvalues") s) (ports_of s)) ≡ length (ports_of s)
   pub ports_differ : has_repeat (out ∷ ports_of s) ≡ false
 
+-- of each group, once the keys pass
 abbrev pub NamesAreRight : Type 0
 NamesAreRight = (ss : List Section) → keys_refused ss ≡ None → AllByRecursion RightNames (groups ss)
 
@@ -55,6 +58,7 @@ pub record RightNumbers (ss : List Section) (s : Section) : Type 0 where
   pub zones : list_all (λ k. nat_lt k (length (rule_sets_of ss s))) (map (λ (z : Region). rule_set_number s z.name) (zones_of s)) ≡ true
   pub ports : list_all (λ (p : PortRule). nat_lt p.rules (length (rule_sets_of ss s)) && nat_lt p.cell (cell_count (space_of s))) (filter_map (port_rule_of s) (port_places s)) ≡ true
 
+-- of each group, once the keys and the rules pass
 abbrev pub NumbersAreRight : Type 0
 NumbersAreRight = (ss : List Section) → keys_refused ss ≡ None → rules_refused ss ≡ None → AllByRecursion (RightNumbers ss) (groups ss)
 

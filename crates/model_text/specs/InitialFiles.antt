@@ -19,6 +19,7 @@ pub record InitialFile : Type 0 where
   pub name : Bytes
   pub is_right : Bytes → Bool
 
+-- the file that an entry names
 abbrev pub file_at : (Bytes → Bool) → Entry → InitialFile
 file_at is_right e = record { line = e.line; name = e.value; is_right = is_right }
 
@@ -28,15 +29,18 @@ files_of_group s =
     map (file_at (λ bytes. is_some (map_file (space_of s) bytes))) (option_to_list (first_entry (codes "initialmapvalue") s))
     ++ map (file_at (λ bytes. is_some (cells_file (space_of s) bytes))) (option_to_list (first_entry (codes "initialcellsvalue") s))
 
+-- those of all groups, in their order
 abbrev pub initial_files : List Section → List InitialFile
 initial_files ss = flat_map files_of_group (groups ss)
 
 -- ---- files that stop the reading
 
+-- a file that is not there, or a refusal
 pub data FileStop : Type 0 where
   absent : (name : Bytes) → FileStop
   off : Refusal → FileStop
 
+-- more than 16777216 bytes
 abbrev pub is_long : Bytes → Bool
 is_long bytes = nat_lt 16777216 (length bytes)
 
@@ -48,9 +52,11 @@ content_stops f (Some bytes) =
     else if f.is_right bytes then None
     else Some (off (refusal f.line BadInitial))
 
+-- how a file stops the reading, by what is there under its name
 abbrev pub file_stops : Files → InitialFile → Option FileStop
 file_stops files f = content_stops f (files f.name)
 
+-- the first file that stops
 abbrev pub first_file_stop : Files → List InitialFile → Option FileStop
 first_file_stop files [] = None
 first_file_stop files (f ∷ fs) = option_or (file_stops files f) (first_file_stop files fs)

@@ -18,12 +18,14 @@ use Rattle.model_text.specs.Forms.{is_size, is_dim, is_delay_time, is_value_text
 
 -- ---- keys that stand again
 
+-- the keys that may stand once in a group
 abbrev pub group_keys : List Bytes
 group_keys =
     codes "type" ∷ codes "dim" ∷ codes "height" ∷ codes "width" ∷ codes "delay" ∷ codes "defaultdelaytime" ∷ codes "border" ∷ codes "initialvalue"
     ∷ codes "initialmapvalue" ∷ codes "initialcellsvalue" ∷ codes "localtransition" ∷ codes "statevariables" ∷ codes "statevalues"
     ∷ codes "neighborports" ∷ codes "portvalues" ∷ []
 
+-- the keys that may stand once in a section
 abbrev pub section_keys : Section → List Bytes
 section_keys s = if is_group s then group_keys else codes "type" ∷ []
 
@@ -35,12 +37,15 @@ again once before (e ∷ es) =
 
 -- ---- keys that are missing
 
+-- some entry has the key
 abbrev pub has_key : Bytes → Section → Bool
 has_key key s = is_some (first_entry key s)
 
+-- dim, or height and width
 abbrev pub has_space : Section → Bool
 has_space s = has_key (codes "dim") s || (has_key (codes "height") s && has_key (codes "width") s)
 
+-- a group that lacks its space or its rules
 abbrev pub missing : Section → List Refusal
 missing s = if has_space s && has_key (codes "localtransition") s then [] else refusal s.line MissingKey ∷ []
 
@@ -52,9 +57,11 @@ values_fit is_right None text = false
 values_fit is_right (Some names) text =
     list_all is_value_text (words text) && (not (is_right names) || (length (words text) == length (words names)))
 
+-- the keys of every section, each with the form of its values
 abbrev pub forms : Section → List (Bytes × (Bytes → Bool))
 forms s = (codes "in", are_names) ∷ (codes "out", are_names) ∷ (codes "link", has_two_ends) ∷ []
 
+-- the keys of a group, each with the form of its values
 abbrev pub group_forms : Section → List (Bytes × (Bytes → Bool))
 group_forms s =
     (codes "dim", is_dim) ∷ (codes "height", is_size) ∷ (codes "width", is_size)
@@ -70,10 +77,12 @@ group_forms s =
     ∷ (codes "neighborports", are_ports) ∷ (codes "portvalues", values_fit are_ports (value_of (codes "neighborports") s))
     ∷ forms s
 
+-- a value that is off the form of its key
 abbrev pub is_off : Option (Bytes → Bool) → Bytes → Bool
 is_off None text = false
 is_off (Some is_right) text = not (is_right text)
 
+-- the entries whose values are off their form
 abbrev pub off_form : List (Bytes × (Bytes → Bool)) → List Entry → List Refusal
 off_form table es = map (λ (e : Entry). refusal e.line BadValue) (filter (λ (e : Entry). is_off (looked_up table e.key) e.value) es)
 
@@ -91,9 +100,11 @@ repeated before (i ∷ is) = (if is_among before i.text then refusal i.line BadV
 
 -- ---- the phase
 
+-- what is refused of the keys of a group
 abbrev pub of_group : Section → List Refusal
 of_group s = missing s ++ off_form (group_forms s) s.entries ++ double_space s
 
+-- what is refused of the keys of a section
 abbrev pub of_section : Section → List Refusal
 of_section s =
     again (section_keys s) [] s.entries ++ repeated [] (items_of (codes "in") s) ++ repeated [] (items_of (codes "out") s)
@@ -104,8 +115,10 @@ abbrev pub parameters_again : Option Class → Option Section → List Refusal
 parameters_again (Some class) (Some s) = again (once_keys class) [] s.entries
 parameters_again class s = []
 
+-- what is refused of the keys of an atomic component
 abbrev pub of_atomic : List Section → Item → List Refusal
 of_atomic ss i = parameters_again (class_named (class_of i)) (section_named ss (name_of i))
 
+-- the least refusal of all keys
 abbrev pub keys_refused : List Section → Option Refusal
 keys_refused ss = least (flat_map of_section (reached ss) ++ flat_map (of_atomic ss) (atomics ss))

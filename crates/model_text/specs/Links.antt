@@ -29,15 +29,19 @@ use Rattle.model_tree.specs.Faces.{Face, link_refused}
 
 -- ---- ends
 
+-- what stands before the `@`
 abbrev pub port_part : Bytes → Bytes
 port_part text = before_first (is_byte 64) text
 
+-- what stands behind it
 abbrev pub rest_part : Bytes → Bytes
 rest_part text = after_first (is_byte 64) text
 
+-- a port of the section itself
 abbrev pub own_end : Bytes → Option End
 own_end text = then_some (is_name text) (Own text)
 
+-- port@child
 abbrev pub child_end : Bytes → Option End
 child_end text = then_some (is_name (port_part text) && is_name (rest_part text)) (Child (port_part text) (rest_part text))
 
@@ -46,6 +50,7 @@ abbrev pub one_tuple : Section → List Bytes → Option NamedTuple
 one_tuple s (part ∷ []) = option_and_then (λ t. then_some (bytes_eq t.name s.name) t) (named_tuple part)
 one_tuple s parts = None
 
+-- port@group and a tuple
 abbrev pub cell_end : Section → Bytes → Option End
 cell_end s text =
     option_and_then (λ t. option_map (Cell (port_part text)) (option_and_then (cell_in (space_of s)) (then_some (is_name (port_part text)) t.place)))
@@ -57,10 +62,12 @@ end_in s text = if list_any (is_byte 64) text then (if is_group s then cell_end 
 
 -- ---- links
 
+-- a link, where both ends are there
 abbrev pub joined : Option End → Option End → Option Link
 joined (Some a) (Some b) = Some (record { from = a; to = b })
 joined a b = None
 
+-- the link of two ends
 abbrev pub link_of_texts : Section → List Bytes → Option Link
 link_of_texts s (a ∷ b ∷ []) = joined (end_in s a) (end_in s b)
 link_of_texts s texts = None
@@ -73,30 +80,37 @@ link_of s e = link_of_texts s (ends_of e.value)
 abbrev pub link_entries : Section → List Entry
 link_entries s = filter (λ (e : Entry). not (is_empty e.value)) (entries_of (codes "link") s)
 
+-- the links of a section
 abbrev pub links_of : Section → List Link
 links_of s = filter_map (link_of s) (link_entries s)
 
 -- ---- the face of a section
 
+-- the first child of this name
 abbrev pub child_named : Section → Bytes → Option Item
 child_named s name = find (λ i. bytes_eq (name_of i) name) (children_of s)
 
+-- the ports under a key of a section that is there
 abbrev pub ports_in : Bytes → Option Section → List Bytes
 ports_in key None = []
 ports_in key (Some s) = texts_of key s
 
+-- the inputs of a class that is there
 abbrev pub inputs_of_class : Option Class → List Bytes
 inputs_of_class None = []
 inputs_of_class (Some class) = class_ports class
 
+-- the inputs of a child
 abbrev pub inputs_of : List Section → Option Item → List Bytes
 inputs_of ss None = []
 inputs_of ss (Some i) = if is_atomic i then inputs_of_class (class_of_item i) else ports_in (codes "in") (section_of ss i)
 
+-- the outputs of a child
 abbrev pub outputs_of : List Section → Option Item → List Bytes
 outputs_of ss None = []
 outputs_of ss (Some i) = if is_atomic i then out ∷ [] else ports_in (codes "out") (section_of ss i)
 
+-- what the links of a section may join
 abbrev pub face_of : List Section → Section → Face
 face_of ss s =
     record {
@@ -109,10 +123,12 @@ face_of ss s =
 
 -- ---- refusals
 
+-- the refusal of a link after those before it, or of one that has no form
 abbrev pub entry_refused : Face → List Link → Option Link → Option Kind
 entry_refused f before None = Some UnknownPort
 entry_refused f before (Some l) = option_map kind_of_link (link_refused f before l)
 
+-- on the line of the entry
 abbrev pub at_line : Entry → Option Kind → List Refusal
 at_line e None = []
 at_line e (Some kind) = refusal e.line kind ∷ []
@@ -123,11 +139,14 @@ links_refused_after f s before [] = []
 links_refused_after f s before (e ∷ es) =
     at_line e (entry_refused f before (link_of s e)) ++ links_refused_after f s (before ++ filter_map (link_of s) (e ∷ [])) es
 
+-- what is refused of the links of a section
 abbrev pub of_links : List Section → Section → List Refusal
 of_links ss s = links_refused_after (face_of ss s) s [] (link_entries s)
 
+-- the least refusal of all links
 abbrev pub links_refused : List Section → Option Refusal
 links_refused ss = least (flat_map (of_links ss) (reached ss))
 
+-- how many links there are
 abbrev pub link_count : List Section → ℕ
 link_count ss = sum (map (λ s. length (link_entries s)) (reached ss))

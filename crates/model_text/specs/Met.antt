@@ -29,12 +29,15 @@ pub record Right (ss : List Section) (before : List Item) (around : List Bytes) 
   pub fits : (is_atomic i && nat_le 4096 (length (filter is_atomic before))) ≡ false
   pub found : (not (is_atomic i) && not (is_some (section_of ss i))) ≡ false
 
+-- after some items
 abbrev pub RightItem : List Section → List Bytes → Item → Type 0
 RightItem ss around i = (before : List Item) × Right ss before around i
 
+-- its class is there
 abbrev pub HasClass : Item → Type 0
 HasClass i = is_some (class_of_item i) ≡ true
 
+-- a section that is right, or an item that is right and has a class where it is atomic
 abbrev pub Met : Files → List Section → Step → Type 0
 Met files ss (at_section line deep s) = (section_refused line deep s ≡ None) × RightSection files ss s
 Met files ss (at_item around i) = RightItem ss around i × (is_atomic i ≡ true → HasClass i)

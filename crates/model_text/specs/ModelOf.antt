@@ -21,6 +21,7 @@ use Rattle.model_text.specs.InitialFiles.{initial_files, FileStop, absent, off, 
 use Rattle.model_text.specs.Drawings.{Drawing, drawing_refused}
 use Rattle.model_text.specs.Trees.{tree_of, no_files}
 
+-- a model, the name of a missing file, or the first refusal
 pub data ModelOf : Type 0 where
   model : Tree → ModelOf
   missing : (name : Word) → ModelOf
@@ -42,6 +43,7 @@ unless (Some r) next = refuses r
 
 -- ---- the limits of links and of routes
 
+-- more than 16384 links, or more than 65536 inputs or outputs of top
 abbrev pub has_too_many_links : List Section → Tree → Bool
 has_too_many_links ss t = nat_lt 16384 (link_count ss) || nat_lt 65536 (length (ins_of t)) || nat_lt 65536 (length (outs_of t))
 
@@ -49,20 +51,24 @@ has_too_many_links ss t = nat_lt 16384 (link_count ss) || nat_lt 65536 (length (
 abbrev pub link_limit_refused : List Section → Option Refusal
 link_limit_refused ss = if has_too_many_links ss (tree_of no_files ss) then Some (refusal 0 TooLarge) else None
 
+-- more than 65536 paths
 abbrev pub routes_refused : List Section → Option Refusal
 routes_refused ss = if nat_lt 65536 (path_count (tree_of no_files ss)) then Some (refusal 0 TooManyRoutes) else None
 
 -- ---- the initial files, and then the drawing
 
+-- a model, unless there is a refusal
 abbrev pub model_unless : Option Refusal → Tree → ModelOf
 model_unless None t = model t
 model_unless (Some r) t = refused r
 
+-- the first file that stops, or else what the drawing refuses
 abbrev pub after_files : Option FileStop → Option Drawing → Tree → ModelOf
 after_files None drawing t = model_unless (drawing_refused drawing t) t
 after_files (Some (absent name)) drawing t = missing name
 after_files (Some (off r)) drawing t = refused r
 
+-- what is found with these files
 abbrev pub with_files : List Section → Files → Option Drawing → ModelRead
 with_files ss files drawing =
     record {
@@ -72,6 +78,7 @@ with_files ss files drawing =
 
 -- ---- the phases after the lines, in their order
 
+-- each phase in its order, and then the files
 abbrev pub model_in : List Section → Files → List Class → Option Drawing → ModelRead
 model_in ss files classes drawing =
     unless (top_refused ss) (λ _.
@@ -87,13 +94,16 @@ model_in ss files classes drawing =
 
 -- ---- the whole file
 
+-- a file of more than 16777216 bytes
 abbrev pub length_refused : Bytes → Option Refusal
 length_refused bytes = if is_long bytes then Some (refusal 0 TooLong) else None
 
+-- the phases over the sections, or the refused line
 abbrev pub after_lines : Result (List Section) LineRefusal → Files → List Class → Option Drawing → ModelRead
 after_lines (Ok ss) files classes drawing = model_in ss files classes drawing
 after_lines (Err r) files classes drawing = refuses (refusal_of_line r)
 
+-- of the bytes of a file, with initial files, boxes of these classes, and what is drawn
 unfoldable pub model_of : Bytes → Files → List Class → Option Drawing → ModelRead
 model_of bytes files classes drawing =
     unless (length_refused bytes) (λ _. after_lines (sections_of bytes) files classes drawing)

@@ -15,11 +15,13 @@ pub record Refusal : Type 0 where
   pub line : ℕ
   pub kind : Kind
 
+-- a kind on a line
 abbrev pub refusal : ℕ → Kind → Refusal
 refusal line kind = record { line = line; kind = kind }
 
 -- ---- numbers, names and texts
 
+-- the number that is shown, by which refusals on one line are ordered
 abbrev pub number_of : Kind → ℕ
 number_of BadLine = 1
 number_of DuplicateSection = 2
@@ -52,6 +54,7 @@ number_of NoSuchPlane = 29
 number_of UnknownVariable = 30
 number_of UnknownNeighbourPort = 31
 
+-- the name that is shown
 abbrev pub name_of : Kind → Bytes
 name_of BadLine = codes "BadLine"
 name_of DuplicateSection = codes "DuplicateSection"
@@ -90,11 +93,13 @@ kind_text k = decimal (number_of k) ++ 32 ∷ name_of k
 
 -- ---- refusals of parts; want of memory is none of the model's
 
+-- of a line
 abbrev pub refusal_of_line : LineRefusal → Refusal
 refusal_of_line (L.BadLine line) = refusal line BadLine
 refusal_of_line (L.DuplicateSection line) = refusal line DuplicateSection
 refusal_of_line L.Memory = refusal 0 BadLine
 
+-- of a link
 abbrev pub kind_of_link : LinkRefusal → Kind
 kind_of_link K.UnknownPort = UnknownPort
 kind_of_link K.SelfLink = SelfLink
@@ -102,6 +107,7 @@ kind_of_link K.PassThrough = PassThrough
 kind_of_link K.DuplicateLink = DuplicateLink
 kind_of_link K.Memory = UnknownPort
 
+-- of a rule
 abbrev pub kind_of_rule : RuleRefusal → Kind
 kind_of_rule R.BadRule = BadRule
 kind_of_rule R.BadSort = BadSort

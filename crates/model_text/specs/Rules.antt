@@ -35,15 +35,19 @@ names_of s =
 
 -- ---- the rules sections that a group names, with the lines of the entries
 
+-- a name on the line of an entry
 abbrev pub name_at : Entry → Bytes → Item
 name_at e name = record { line = e.line; text = name }
 
+-- the rules of a zone
 abbrev pub zone_item : Section → Entry → Option Item
 zone_item s e = option_map (λ (z : Region). name_at e z.name) (zone_in (space_of s) e.value)
 
+-- the rules of a port
 abbrev pub port_item : Section → Entry → Option Item
 port_item s e = option_map (λ (p : PortPlace). name_at e p.rules) (port_place s e)
 
+-- all that a group names
 abbrev pub rules_named : Section → List Item
 rules_named s =
     map (λ (e : Entry). name_at e e.value) (entries_of (codes "localtransition") s)
@@ -53,14 +57,17 @@ rules_named s =
 abbrev pub rule_sets_named : Section → List Bytes
 rule_sets_named s = distinct (map (λ (i : Item). i.text) (rules_named s))
 
+-- the number of a rule set by its name
 abbrev pub rule_set_number : Section → Bytes → ℕ
 rule_set_number s name = unwrap_or (position (bytes_eq name) (rule_sets_named s)) 0
 
 -- ---- the phase
 
+-- no section has the name
 abbrev pub absent : List Section → Item → List Refusal
 absent ss i = if is_some (section_named ss i.text) then [] else refusal i.line NoSection ∷ []
 
+-- a rule off the language
 abbrev pub rule_refused : Names → Entry → List Refusal
 rule_refused names e = refused (rule_of names e.value)
   where
@@ -72,23 +79,29 @@ rule_refused names e = refused (rule_of names e.value)
 abbrev pub too_many : List Entry → List Refusal
 too_many rules = map (λ (e : Entry). refusal e.line TooLarge) (take 1 (drop 1024 rules))
 
+-- what is refused of the rules of a section
 abbrev pub of_rules : Names → Section → List Refusal
 of_rules names s = flat_map (rule_refused names) (entries_of (codes "rule") s) ++ too_many (entries_of (codes "rule") s)
 
+-- the sections of these names
 abbrev pub sections_named : List Section → List Bytes → List Section
 sections_named ss names = filter_map (section_named ss) names
 
+-- what is refused of the rules of a group
 abbrev pub of_group_rules : List Section → Section → List Refusal
 of_group_rules ss s =
     flat_map (absent ss) (rules_named s) ++ flat_map (of_rules (names_of s)) (sections_named ss (rule_sets_named s))
 
+-- the least refusal of all rules
 abbrev pub rules_refused : List Section → Option Refusal
 rules_refused ss = least (flat_map (of_group_rules ss) (groups ss))
 
 -- ---- the rules of a group
 
+-- the rules of a section
 abbrev pub rules_in : Names → Section → List Rule
 rules_in names s = filter_map (λ (e : Entry). result_ok (rule_of names e.value)) (entries_of (codes "rule") s)
 
+-- the rule sets of a group, by number
 abbrev pub rule_sets_of : List Section → Section → List (List Rule)
 rule_sets_of ss s = map (rules_in (names_of s)) (sections_named ss (rule_sets_named s))

@@ -25,14 +25,17 @@ use Rattle.cell_grid.specs.Initial.{Row, row_digits, row_values}
 
 -- ---- the space of a group
 
+-- not wrapped, unless the group says so
 abbrev pub border_of : Section → Border
 border_of s = if is_value (codes "wrapped") (value_of (codes "border") s) then Wrapped else NoWrapped
 
+-- of rows, columns and perhaps planes
 abbrev pub space_of_sizes : Border → List ℤ → Space
 space_of_sizes b (r ∷ c ∷ []) = record { rows = unsigned_abs r; columns = unsigned_abs c; planes = None; border = b }
 space_of_sizes b (r ∷ c ∷ p ∷ rest) = record { rows = unsigned_abs r; columns = unsigned_abs c; planes = Some (unsigned_abs p); border = b }
 space_of_sizes b sizes = record { rows = 0; columns = 0; planes = None; border = b }
 
+-- the size under a key
 abbrev pub size_of : Bytes → Section → ℤ
 size_of key s = pos (unwrap_or (option_and_then (whole_number 7) (value_of key s)) 0)
 
@@ -41,6 +44,7 @@ abbrev pub sizes_of : Section → List ℤ
 sizes_of s =
     unwrap_or (option_and_then tuple (value_of (codes "dim") s)) (size_of (codes "height") s ∷ size_of (codes "width") s ∷ [])
 
+-- the space of a group
 abbrev pub space_of : Section → Space
 space_of s = space_of_sizes (border_of s) (sizes_of s)
 
@@ -53,11 +57,13 @@ first_large cells (g ∷ gs) =
     let more = cells + cell_count (space_of g) in
     option_or (if nat_lt 1048576 more then Some (refusal g.line TooLarge) else None) (first_large more gs)
 
+-- more than 1048576 cells in all groups
 abbrev pub cells_refused : List Section → Option Refusal
 cells_refused ss = first_large 0 (groups ss)
 
 -- ---- offsets
 
+-- the tuples of an entry
 abbrev pub places_of : Section → Entry → List (List ℤ)
 places_of s e = map (λ (t : NamedTuple). t.place) (unwrap_or (tuples_of s.name e.value) [])
 
@@ -66,29 +72,35 @@ abbrev pub distinct_offsets : List Offset → List Offset
 distinct_offsets [] = []
 distinct_offsets (o ∷ os) = o ∷ filter (λ p. not (same_offset o p)) (distinct_offsets os)
 
+-- the offsets of a group, without those off its space
 abbrev pub offsets_of : Section → List Offset
 offsets_of s =
     distinct_offsets (map offset_of (filter (is_offset (space_of s)) (flat_map (places_of s) (entries_of (codes "neighbors") s))))
 
 -- ---- rules for ports
 
+-- a port of a cell, where the cell is in the space, and the name of its rules
 pub record PortPlace : Type 0 where
   pub port : Bytes
   pub cell : Option ℕ
   pub rules : Bytes
 
+-- that of an entry
 abbrev pub port_place : Section → Entry → Option PortPlace
 port_place s e =
     option_map (λ (p : PortRuleText). record { port = p.port; cell = cell_in (space_of s) p.place; rules = p.rules }) (port_rule_text s.name e.value)
 
+-- those of a group
 abbrev pub port_places : Section → List PortPlace
 port_places s = filter_map (port_place s) (entries_of (codes "portintransition") s)
 
+-- both are there and are one cell
 abbrev pub same_cell : Option ℕ → Option ℕ → Bool
 same_cell None b = false
 same_cell (Some n) None = false
 same_cell (Some n) (Some m) = n == m
 
+-- one port of one cell
 abbrev pub same_place : PortPlace → PortPlace → Bool
 same_place p q = bytes_eq p.port q.port && same_cell p.cell q.cell
 
@@ -97,6 +109,7 @@ abbrev pub is_new_place : List PortPlace → Option PortPlace → Bool
 is_new_place before None = false
 is_new_place before (Some p) = is_some p.cell && not (list_any (same_place p) before)
 
+-- the entries that name no new port of a cell, after these
 abbrev pub ports_refused : Section → List PortPlace → List Entry → List Refusal
 ports_refused s before [] = []
 ports_refused s before (e ∷ es) =
@@ -104,6 +117,7 @@ ports_refused s before (e ∷ es) =
 
 -- ---- the phase
 
+-- the zones of a group
 abbrev pub zones_of : Section → List Region
 zones_of s = filter_map (λ (e : Entry). zone_in (space_of s) e.value) (entries_of (codes "zone") s)
 
@@ -114,12 +128,15 @@ row_in s e =
     else if bytes_eq e.key (codes "initialrow") then row_values (space_of s) e.value
     else None
 
+-- the rows of values of a group, by line
 abbrev pub rows_of : Section → List Row
 rows_of s = filter_map (row_in s) s.entries
 
+-- more than 128 offsets
 abbrev pub too_many_offsets : Section → List Refusal
 too_many_offsets s = if nat_lt 128 (length (offsets_of s)) then refusal s.line TooLarge ∷ [] else []
 
+-- what is refused of the space of a group
 abbrev pub of_space : Section → List Refusal
 of_space s =
     each_entry (codes "neighbors") s (λ e. at_entry e BadValue (list_all (is_offset (space_of s)) (places_of s e)))
@@ -129,5 +146,6 @@ of_space s =
     ++ each_entry (codes "initialrow") s (λ e. at_entry e BadInitial (is_some (row_in s e)))
     ++ too_many_offsets s
 
+-- the least refusal of all spaces
 abbrev pub spaces_refused : List Section → Option Refusal
 spaces_refused ss = least (flat_map of_space (groups ss))

@@ -15,12 +15,15 @@ use Rattle.model_text.specs.Refusals.{Refusal, refusal}
 use Rattle.model_text.specs.Keyed.{section_named, Item}
 use Rattle.model_text.specs.Walk.{name_of, class_of, atomics}
 
+-- the class of an atomic component, if there is one of its name
 abbrev pub class_of_item : Item → Option Class
 class_of_item i = class_named (class_of i)
 
+-- an entry as a parameter
 abbrev pub param_of : Entry → Param
 param_of e = record { line = e.line; key = e.key; value = e.value }
 
+-- the entries of a section that is there
 abbrev pub params_in : Option Section → List Param
 params_in None = []
 params_in (Some s) = map param_of s.entries
@@ -29,6 +32,7 @@ params_in (Some s) = map param_of s.entries
 abbrev pub params_of : List Section → Item → List Param
 params_of ss i = params_in (section_named ss (name_of i))
 
+-- how many boxes of a class there are
 abbrev pub boxes_of : Class → List Class → ℕ
 boxes_of class classes = count_by (same_class class) classes
 
@@ -45,6 +49,7 @@ abbrev pub params_refused : List Section → Item → Option Refusal
 params_refused ss i =
     option_and_then (λ class. option_map (λ line. refusal line BadParameter) (first_line_off class (params_of ss i))) (class_of_item i)
 
+-- no class, no box, or a parameter off its form
 abbrev pub component_refused : List Section → List Class → List Class → Item → Option Refusal
 component_refused ss classes taken i =
     option_or (option_map (refusal i.line) (box_refused classes taken (class_of_item i))) (params_refused ss i)
@@ -55,5 +60,6 @@ first_component_refused ss classes taken [] = None
 first_component_refused ss classes taken (i ∷ is) =
     option_or (component_refused ss classes taken i) (first_component_refused ss classes (taken ++ filter_map class_of_item (i ∷ [])) is)
 
+-- the first atomic component that is refused
 abbrev pub stock_refused : List Class → List Section → Option Refusal
 stock_refused classes ss = first_component_refused ss classes [] (atomics ss)

@@ -26,18 +26,23 @@ use Rattle.model_text.specs.Links.{links_of}
 
 -- ---- groups
 
+-- transport, unless the group says inertial
 abbrev pub delay_of : Section → DelayKind
 delay_of s = if is_value (codes "inertial") (value_of (codes "delay") s) then Inertial else Transport
 
+-- 100 ms, unless the group says another
 abbrev pub default_delay_of : Section → ℕ
 default_delay_of s = unwrap_or (option_and_then (whole_number 9) (value_of (codes "defaultdelaytime") s)) 100
 
+-- `?`, unless the group says another
 abbrev pub initial_value_of : Section → Value
 initial_value_of s = unwrap_or (option_and_then value_in (value_of (codes "initialvalue") s)) Undefined
 
+-- the values of the map file
 abbrev pub map_of : Files → Section → Option (List Value)
 map_of files s = option_and_then (map_file (space_of s)) (option_and_then files (value_of (codes "initialmapvalue") s))
 
+-- the cells and values of the cells file
 abbrev pub cells_of : Files → Section → Option (List (ℕ × Value))
 cells_of files s = option_and_then (cells_file (space_of s)) (option_and_then files (value_of (codes "initialcellsvalue") s))
 
@@ -46,6 +51,7 @@ abbrev pub initial_of : Files → Section → List Value
 initial_of files s =
     with_cells (with_map (with_rows (space_of s) (filled (space_of s) (initial_value_of s)) (rows_of s)) (map_of files s)) (cells_of files s)
 
+-- the rules of a port, where its cell is in the space
 abbrev pub port_rule_of : Section → PortPlace → Option PortRule
 port_rule_of s p = option_map (λ cell. record { port = p.port; cell = cell; rules = rule_set_number s p.rules }) p.cell
 
@@ -54,12 +60,15 @@ abbrev pub values_of : Option Bytes → List Bytes → List Value
 values_of None names = replicate (length names) Undefined
 values_of (Some text) names = filter_map value_in (words text)
 
+-- the names of the variables
 abbrev pub variables_of : Section → List Bytes
 variables_of s = texts_of (codes "statevariables") s
 
+-- the names of the further ports
 abbrev pub ports_of : Section → List Bytes
 ports_of s = texts_of (codes "neighborports") s
 
+-- the group of a section
 abbrev pub group_of : Files → List Section → Section → Group
 group_of files ss s =
     record {
@@ -84,10 +93,12 @@ group_of files ss s =
 
 -- ---- components
 
+-- an atomic component, where its class is there
 abbrev pub atomic_of : List Section → Item → Option Class → List Tree
 atomic_of ss i None = []
 atomic_of ss i (Some class) = atomic (name_of i) class (settings_of class (params_of ss i)) ∷ []
 
+-- a list of components as children
 abbrev pub trees : List Tree → Trees
 trees [] = nil
 trees (t ∷ ts) = cons t (trees ts)
@@ -103,19 +114,24 @@ component_of (suc n) files ss s =
     (links_of s))
     ∷ []
 
+-- what stands where there is no section top
 abbrev pub no_tree : Tree
 no_tree = coupled top [] [] nil []
 
+-- the only component of a list
 abbrev pub first_tree : List Tree → Tree
 first_tree [] = no_tree
 first_tree (t ∷ ts) = t
 
+-- the component of a section that is there
 abbrev pub tree_at : Files → List Section → Option Section → Tree
 tree_at files ss None = no_tree
 tree_at files ss (Some s) = first_tree (component_of 17 files ss s)
 
+-- the component top
 abbrev pub tree_of : Files → List Section → Tree
 tree_of files ss = tree_at files ss (section_named ss top)
 
+-- nothing is there under any name
 abbrev pub no_files : Files
 no_files name = None

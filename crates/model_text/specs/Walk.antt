@@ -12,11 +12,13 @@ use Rattle.ma_lines.specs.declared.section.Entry.{Entry}
 use Rattle.ma_lines.specs.Sections.{Section}
 use Rattle.model_text.specs.Keyed.{section_named, first_entry, value_of, is_value, Item, items_of}
 
+-- the section that is the model
 abbrev pub top : Bytes
 top = codes "top"
 
 -- ---- sections and items
 
+-- a section of cells
 abbrev pub is_group : Section → Bool
 is_group s = is_value (codes "cell") (value_of (codes "type") s)
 
@@ -24,18 +26,23 @@ is_group s = is_value (codes "cell") (value_of (codes "type") s)
 abbrev pub is_wrong_type : Section → Entry → Bool
 is_wrong_type s e = not (bytes_eq e.value (codes "coupled") || (bytes_eq e.value (codes "cell") && not (bytes_eq s.name top)))
 
+-- the items that a section names, which a group has none of
 abbrev pub children_of : Section → List Item
 children_of s = if is_group s then [] else items_of (codes "components") s
 
+-- what stands before the `@`
 abbrev pub name_of : Item → Bytes
 name_of i = before_first (is_byte 64) i.text
 
+-- an item with a class
 abbrev pub is_atomic : Item → Bool
 is_atomic i = list_any (is_byte 64) i.text
 
+-- what stands behind the `@`
 abbrev pub class_of : Item → Bytes
 class_of i = after_first (is_byte 64) i.text
 
+-- a name, or a name and the name of a class
 abbrev pub is_item : Item → Bool
 is_item i = is_name (name_of i) && (not (is_atomic i) || is_name (class_of i))
 
@@ -63,23 +70,28 @@ walk_from (suc n) ss around line s =
     at_item (s.name ∷ around) i
     ∷ elim (below ss (s.name ∷ around) i) [ None ↦ [] | Some t ↦ walk_from n ss (s.name ∷ around) i.line t ]) (children_of s)
 
+-- from a section that is there
 abbrev pub walk_at : List Section → Option Section → List Step
 walk_at ss None = []
 walk_at ss (Some s) = walk_from 17 ss [] 0 s
 
+-- from top
 abbrev pub walk : List Section → List Step
 walk ss = walk_at ss (section_named ss top)
 
 -- ---- what the walk meets
 
+-- the item of a step
 abbrev pub item_in : Step → Option Item
 item_in (at_section line deep s) = None
 item_in (at_item around i) = Some i
 
+-- the section of a step
 abbrev pub section_in : Step → Option Section
 section_in (at_section line deep s) = Some s
 section_in (at_item around i) = None
 
+-- the items of steps
 abbrev pub items_in : List Step → List Item
 items_in steps = filter_map item_in steps
 
@@ -87,14 +99,17 @@ items_in steps = filter_map item_in steps
 abbrev pub reached : List Section → List Section
 reached ss = filter_map section_in (walk ss)
 
+-- the sections of groups
 abbrev pub groups : List Section → List Section
 groups ss = filter is_group (reached ss)
 
+-- the items of atomic components
 abbrev pub atomics : List Section → List Item
 atomics ss = filter is_atomic (items_in (walk ss))
 
 -- ---- refusals
 
+-- an item after these, between the names of the sections around it
 abbrev pub item_refused : List Section → List Item → List Bytes → Item → Option Kind
 item_refused ss before around i =
     if not (is_item i) then Some BadValue
@@ -104,16 +119,19 @@ item_refused ss before around i =
     else if not (is_atomic i) && not (is_some (section_of ss i)) then Some UnknownComponent
     else None
 
+-- a wrong type
 abbrev pub type_refused : Section → Option Entry → Option Refusal
 type_refused s None = None
 type_refused s (Some e) = if is_wrong_type s e then Some (refusal e.line BadValue) else None
 
+-- too deep, of a wrong type, or without children
 abbrev pub section_refused : ℕ → Bool → Section → Option Refusal
 section_refused line is_too_deep s =
     if is_too_deep then Some (refusal line TooLarge)
     else option_or (type_refused s (first_entry (codes "type") s))
     (if not (is_group s) && is_empty (children_of s) then Some (refusal s.line MissingKey) else None)
 
+-- a step after these items
 abbrev pub step_refused : List Section → List Item → Step → Option Refusal
 step_refused ss before (at_section line deep s) = section_refused line deep s
 step_refused ss before (at_item around i) = option_map (refusal i.line) (item_refused ss before around i)
@@ -124,8 +142,10 @@ first_step_refused ss before [] = None
 first_step_refused ss before (step ∷ steps) =
     option_or (step_refused ss before step) (first_step_refused ss (before ++ items_in (step ∷ [])) steps)
 
+-- no section top
 abbrev pub top_refused : List Section → Option Refusal
 top_refused ss = if is_some (section_named ss top) then None else Some (refusal 0 NoTop)
 
+-- the first step of the walk that is refused
 abbrev pub tree_refused : List Section → Option Refusal
 tree_refused ss = first_step_refused ss [] (walk ss)

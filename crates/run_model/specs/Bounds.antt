@@ -47,11 +47,13 @@ abbrev mutual
 abbrev pub IsBoundedPart : ℕ × Expr → Type 0
 IsBoundedPart p = HasBoundedNumbers p.1
 
+-- every number of the rule is bounded
 pub record IsBoundedRule (r : Rule) : Type 0 where
   pub gives : All IsBoundedPart r.gives
   pub delay : HasBoundedNumbers r.delay
   pub sets : All IsBoundedPart r.sets
 
+-- its values, rules, delay and sizes are bounded
 pub record IsBoundedGroup (g : Group) : Type 0 where
   pub initial : All IsBounded g.initial
   pub port_values : All IsBounded g.port_values
@@ -69,6 +71,7 @@ IsValueWord w = IsBounded (value_in w)
 abbrev pub IsBoundedHold : Hold → Type 0
 IsBoundedHold h = IfSome (time_in h.time) IsDelay × (same_word h.value any_word ≡ false → IsValueWord h.value)
 
+-- the times and values of a box
 abbrev pub AreBoundedSettings : Class → List ℤ → Type 0
 AreBoundedSettings Queue settings = IsDelay (first_time settings)
 AreBoundedSettings Generator settings =
@@ -87,19 +90,23 @@ abbrev mutual
   HaveBoundedValues nil = ⊤
   HaveBoundedValues (cons t ts) = HasBoundedValues t × HaveBoundedValues ts
 
+-- its value is bounded
 abbrev pub IsBoundedEvent : Event → Type 0
 IsBoundedEvent e = IsBounded e.value
 
 -- ---- states
 
+-- a time and a value
 abbrev pub IsBoundedPair : ℕ × Value → Type 0
 IsBoundedPair p = IsTime p.0 × IsBounded p.1
 
+-- values and pairs
 pub record IsBoundedPort (p : PortState) : Type 0 where
   pub emitted : IsBounded p.emitted
   pub computed : IsBounded p.computed
   pub pairs : All IsBoundedPair p.pairs
 
+-- ports and variables
 pub record IsBoundedCell (c : CellState) : Type 0 where
   pub ports : All IsBoundedPort c.ports
   pub variables : All IsBounded c.variables
@@ -108,6 +115,7 @@ pub record IsBoundedCell (c : CellState) : Type 0 where
 abbrev pub AreBoundedWords : ℤ × ℤ → Type 0
 AreBoundedWords p = IfSome (time_in p.0) IsTime × IsValueWord p.1
 
+-- the times and values of its state
 abbrev pub IsBoundedBox : Class → List ℤ → Type 0
 IsBoundedBox Queue state = IfSome (time_in (queue_state state).due) IsTime × All IsValueWord (queue_state state).waiting
 IsBoundedBox Generator state = IfSome (time_in (generator_state state).next) IsTime × IsValueWord (generator_state state).value
@@ -115,25 +123,31 @@ IsBoundedBox Cpu state = All AreBoundedWords (cpu_pairs state)
 IsBoundedBox Counter state = IfSome (time_in (counter_state state).due) IsTime × IsValueWord (counter_state state).total
 IsBoundedBox Table state = IfSome (time_in (table_state state).due) IsTime × IsValueWord (table_state state).last
 
+-- a box or a cell
 abbrev pub IsBoundedLeaf : LeafState → Type 0
 IsBoundedLeaf (box_state b) = AreBoundedSettings b.kind b.settings × IsBoundedBox b.kind b.state
 IsBoundedLeaf (cell_state c) = IsBoundedCell c
 
+-- leaves and events
 pub record IsBoundedState (s : RunState) : Type 0 where
   pub leaves : All IsBoundedLeaf s.leaf_states
   pub events : All IsBoundedEvent s.events
 
 -- ---- cycles
 
+-- its value
 abbrev pub IsBoundedPortRecord : PortRecord → Type 0
 IsBoundedPortRecord r = IsBounded r.value
 
+-- its value and its next time
 abbrev pub IsBoundedStateRecord : StateRecord → Type 0
 IsBoundedStateRecord r = IfSome r.value IsBounded × IfSome r.next IsTime
 
+-- its value
 abbrev pub IsBoundedOutRecord : OutRecord → Type 0
 IsBoundedOutRecord r = IsBounded r.value
 
+-- a time up to the end, and bounded records
 pub record IsBoundedCycle (end : ℕ) (c : Cycle) : Type 0 where
   pub time : c.time ≤ end
   pub y : All IsBoundedPortRecord c.y
@@ -144,10 +158,12 @@ pub record IsBoundedCycle (end : ℕ) (c : Cycle) : Type 0 where
 
 -- ---- the laws
 
+-- of a bounded model with bounded events
 abbrev pub StartIsBounded : Type 0
 StartIsBounded =
     (tree : Tree) (events : List Event) → HasBoundedValues tree → All IsBoundedEvent events → IsBoundedState (start tree events)
 
+-- from a bounded state, up to an end of at most 99:59:59:999
 abbrev pub RunsAreBounded : Type 0
 RunsAreBounded =
     (tree : Tree) (end limit : ℕ) (s l : RunState) (cs : List Cycle) (v : Verdict) → HasBoundedValues tree → IsDelay end → IsBoundedState s → Runs tree end limit s cs v l

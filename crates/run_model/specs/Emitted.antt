@@ -23,10 +23,12 @@ abbrev pub last_given : ℕ → List Cycle → Value → Value
 last_given leaf [] v = v
 last_given leaf (c ∷ cs) v = last_given leaf cs (last_of leaf c.y v)
 
+-- a leaf that is a cell
 abbrev pub IsCell : Leaf → Type 0
 IsCell (atomic_leaf name class settings) = ⊥
 IsCell (cell_leaf g first cell) = ⊤
 
+-- over any run from a state that stands and fits
 abbrev pub EmitsWhatItGives : Type 0
 EmitsWhatItGives =
     (tree : Tree) (end limit low leaf : ℕ) (s l : RunState) (cs : List Cycle) (v : Verdict) → StandsFrom limit low s → FitsTree tree s.leaf_states → OfLeaf tree leaf IsCell

@@ -22,6 +22,7 @@ Fits (atomic_leaf name class settings) (cell_state c) = ⊥
 Fits (cell_leaf g first cell) (box_state b) = ⊥
 Fits (cell_leaf g first cell) (cell_state c) = HasNumbers (suc (length g.port_values)) (length g.variable_values) c
 
+-- each state fits its leaf
 abbrev pub FitsTree : Tree → List LeafState → Type 0
 FitsTree tree states = AllZip Fits (leaves tree) states
 
@@ -30,6 +31,7 @@ abbrev pub IsFurtherPort : Leaf → ℕ → Type 0
 IsFurtherPort (atomic_leaf name class settings) port = ⊥
 IsFurtherPort (cell_leaf g first cell) port = (0 < port) × (port ≤ length g.port_values)
 
+-- a number of an input port
 abbrev pub IsInPort : Leaf → ℕ → Type 0
 IsInPort (atomic_leaf name class settings) port = port < length (class_ports class)
 IsInPort (cell_leaf g first cell) port = port < length (cell_ports g cell)
@@ -43,6 +45,7 @@ IsStateValue (cell_leaf g first cell) value = IsSome value
 abbrev pub OfLeaf : Tree → ℕ → (Leaf → Type 0) → Type 0
 OfLeaf tree leaf holds = IsSomeAnd (slice_get (leaves tree) leaf) holds
 
+-- each record of a cycle names a leaf and a port that there are
 pub record NamesItsParts (tree : Tree) (c : Cycle) : Type 0 where
   pub y : All (λ (r : PortRecord). OfLeaf tree r.leaf (λ l. r.port ≡ 0)) c.y
   pub n : All (λ (r : PortRecord). OfLeaf tree r.leaf (λ l. IsFurtherPort l r.port)) c.n
@@ -50,6 +53,7 @@ pub record NamesItsParts (tree : Tree) (c : Cycle) : Type 0 where
   pub s : All (λ (r : StateRecord). OfLeaf tree r.leaf (λ l. IsStateValue l r.value)) c.s
   pub out : All (λ (r : OutRecord). r.port < length (outs_of tree)) c.out
 
+-- at the start
 abbrev pub StartFits : Type 0
 StartFits = (tree : Tree) (events : List Event) → FitsTree tree (start tree events).leaf_states
 
@@ -65,6 +69,7 @@ CycleFits =
     (tree : Tree) (end limit : ℕ) (s n : RunState) (c : Cycle) → FitsTree tree s.leaf_states → next_cycle tree end limit s ≡ cycled c n
     → NamesItsParts tree c × FitsTree tree n.leaf_states
 
+-- over a whole run
 abbrev pub RunsFit : Type 0
 RunsFit =
     (tree : Tree) (end limit : ℕ) (s l : RunState) (cs : List Cycle) (v : Verdict) → FitsTree tree s.leaf_states → Runs tree end limit s cs v l

@@ -23,6 +23,7 @@ use Rattle.run_model.specs.Visits.{visits}
 
 -- ---- ports with rules of their own
 
+-- the rules of a port, by letter and cell
 abbrev pub port_rule : ℕ → ℕ → ℕ → PortRule
 port_rule port cell rules = record { port = letter port; cell = cell; rules = rules }
 
@@ -42,6 +43,7 @@ two_ports =
       variable_values = whole 0 ∷ [];
     }
 
+-- each input of top leads to one of the ports
 abbrev pub to_ports : Tree
 to_ports =
     coupled (116 ∷ 111 ∷ 112 ∷ []) (letter 97 ∷ letter 98 ∷ letter 99 ∷ []) [] (cons (cells two_ports) nil)
@@ -53,6 +55,7 @@ event_to port t v = record { time = t; port = port; value = whole v }
 
 -- ---- zones with rules of their own
 
+-- a place of a row
 abbrev pub column : ℕ → Place
 column n = record { row = 0; column = n; plane = 0 }
 
@@ -112,6 +115,7 @@ seen_outside = (sight_of 0 (start with_port []).leaf_states (record (one_cell []
 
 -- ---- what their runs are
 
+-- what the runs of these groups are
 pub record GroupsRun : Type 0 where
   pub ports : map shown (run to_ports (event_to 0 10 3 ∷ event_to 1 40 5 ∷ event_to 1 60 6 ∷ event_to 2 80 9 ∷ []) 200 10000).cycles ≡
       (0, (0, whole 0) ∷ (1, whole 2) ∷ []) ∷ (10, []) ∷ (20, (0, whole 4) ∷ []) ∷ (40, []) ∷ (50, (0, whole 0) ∷ [])

@@ -8,6 +8,7 @@ use Rattle.run_model.specs.CellStep.{PortState, port_took, took}
 
 -- ---- what is given at each port
 
+-- the later value, if there is one
 abbrev pub or_earlier : Option Value → Option Value → Option Value
 or_earlier None earlier = earlier
 or_earlier (Some v) earlier = Some v
@@ -17,6 +18,7 @@ abbrev pub given_at : List (ℕ × Value) → ℕ → Option Value
 given_at [] port = None
 given_at (g ∷ gs) port = or_earlier (given_at gs port) (if g.0 == port then Some g.1 else None)
 
+-- what is given at each of four ports
 abbrev pub by_port : List (ℕ × Value) → List (Option Value)
 by_port gs = given_at gs 0 ∷ given_at gs 1 ∷ given_at gs 2 ∷ given_at gs 3 ∷ []
 
@@ -32,6 +34,7 @@ abbrev pub each_took : DelayKind → ℕ → List (Option Value) → List PortSt
 each_took kind at (o ∷ os) (p ∷ ps) = port_took_some kind at o p ∷ each_took kind at os ps
 each_took kind at os ps = ps
 
+-- no port is given twice
 abbrev pub ports_differ : List (ℕ × Value) → Bool
 ports_differ gs = differ (map (λ (g : ℕ × Value). g.0) gs)
 

@@ -15,6 +15,7 @@ abbrev pub RisesFrom : ℕ → List (ℕ × Value) → Type 0
 RisesFrom low [] = ⊤
 RisesFrom low (p ∷ ps) = (low ≤ p.0) × RisesFrom (p.0 + 1) ps
 
+-- each list of a cell rises from this time on
 abbrev pub CellWaitsFrom : ℕ → CellState → Type 0
 CellWaitsFrom low c = All (λ (p : PortState). RisesFrom low p.pairs) c.ports
 
@@ -33,6 +34,7 @@ abbrev pub NeverFalls : ℕ → List (ℤ × ℤ) → Type 0
 NeverFalls low [] = ⊤
 NeverFalls low (p ∷ ps) = IsTimeFrom low p.0 × NeverFalls (milliseconds p.0) ps
 
+-- a box waits for this time or a later one
 abbrev pub BoxWaitsFrom : ℕ → Class → List ℤ → Type 0
 BoxWaitsFrom low Queue state = IsNotBefore low (next_of Queue state)
 BoxWaitsFrom low Generator state = IsNotBefore low (next_of Generator state)
@@ -40,6 +42,7 @@ BoxWaitsFrom low Cpu state = NeverFalls low (cpu_pairs state)
 BoxWaitsFrom low Counter state = IsNotBefore low (next_of Counter state)
 BoxWaitsFrom low Table state = IsNotBefore low (next_of Table state)
 
+-- a box or a cell
 abbrev pub LeafWaitsFrom : ℕ → LeafState → Type 0
 LeafWaitsFrom low (box_state b) = BoxWaitsFrom low b.kind b.state
 LeafWaitsFrom low (cell_state c) = CellWaitsFrom low c

@@ -33,6 +33,7 @@ abbrev pub instants : List Shown → List ℕ
 instants [] = []
 instants (s ∷ ss) = s.time ∷ filter (λ t. not (t == s.time)) (instants ss)
 
+-- the value of a cell, where it was shown by this time
 abbrev pub value_until : ℕ → ℕ → Shown → Option Value
 value_until t cell s = if nat_le s.time t && (s.cell == cell) then Some s.value else None
 
@@ -40,9 +41,11 @@ value_until t cell s = if nat_le s.time t && (s.cell == cell) then Some s.value 
 abbrev pub value_at : (ℕ → Value) → List Shown → ℕ → ℕ → Value
 value_at start shown t cell = unwrap_or (last_or None (filter_map (value_until t cell) shown)) (start cell)
 
+-- the line above and below
 abbrev pub edge : Picture → Bytes
 edge p = ended (codes "+" ++ replicate (p.width * p.space.columns) 45 ++ codes "+")
 
+-- a row of cells
 abbrev pub row_text : Picture → (ℕ → Value) → ℕ → Bytes
 row_text p value row =
     ended
@@ -50,6 +53,7 @@ row_text p value row =
     ++ flat_map (λ column. value_text p.decimals p.width (value (number_of p.space row column p.plane))) (range_with_len 0 p.space.columns)
     ++ codes "|")
 
+-- the time, the rows between two edges, and an empty line
 abbrev pub frame_text : Picture → ℕ → (ℕ → Value) → Bytes
 frame_text p t value =
     ended (codes "Time: " ++ time_text t) ++ edge p ++ flat_map (row_text p value) (range_with_len 0 p.space.rows) ++ edge p ++ ended []
@@ -60,15 +64,18 @@ frames p start shown = flat_map (λ t. frame_text p t (value_at start shown t)) 
 
 -- ---- of cycles: the group's first cell has this leaf number
 
+-- what a record shows of the cells of a group
 abbrev pub shown_by : Space → ℕ → ℕ → PortRecord → Option Shown
 shown_by s first time r =
     if nat_le first r.leaf && nat_lt r.leaf (first + cell_count s)
     then Some (record { time = time; cell = r.leaf - first; value = r.value })
     else None
 
+-- what cycles show
 abbrev pub shown_in : Space → ℕ → List Cycle → List Shown
 shown_in s first cycles = flat_map (λ (c : Cycle). filter_map (shown_by s first c.time) c.y) cycles
 
+-- the frames of cycles
 abbrev pub frames_of : Picture → ℕ → (ℕ → Value) → List Cycle → Bytes
 frames_of p first start cycles = frames p start (shown_in p.space first cycles)
 
@@ -85,11 +92,13 @@ abbrev pub shown_at : ℕ → Value → Option ℕ → Option (List Shown)
 shown_at time v None = None
 shown_at time v (Some cell) = Some (record { time = time; cell = cell; value = v } ∷ [])
 
+-- what a line shows of a group: its Y lines alone
 abbrev pub shown_of : Space → Word → LogLine → Option (List Shown)
 shown_of s group (moved time leaf state next) = Some []
 shown_of s group (given letter time leaf port v) =
     if (letter == 89) && bytes_eq leaf.name group then shown_at time v (cell_of s leaf.at) else Some []
 
+-- the time of a line
 abbrev pub line_time : LogLine → ℕ
 line_time (given letter time leaf port v) = time
 line_time (moved time leaf state next) = time
@@ -99,11 +108,13 @@ abbrev pub not_before : ℕ → Option LogLine → Option LogLine
 not_before t None = None
 not_before t (Some l) = if nat_le t (line_time l) then Some l else None
 
+-- what a line shows, before what those behind it show
 abbrev pub and_shown : ℕ → Option (List Shown) → Result (List Shown) ℕ → Result (List Shown) ℕ
 and_shown line None more = Err line
 and_shown line (Some here) (Err later) = Err later
 and_shown line (Some here) (Ok more) = Ok (here ++ more)
 
+-- nothing stands behind the last line end
 abbrev pub only_end : ℕ → Bytes → Result (List Shown) ℕ
 only_end line [] = Ok []
 only_end line (c ∷ cs) = Err line
@@ -118,9 +129,11 @@ lines_from s group line before (part ∷ next ∷ more) =
       | Some l ↦ and_shown line (shown_of s group l) (lines_from s group (line + 1) (line_time l) (next ∷ more))
     ]
 
+-- the frames of what is shown
 abbrev pub drawn_lines : Picture → Result (List Shown) ℕ → Result Bytes ℕ
 drawn_lines p (Err line) = Err line
 drawn_lines p (Ok shown) = Ok (frames p (λ cell. Undefined) shown)
 
+-- the frames of a log, or the number of the first line that is refused
 abbrev pub drawn : Picture → Word → Bytes → Result Bytes ℕ
 drawn p group log = drawn_lines p (lines_from p.space group 1 0 (slice_split (λ c. c == 10) log))

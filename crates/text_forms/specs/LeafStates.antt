@@ -15,13 +15,16 @@ abbrev pub rises : ℕ → List (ℕ × Value) → Bool
 rises before [] = true
 rises before (p ∷ ps) = nat_lt before p.0 && nat_le p.0 719999998 && rises p.0 ps
 
+-- its pairs are later than this time
 abbrev pub is_port_state : ℕ → PortState → Bool
 is_port_state t p = rises t p.pairs
 
+-- a next time, if there is one, is later
 abbrev pub is_later : ℕ → Option ℕ → Bool
 is_later t None = true
 is_later t (Some n) = nat_lt t n
 
+-- a state of the leaf that waits for later times
 abbrev pub is_leaf_state : ℕ → Leaf → LeafState → Bool
 is_leaf_state t (atomic_leaf name class settings) (box_state b) =
     is_box_state class settings b.state && is_later t (next_of class b.state)
@@ -31,9 +34,11 @@ is_leaf_state t l s = false
 
 -- ---- and its numbers are in range
 
+-- each has a text
 abbrev pub has_values_in_range : PortState → Bool
 has_values_in_range p = is_value p.emitted && is_value p.computed && list_all (λ (q : ℕ × Value). is_value q.1) p.pairs
 
+-- at most 10^17
 abbrev pub is_word : ℤ → Bool
 is_word w = nat_le (unsigned_abs w) (10 ^ 17)
 

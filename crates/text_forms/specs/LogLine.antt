@@ -28,14 +28,17 @@ pub data LogLine : Type 0 where
 abbrev pub leaf_text : LeafName → Bytes
 leaf_text l = l.name ++ at_text l.at
 
+-- a value, or `-`
 abbrev pub state_text : Option Value → Bytes
 state_text None = codes "-"
 state_text (Some v) = text5 v
 
+-- a time, or `...`
 abbrev pub next_text : Option ℕ → Bytes
 next_text None = codes "..."
 next_text (Some t) = time_text t
 
+-- the five parts of a line
 abbrev pub parts_of : LogLine → List Bytes
 parts_of (given letter time leaf port value) =
     (letter ∷ []) ∷ time_text time ∷ leaf_text leaf ∷ port ∷ text5 value ∷ []
@@ -48,23 +51,28 @@ with_strokes [] = []
 with_strokes (x ∷ []) = x ∷ []
 with_strokes (x ∷ y ∷ ys) = x ∷ codes "/" ∷ with_strokes (y ∷ ys)
 
+-- the text of a line, without its end
 abbrev pub line_text : LogLine → Bytes
 line_text l = join_with_byte 32 (with_strokes (parts_of l))
 
 -- ---- which lines there are
 
+-- a name, and no coordinates, two or three
 abbrev pub is_leaf : LeafName → Bool
 is_leaf l =
     is_name l.name && list_all (λ n. nat_le n 1048575) l.at
     && ((length l.at == 0) || (length l.at == 2) || (length l.at == 3))
 
+-- a cell
 abbrev pub has_place : LeafName → Bool
 has_place l = not (length l.at == 0)
 
+-- at most 10^10, or `?`
 abbrev pub is_value : Value → Bool
 is_value Undefined = true
 is_value (Num x) = nat_le (unsigned_abs x) (10 ^ 15)
 
+-- at most 199:59:59:998
 abbrev pub is_time : ℕ → Bool
 is_time t = nat_le t 719999998
 
@@ -72,14 +80,17 @@ is_time t = nat_le t 719999998
 abbrev pub is_letter : ℕ → LeafName → Bool
 is_letter letter l = (letter == 89) || (letter == 88) || ((letter == 78) && has_place l)
 
+-- a cell has a value, and a box none
 abbrev pub is_state : LeafName → Option Value → Bool
 is_state l None = not (has_place l)
 is_state l (Some v) = has_place l && is_value v
 
+-- a time or none
 abbrev pub is_next : Option ℕ → Bool
 is_next None = true
 is_next (Some t) = is_time t
 
+-- a line that may stand in a log
 abbrev pub is_line : LogLine → Bool
 is_line (given letter time leaf port value) =
     is_letter letter leaf && is_time time && is_leaf leaf && is_name port && is_value value
@@ -87,33 +98,41 @@ is_line (moved time leaf state next) = is_time time && is_leaf leaf && is_state 
 
 -- ---- a line read back: its parts stand between the strokes
 
+-- the numbers between commas
 abbrev pub at_in : Bytes → List ℕ
 at_in text = map (digits_value 10) (slice_split (λ c. c == 44) (filter (λ c. not (c == 41)) text))
 
+-- from a name and its coordinates
 abbrev pub leaf_of : List Bytes → LeafName
 leaf_of (name ∷ at ∷ []) = record { name = name; at = at_in at }
 leaf_of (name ∷ parts) = record { name = name; at = [] }
 leaf_of [] = record { name = []; at = [] }
 
+-- from a text
 abbrev pub leaf_in : Bytes → LeafName
 leaf_in text = leaf_of (slice_split (λ c. c == 40) text)
 
+-- from the numbers between colons
 abbrev pub guessed_time : Bytes → Option ℕ
 guessed_time text = time_of (slice_split (λ c. c == 58) text)
 
+-- where its time and value are read
 abbrev pub given_in : ℕ → Option ℕ → LeafName → Word → Option Value → Option LogLine
 given_in letter (Some t) leaf port (Some v) = Some (given letter t leaf port v)
 given_in letter t leaf port v = None
 
+-- where its time is read
 abbrev pub moved_in : Option ℕ → LeafName → Bytes → Bytes → Option LogLine
 moved_in None leaf state next = None
 moved_in (Some t) leaf state next = Some (moved t leaf (guessed_value state) (guessed_time next))
 
+-- from its five parts
 abbrev pub line_in : List Bytes → Option LogLine
 line_in ((c ∷ []) ∷ t ∷ leaf ∷ a ∷ b ∷ []) =
     if c == 83 then moved_in (guessed_time t) (leaf_in leaf) a b else given_in c (guessed_time t) (leaf_in leaf) a (guessed_value b)
 line_in parts = None
 
+-- where it may stand in a log
 abbrev pub if_line : Option LogLine → Option LogLine
 if_line None = None
 if_line (Some l) = if is_line l then Some l else None
@@ -122,5 +141,6 @@ if_line (Some l) = if is_line l then Some l else None
 abbrev pub parts_in : Bytes → List Bytes
 parts_in text = filter (λ w. not (bytes_eq w (codes "/"))) (slice_split (λ c. c == 32) text)
 
+-- the line that a text is, if it is one
 abbrev pub read_line : Bytes → Option LogLine
 read_line text = if_written line_text text (if_line (line_in (parts_in text)))

@@ -17,6 +17,7 @@ use Rattle.text_forms.specs.StateText.{leaf_line, at_line}
 
 -- ---- a leaf, as its words say it
 
+-- all words, where each is read
 abbrev pub all_in : {A : Type 0} → (Bytes → Option A) → List Bytes → Option (List A)
 all_in read [] = Some []
 all_in read (w ∷ ws) = for_some (read w) (λ x. for_some (all_in read ws) (λ xs. Some (x ∷ xs)))
@@ -28,17 +29,20 @@ pairs_in (suc n) (t ∷ v ∷ ws) =
 pairs_in zero ws = Some ([], ws)
 pairs_in n ws = None
 
+-- the port that stands in front, and the words after it
 abbrev pub port_in : List Bytes → Option (PortState × List Bytes)
 port_in (e ∷ s ∷ n ∷ ws) =
     for_some (guessed_value e) (λ e. for_some (guessed_value s) (λ s. for_some (number_in (10 ^ 9) n) (λ n.
     for_some (pairs_in n ws) (λ (ps, rest). Some (record { emitted = e; computed = s; pairs = ps }, rest)))))
 port_in ws = None
 
+-- so many ports, and the words after them
 abbrev pub ports_in : ℕ → List Bytes → Option (List PortState × List Bytes)
 ports_in zero ws = Some ([], ws)
 ports_in (suc n) ws =
     for_some (port_in ws) (λ (p, rest). for_some (ports_in n rest) (λ (ps, rest). Some (p ∷ ps, rest)))
 
+-- the words of a box, or the ports and variables of a cell
 abbrev pub leaf_state_in : Leaf → List Bytes → Option LeafState
 leaf_state_in (atomic_leaf name class settings) ws =
     for_some (all_in (signed_in (10 ^ 17)) ws) (λ words. Some (box_state (record { kind = class; settings = settings; state = words })))
@@ -46,12 +50,15 @@ leaf_state_in (cell_leaf g first cell) ws =
     for_some (ports_in (suc (length g.ports)) ws) (λ (ports, rest).
     for_some (all_in guessed_value rest) (λ xs. Some (cell_state (record { ports = ports; variables = xs }))))
 
+-- where it is a state of the leaf
 abbrev pub if_leaf_state : ℕ → Leaf → Option LeafState → Option LeafState
 if_leaf_state t l o = for_some o (λ s. if is_leaf_state t l s then Some s else None)
 
+-- what stands between single blanks
 abbrev pub words_in : Bytes → List Bytes
 words_in line = slice_split (λ c. c == 32) line
 
+-- the state that a line is, if it is one
 abbrev pub read_leaf : ℕ → Leaf → Bytes → Option LeafState
 read_leaf t l line = if_written (leaf_line l) line (if_leaf_state t l (leaf_state_in l (drop 2 (words_in line))))
 
@@ -67,6 +74,7 @@ abbrev pub next_line : {A B : Type 0} → ℕ → (Bytes → Option A) → List 
 next_line n read (line ∷ next ∷ more) go = elim (read line) [ None ↦ Err (BadStateLine n) | Some x ↦ go x (next ∷ more) ]
 next_line n read parts go = Err (BadStateLine n)
 
+-- the line that is this text
 abbrev pub just : Bytes → Bytes → Option Bytes
 just text line = if bytes_eq line text then Some line else None
 
@@ -75,6 +83,7 @@ abbrev pub nothing_more : {A : Type 0} → ℕ → A → List Bytes → Result A
 nothing_more n x ([] ∷ []) = Ok x
 nothing_more n x parts = Err (BadStateLine n)
 
+-- a line for each leaf, and then the line `end`
 abbrev pub leaves_in : ℕ → ℕ → List Leaf → List Bytes → Result (List LeafState) StateRefusal
 leaves_in n t [] parts = next_line n (just (codes "end")) parts (λ e rest. nothing_more (n + 1) [] rest)
 leaves_in n t (l ∷ ls) parts =
@@ -86,6 +95,7 @@ abbrev pub read_at : Bytes → Option ℕ
 read_at line =
     if_written at_line line (for_some (read_time (drop 3 line)) (λ t. if nat_le t 359999999 then Some t else None))
 
+-- the leaves, unless the time is past the end
 abbrev pub state_at : ℕ → ℕ → List Leaf → List Bytes → Result Saved StateRefusal
 state_at end t ls parts =
     if nat_lt end t then Err (EndBefore 2)
@@ -93,6 +103,7 @@ state_at end t ls parts =
 
 -- ---- the whole text
 
+-- the state that a text is, or its first refusal
 abbrev pub state_of : Bytes → Tree → ℕ → Result Saved StateRefusal
 state_of bytes tree end =
     if nat_lt 268435456 (length bytes) then Err (TooLarge 0)

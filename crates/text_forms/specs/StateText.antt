@@ -12,6 +12,7 @@ use Rattle.quantity.specs.Times.{time_text}
 use Rattle.text_forms.specs.LogLine.{leaf_text}
 use Rattle.text_forms.specs.Lines.{leaf_name, ended}
 
+-- a time in milliseconds, and a value
 abbrev pub pair_words : ℕ × Value → List Bytes
 pair_words p = decimal p.0 ∷ text5 p.1 ∷ []
 
@@ -25,17 +26,22 @@ leaf_words l (cell_state c) =
     codes "cell" ∷ leaf_text (leaf_name l) ∷ flat_map port_words c.ports ++ map text5 c.variables
 leaf_words l (box_state b) = codes "box" ∷ leaf_text (leaf_name l) ∷ map signed_decimal b.state
 
+-- the line of a leaf
 abbrev pub leaf_line : Leaf → LeafState → Bytes
 leaf_line l s = join_with_byte 32 (leaf_words l s)
 
+-- the line of the time
 abbrev pub at_line : ℕ → Bytes
 at_line t = codes "at " ++ time_text t
 
+-- the lines of all leaves
 abbrev pub leaf_lines : List Leaf → List LeafState → List Bytes
 leaf_lines ls states = map (λ (p : Leaf × LeafState). leaf_line p.0 p.1) (zip ls states) ++ codes "end" ∷ []
 
+-- all lines
 abbrev pub state_lines : ℕ → List Leaf → List LeafState → List Bytes
 state_lines t ls states = codes "state 1" ∷ at_line t ∷ leaf_lines ls states
 
+-- the text of a saved state
 abbrev pub text_of_state : Tree → ℕ → List LeafState → Bytes
 text_of_state tree t states = flat_map ended (state_lines t (leaves tree) states)
