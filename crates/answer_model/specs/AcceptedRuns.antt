@@ -1,5 +1,5 @@
 -- The runs of accepted models: their values are bounded, their leaves and ports have names, and what their logs say is drawn.
-use Rattle.std.specs.Prelude.{◌≡◌, ℕ, ◌<◌, ◌==◌, true, Option, Some, None, List, [], ◌∷◌}
+use Rattle.std.specs.Prelude.{◌≡◌, ℕ, ◌<◌, ◌==◌, true, Option, Some, None, List, [], ◌∷◌, length}
 use Rattle.std.specs.List.{All, list_all, list_any}
 use Rattle.std.specs.declared.result.Result.TheVariants.{Ok}
 use Rattle.quantity.specs.Bytes.{Bytes}
@@ -34,6 +34,11 @@ IsEarly e = IsDelay e.time
 abbrev pub EventsAreBounded : Type 0
 EventsAreBounded =
     (bytes : Bytes) (ports : List Bytes) (events : List Event) → events_of bytes ports ≡ Ok events → All IsBoundedEvent events × All IsEarly events
+
+-- each event is at one of these ports, by number
+abbrev pub EventsAreAtPorts : Type 0
+EventsAreAtPorts =
+    (bytes : Bytes) (ports : List Bytes) (events : List Event) → events_of bytes ports ≡ Ok events → All (λ (e : Event). e.port < length ports) events
 
 -- ---- names
 

@@ -1,5 +1,5 @@
 // Laws of the runs of accepted models.
-ghost use Rattle.answer_model.specs.AcceptedRuns.{DrawingsHaveGroups, EventsAreBounded, FilesAreDrawn, FramesAreDrawn, GroupsAreNamed, ModelsAreBounded, ModelsAreNamed, RunsAreDrawn};
+ghost use Rattle.answer_model.specs.AcceptedRuns.{DrawingsHaveGroups, EventsAreAtPorts, EventsAreBounded, FilesAreDrawn, FramesAreDrawn, GroupsAreNamed, ModelsAreBounded, ModelsAreNamed, RunsAreDrawn};
 
 use crate::laws::drawn_agrees;
 use model_text::accepted::{accepted_models_are_sound, accepted_models_pass_each_phase};
@@ -9,6 +9,11 @@ use run_model::laws::{records_name_what_there_is, values_are_bounded};
 /// The values of the events of an accepted file are bounded, and their times at most 99:59:59:999.
 pub fn accepted_events_are_bounded()
     ensures { EventsAreBounded }
+{}
+
+/// The events of an accepted file are at the ports that it is read with.
+pub fn accepted_events_are_at_ports()
+    ensures { EventsAreAtPorts }
 {}
 
 /// The values that an accepted model has are bounded, and its delays at most 99:59:59:999.
