@@ -18,3 +18,4 @@ mod TopInputs
 mod FedParts
 mod Targets
 mod OutsFed
+mod Distinct

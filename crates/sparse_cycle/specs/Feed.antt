@@ -3,6 +3,7 @@ use Rattle.std.specs.Prelude.{◌≡◌, ℕ, ◌==◌, ◌<◌, Bool, false, �
 use Rattle.std.specs.List.{All, list_any, filter, flat_map, range_with_len}
 use Rattle.std.specs.List.Sorted.{IsNonDecreasingBy}
 use Rattle.std.specs.Str.{bytes_eq}
+use Rattle.quantity.specs.Bytes.{has_repeat}
 use Rattle.quantity.specs.declared.value.Value.{Value}
 use Rattle.model_tree.specs.Tree.{Word, Tree, ins_of, leaves}
 use Rattle.model_tree.specs.Pull.{Source, leaf_source, top_source}
@@ -95,6 +96,10 @@ XRises =
 -- names of which no two are the same
 abbrev pub AreDistinct : List Word → Type 0
 AreDistinct ins = (j k : ℕ) → j < length ins → k < length ins → bytes_eq (name_at ins j) (name_at ins k) ≡ (k == j)
+
+-- where no name stands twice
+abbrev pub DistinctWhereOnce : Type 0
+DistinctWhereOnce = (ins : List Word) → has_repeat ins ≡ false → AreDistinct ins
 
 -- each event is at an input that there is
 abbrev pub AreAtInputs : List Word → List Event → Type 0

@@ -6,7 +6,7 @@ ghost use Rattle.sparse_cycle.specs.Walk.{EachMoves, QueueKnows, WalkIsAtOnce};
 ghost use Rattle.sparse_cycle.specs.Woken.{DueCellsGive, WokenWatch};
 ghost use Rattle.sparse_cycle.specs.Collect.{CollectsAtOnce, DueCanCollect, GiversGave};
 ghost use Rattle.sparse_cycle.specs.Wake.{GiversWake, ReachedAreTouched};
-ghost use Rattle.sparse_cycle.specs.Feed.{FeedsByNumber, FeedsParts, NumbersAreWithin, OutsAreFed, TargetsAreLeaves, TopByNumber, XRises, YShowsGiven, YRises};
+ghost use Rattle.sparse_cycle.specs.Feed.{DistinctWhereOnce, FeedsByNumber, FeedsParts, NumbersAreWithin, OutsAreFed, TargetsAreLeaves, TopByNumber, XRises, YShowsGiven, YRises};
 
 /// The examples of the definitions.
 pub fn cycles_are_sparse()
@@ -71,9 +71,10 @@ pub fn records_show_what_is_given()
     ensures x_rises { XRises }
 {}
 
-/// Where no two inputs of top have one name, an event stands at the input of its number.
+/// Where no two inputs of top have one name, as in every sound model, an event stands at the input of its number.
 pub fn events_stand_by_number()
-    ensures { TopByNumber }
+    ensures inputs { TopByNumber }
+    ensures distinct { DistinctWhereOnce }
 {}
 
 /// The paths at whose sources a Y record or an event stands, by their numbers, bring the X records and the outputs of a cycle.
