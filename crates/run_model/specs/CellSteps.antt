@@ -1,17 +1,16 @@
 -- Steps of one cell with an input: what comes in while another value waits.
-use Rattle.std.specs.Prelude.{◌≡◌, ℕ, false, Some, None, List, [], ◌∷◌}
-use Rattle.std.specs.declared.result.Result.TheVariants.{Ok, Err}
+use Rattle.std.specs.Prelude.{◌≡◌, ℕ, false, Some, List, [], ◌∷◌}
+use Rattle.std.specs.declared.result.Result.TheVariants.{Ok}
 use Rattle.quantity.specs.declared.value.Value.{Value}
 use Rattle.quantity.specs.declared.value.Value.TheVariants.{Undefined}
-use Rattle.rule_tree.specs.declared.outcome.RuleStop.TheVariants.{NoTrueRule}
 use Rattle.rule_tree.specs.Meaning.{Sight, whole}
 use Rattle.atomic_face.specs.Classes.{Bag}
 use Rattle.model_tree.specs.declared.group.DelayKind.{DelayKind}
 use Rattle.model_tree.specs.declared.group.DelayKind.TheVariants.{Transport, Inertial}
-use Rattle.model_tree.specs.Tree.{Word, Group}
+use Rattle.model_tree.specs.Tree.{Group}
 use Rattle.model_tree.specs.Pull.{cell_ports}
 use Rattle.model_tree.specs.Examples.{letter}
-use Rattle.run_model.specs.CellStep.{PortState, CellState, Stepped, initial_cell, cell_next, cell_emitted, cell_output, cell_moved}
+use Rattle.run_model.specs.CellStep.{CellState, Stepped, initial_cell, cell_next, cell_emitted, cell_output, cell_moved}
 use Rattle.run_model.specs.Examples.{one_cell}
 
 -- one cell whose port is named v, without a rule of its own
