@@ -8,7 +8,7 @@ use Rattle.quantity.specs.declared.place.Offset.{Offset}
 use Rattle.rule_tree.specs.declared.node.Unary.TheVariants.{Not}
 use Rattle.rule_tree.specs.declared.node.Binary.TheVariants.{Mul, Sub, Cmp}
 use Rattle.rule_tree.specs.declared.node.Count.TheVariants.{Ones, Undefs}
-use Rattle.rule_tree.specs.declared.node.Function.TheVariants.{CellPos, IsUndefined}
+use Rattle.rule_tree.specs.declared.function.Function.TheVariants.{CellPos, IsUndefined}
 use Rattle.rule_tree.specs.declared.outcome.RuleStop.TheVariants.{NoTrueRule, Overflow}
 use Rattle.rule_tree.specs.Expression as E
 use Rattle.rule_tree.specs.Expression.{Rule, Expr, number, truth, neighbour, variable, one, two, call, counted}
