@@ -39,6 +39,14 @@ fn zeros(alloc: Global, count: usize) -> Result<Vec<u8>, AllocError>
     vec![in alloc; 0u8; count]
 }
 
+// How many bytes are asked for at most, after so many: one past the limit tells that there are more.
+fn left_to_ask(limit: u32, read: usize) -> usize
+    requires { read ≤ limit }
+    ensures { read + result ≡ limit + 1 }
+{
+    limit as usize + 1 - read
+}
+
 /// Reads a file of at most `limit` bytes.
 ///
 /// # Errors
@@ -78,7 +86,7 @@ pub fn read_whole<R: Room>(
     }
     let mut bytes: Vec<u8> = Vec::new(alloc);
     loop {
-        piece.truncate(limit as usize + 1 - bytes.len());
+        piece.truncate(left_to_ask(limit, bytes.len()));
         let Ok(n) = room.read_input(&mut piece) else {
             return Err(ReadWhole::ReadFault);
         };
