@@ -1,14 +1,13 @@
 -- Names of which none stands twice are distinct.
-use Rattle.std.proofs.Common.{◌≡◌, ℕ, zero, suc, ◌+◌, ◌<◌, Bool, true, false, eqb, eqb-true, eq-eqb, List, [], ◌∷◌, length, refl, sym, ◌∙◌, ap, arith, rules}
+use Rattle.std.proofs.Common.{◌≡◌, ℕ, zero, suc, ◌<◌, Bool, true, false, eqb, eqb-true, eq-eqb, List, [], ◌∷◌, length, refl, sym, ◌∙◌, ap, arith, rules}
 use Rattle.std.specs.Prelude.{◌||◌}
-use Rattle.std.specs.List.{list_any}
 use Rattle.std.specs.Str.{bytes_eq}
 use Rattle.std.proofs.lemmas.Bool.{ne_eqb}
 use Rattle.std.proofs.lemmas.Slice.Eq.{bytes_eq-Decides}
 use Rattle.quantity.specs.Bytes.{is_among, has_repeat}
 use Rattle.cell_grid.proofs.Rising.{same_answer}
 use Rattle.model_tree.specs.Tree.{Word}
-use Rattle.sparse_cycle.specs.Feed.{name_at, AreDistinct, DistinctWhereOnce}
+use Rattle.sparse_cycle.specs.Feed.{name_at, DistinctWhereOnce}
 
 same_as_itself : (t : Word) → bytes_eq t t ≡ true
 same_as_itself t = search (rules, bytes_eq-Decides)
