@@ -6,20 +6,19 @@ use Rattle.quantity.specs.Bytes.{Bytes}
 use Rattle.quantity.specs.declared.value.Value.{Value}
 use Rattle.source_text.specs.Lines.{Files}
 use Rattle.ma_lines.specs.Sections.{Section}
-use Rattle.atomic_face.specs.declared.class.Class.{Class}
 use Rattle.atomic_face.specs.Settings.{settings_of}
 use Rattle.model_tree.specs.Tree as T
 use Rattle.model_tree.specs.Tree.{Tree, Trees, coupled, cells, atomic, nil, cons}
 use Rattle.model_text.specs.Keyed.{section_named, Item, texts_of}
-use Rattle.model_text.specs.Walk.{top, is_group, children_of, name_of, section_of, Step, at_section, at_item, section_in, walk_from, walk_at, walk, groups}
+use Rattle.model_text.specs.Walk.{top, is_group, children_of, name_of, section_of, Step, at_section, at_item, section_in, walk_from, walk_at}
 use Rattle.model_text.specs.Stock.{class_of_item, params_of}
 use Rattle.model_text.specs.Links.{links_of}
-use Rattle.model_text.specs.Trees.{initial_of, group_of, atomic_of, trees, component_of, first_tree, tree_at, tree_of, no_files}
+use Rattle.model_text.specs.Trees.{initial_of, group_of, atomic_of, trees, component_of, first_tree, tree_at, no_files}
 use Rattle.model_text.specs.Laid.{laid_from, all_laid_from, laid}
 use Rattle.model_text.specs.Met.{Met}
 use Rattle.model_text.specs.BuildLaws.{component_at, tree_at_item, FilesAreLaid}
 use Rattle.model_text.proofs.Basics.{some_none, none_some}
-use Rattle.model_text.proofs.Parts.{ItemTrees, AllMet, item_steps, is_below, class_there, no_children, split_all, item_trees, made_group, made_coupled, components_are_sound}
+use Rattle.model_text.proofs.Parts.{AllMet, item_steps, is_below, class_there, no_children, split_all, item_trees, made_group, made_coupled, components_are_sound}
 use Rattle.model_text.proofs.Steps.{walk_is_met}
 
 -- ---- the groups among steps

@@ -1,17 +1,16 @@
 -- Components are made item by item.
-use Rattle.std.proofs.Common.{◌≡◌, ℕ, suc, Option, Some, None, List, ◌∷◌, ap, ◌∙◌}
+use Rattle.std.proofs.Common.{ℕ, suc, Option, Some, None, List, ◌∷◌, ap, ◌∙◌}
 use Rattle.std.specs.List.{AllByRecursion}
 use Rattle.quantity.specs.Bytes.{Bytes}
 use Rattle.source_text.specs.Lines.{Files}
 use Rattle.ma_lines.specs.Sections.{Section}
-use Rattle.atomic_face.specs.declared.class.Class.{Class}
 use Rattle.model_tree.specs.Tree.{Tree}
 use Rattle.model_text.specs.Keyed.{Item}
 use Rattle.model_text.specs.Walk.{children_of, walk_from}
 use Rattle.model_text.specs.Stock.{class_of_item}
 use Rattle.model_text.specs.Trees.{atomic_of, component_of}
 use Rattle.model_text.specs.Met.{Met}
-use Rattle.model_text.specs.BuildLaws.{component_at, tree_at_item, ItemsAreMade, SectionsAreMade}
+use Rattle.model_text.specs.BuildLaws.{ItemsAreMade, SectionsAreMade}
 use Rattle.model_text.proofs.Basics.{all_imply}
 use Rattle.model_text.proofs.Parts.{ItemTrees, item_trees, made_group, made_coupled, components_are_sound}
 

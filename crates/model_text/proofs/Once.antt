@@ -10,7 +10,7 @@ use Rattle.atomic_face.specs.declared.class.Class.{Class}
 use Rattle.atomic_face.specs.declared.params.Param.{Param}
 use Rattle.atomic_face.specs.ClassNames.{class_named}
 use Rattle.atomic_face.specs.Settings.{once_keys, are_once}
-use Rattle.model_text.specs.Keyed.{section_named, Item}
+use Rattle.model_text.specs.Keyed.{section_named}
 use Rattle.model_text.specs.Walk.{name_of, class_of, reached, atomics}
 use Rattle.model_text.specs.Keys.{again, of_section, parameters_again, of_atomic}
 use Rattle.model_text.specs.Stock.{param_of, params_in}

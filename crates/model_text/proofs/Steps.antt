@@ -10,18 +10,17 @@ use Rattle.quantity.specs.Bytes.{Bytes, is_among, has_repeat}
 use Rattle.source_text.specs.Lines.{Files}
 use Rattle.ma_lines.specs.Sections.{Section}
 use Rattle.atomic_face.specs.declared.class.Class.{Class}
-use Rattle.model_tree.specs.Sound.{are_accepted, is_sound_group}
+use Rattle.model_tree.specs.Sound.{are_accepted}
 use Rattle.model_text.specs.declared.kind.Kind.TheVariants.{BadValue}
 use Rattle.model_text.specs.declared.kind.Kind.{Kind}
 use Rattle.model_text.specs.Refusals.{refusal}
-use Rattle.model_text.specs.Keyed.{Item, items_of, texts_of}
+use Rattle.model_text.specs.Keyed.{Item, items_of}
 use Rattle.model_text.specs.Walk.{is_group, is_atomic, Step, at_section, at_item, section_in, items_in, walk, reached, groups, atomics, item_refused, section_refused, first_step_refused}
 use Rattle.model_text.specs.Keys.{repeated}
 use Rattle.model_text.specs.Spaces.{of_space}
 use Rattle.model_text.specs.Stock.{class_of_item, box_refused, params_refused, component_refused, first_component_refused}
 use Rattle.model_text.specs.Rules.{of_group_rules}
 use Rattle.model_text.specs.Links.{links_of, face_of}
-use Rattle.model_text.specs.Trees.{group_of}
 use Rattle.model_text.specs.Accepted.{Passed}
 use Rattle.model_text.specs.Met.{RightSection, HasClass, Met}
 use Rattle.model_text.specs.BuildLaws.{PassedLinks}

@@ -1,6 +1,6 @@
 -- What the phases before the count of paths say: what makes the model, part by part, and what its initial files leave as it is.
-use Rattle.std.specs.Prelude.{◌≡◌, ℕ, suc, ◌≤◌, true, false, Option, Some, None, List, [], ◌∷◌, map, length, IfSome, codes}
-use Rattle.std.specs.List.{flat_map, AllByRecursion}
+use Rattle.std.specs.Prelude.{◌≡◌, ℕ, suc, ◌≤◌, true, false, Some, None, List, [], ◌∷◌, map, length, IfSome, codes}
+use Rattle.std.specs.List.{AllByRecursion}
 use Rattle.quantity.specs.Bytes.{Bytes}
 use Rattle.rule_syntax.specs.Shown.{AreFew}
 use Rattle.cell_grid.specs.Space.{CanHold}

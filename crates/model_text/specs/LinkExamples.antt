@@ -1,5 +1,5 @@
 -- The ends of links, as they are cut from the values of `link`.
-use Rattle.std.specs.Prelude.{◌≡◌, ℕ, List, [], ◌∷◌, ◌++◌, map, codes}
+use Rattle.std.specs.Prelude.{◌≡◌, List, [], ◌∷◌, ◌++◌, map, codes}
 use Rattle.quantity.specs.Bytes.{Bytes}
 use Rattle.model_text.specs.declared.kind.Kind.TheVariants.{BadValue, UnknownPort}
 use Rattle.model_tree.specs.declared.link.End.TheVariants.{Own, Cell}
