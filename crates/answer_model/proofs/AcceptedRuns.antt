@@ -19,7 +19,8 @@ use Rattle.model_tree.specs.Faces.{face_of_coupled, face_of_group}
 use Rattle.model_tree.specs.Pull.{class_ports, cell_ports}
 use Rattle.model_tree.specs.Sound.{is_near_offset, offsets_differ, has_right_names, has_right_rules, is_sound_group, are_accepted, has_child, is_sound_part, are_sound_parts}
 use Rattle.run_model.specs.Run.{PortRecord, StateRecord, Cycle, start}
-use Rattle.run_model.specs.Bounds.{IsDelay, IsTime, IsBoundedPortRecord, IsBoundedStateRecord, IsBoundedCycle, StartIsBounded, RunsAreBounded}
+use Rattle.quantity.specs.Times.{IsDelay, IsTime}
+use Rattle.run_model.specs.Bounds.{IsBoundedPortRecord, IsBoundedStateRecord, IsBoundedCycle, StartIsBounded, RunsAreBounded}
 use Rattle.run_model.specs.Fitting.{IsFurtherPort, IsInPort, IsStateValue, OfLeaf, NamesItsParts, StartFits, RunsFit}
 use Rattle.model_text.specs.Accepted.{ReadsSoundModels}
 use Rattle.text_forms.specs.LogLine.{LogLine, given, moved, is_leaf, has_place, is_letter, is_time, is_value, is_state, is_next, is_line}

@@ -11,7 +11,7 @@ use Rattle.quantity.specs.declared.value.Value.TheVariants.{Undefined, Num}
 use Rattle.quantity.specs.Arithmetic.{IsBounded}
 use Rattle.quantity.specs.Bytes.{Bytes, words, all_there}
 use Rattle.quantity.specs.Literals.{value_in}
-use Rattle.quantity.specs.Times.{time_in}
+use Rattle.quantity.specs.Times.{time_in, IsDelay, IsTime}
 use Rattle.atomic_face.specs.declared.class.Class.{Class}
 use Rattle.atomic_face.specs.declared.class.Class.TheVariants.{Queue, Generator, Cpu, Counter, Table}
 use Rattle.atomic_face.specs.declared.params.Param.{Param}
@@ -20,7 +20,7 @@ use Rattle.atomic_face.specs.Words.{word_of, milliseconds}
 use Rattle.atomic_face.specs.Classes.{holds_in, any_word, same_word, table_settings}
 use Rattle.atomic_face.specs.Settings.{Parameter, parameter, time_word, period_word, positive, value_word, setting_of, settings_of}
 use Rattle.atomic_face.specs.TableSettings.{HoldWords, hold_of, hold_of_words, hold_in, holds_of, hold_words, with_key, value_or, word_in, number_in, take_in, states_of, settings_with}
-use Rattle.run_model.specs.Bounds.{IsDelay, IsTime, IsValueWord, IsBoundedHold, AreBoundedSettings}
+use Rattle.run_model.specs.Bounds.{IsValueWord, IsBoundedHold, AreBoundedSettings}
 use Rattle.answer_model.proofs.BoundedTexts.{value_bounded, time_early}
 use Rattle.answer_model.proofs.Basics.{true_false, none_some, some_same, then_there, map_there, on_there}
 

@@ -10,7 +10,8 @@ use Rattle.atomic_face.specs.declared.class.Class.{Class}
 use Rattle.event_list.specs.Events.{Event, events_of}
 use Rattle.model_tree.specs.Tree.{Word, Group, Tree, Leaf, atomic_leaf, cell_leaf, leaves, ins_of}
 use Rattle.model_tree.specs.Pull.{class_ports, cell_ports}
-use Rattle.run_model.specs.Bounds.{IsDelay, IsBoundedEvent, HasBoundedValues}
+use Rattle.quantity.specs.Times.{IsDelay}
+use Rattle.run_model.specs.Bounds.{IsBoundedEvent, HasBoundedValues}
 use Rattle.model_text.specs.Drawings.{Drawing}
 use Rattle.model_text.specs.ModelOf.{model, model_of}
 use Rattle.text_forms.specs.LogLine.{is_leaf}

@@ -14,7 +14,7 @@ use Rattle.model_text.specs.Walk.{top, is_group, children_of, name_of, section_o
 use Rattle.model_text.specs.Stock.{class_of_item, params_of}
 use Rattle.model_text.specs.Links.{links_of}
 use Rattle.model_text.specs.Trees.{initial_of, group_of, atomic_of, trees, component_of, first_tree, tree_at, no_files}
-use Rattle.model_text.specs.Laid.{laid_from, all_laid_from, laid}
+use Rattle.model_tree.specs.Laid.{laid_from, all_laid_from, laid}
 use Rattle.model_text.specs.Met.{Met}
 use Rattle.model_text.specs.BuildLaws.{component_at, tree_at_item, FilesAreLaid}
 use Rattle.model_text.proofs.Basics.{some_none, none_some}

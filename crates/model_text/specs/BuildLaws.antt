@@ -20,7 +20,7 @@ use Rattle.model_text.specs.Rules.{names_of, rules_refused}
 use Rattle.model_text.specs.Links.{links_of, links_refused}
 use Rattle.model_text.specs.Trees.{initial_of, group_of, atomic_of, trees, component_of, first_tree, tree_of, no_files}
 use Rattle.model_text.specs.ModelOf.{link_limit_refused}
-use Rattle.model_text.specs.Laid.{laid}
+use Rattle.model_tree.specs.Laid.{laid}
 use Rattle.model_text.specs.Met.{Met}
 
 -- the phases up to the limit of links refuse nothing

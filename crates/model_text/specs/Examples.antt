@@ -15,7 +15,7 @@ use Rattle.rule_tree.specs.Meaning.{whole}
 use Rattle.cell_grid.specs.declared.grid.Border.TheVariants.{Wrapped}
 use Rattle.atomic_face.specs.declared.class.Class.{Class}
 use Rattle.atomic_face.specs.declared.class.Class.TheVariants.{Queue, Generator, Cpu, Counter, Table}
-use Rattle.model_tree.specs.declared.group.DelayKind.TheVariants.{Transport}
+use Rattle.quantity.specs.declared.delay.DelayKind.TheVariants.{Transport}
 use Rattle.model_tree.specs.declared.group.PortRule.{PortRule}
 use Rattle.model_tree.specs.declared.link.Link.{Link}
 use Rattle.model_tree.specs.declared.link.End.TheVariants.{Own, Cell}

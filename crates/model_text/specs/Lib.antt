@@ -13,7 +13,6 @@ pub mod Drawings
 pub mod ModelOf
 pub mod Accepted
 pub mod GroupLaws
-pub mod Laid
 pub mod Met
 pub mod BuildLaws
 pub mod Models

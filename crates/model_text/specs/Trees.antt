@@ -6,8 +6,8 @@ use Rattle.quantity.specs.declared.value.Value.{Value}
 use Rattle.quantity.specs.declared.value.Value.TheVariants.{Undefined}
 use Rattle.cell_grid.specs.Region.{Region}
 use Rattle.atomic_face.specs.declared.class.Class.{Class}
-use Rattle.model_tree.specs.declared.group.DelayKind.{DelayKind}
-use Rattle.model_tree.specs.declared.group.DelayKind.TheVariants.{Transport, Inertial}
+use Rattle.quantity.specs.declared.delay.DelayKind.{DelayKind}
+use Rattle.quantity.specs.declared.delay.DelayKind.TheVariants.{Transport, Inertial}
 use Rattle.model_tree.specs.declared.group.PortRule.{PortRule}
 use Rattle.model_tree.specs.Tree.{Group, Tree, Trees, coupled, cells, atomic, nil, cons}
 use Rattle.quantity.specs.Bytes.{Bytes, words}

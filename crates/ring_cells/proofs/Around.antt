@@ -11,7 +11,7 @@ use Rattle.rule_tree.specs.declared.node.Count.TheVariants.{Ones}
 use Rattle.rule_tree.specs.Meaning.{Sight, outs, counted, value_at}
 use Rattle.cell_grid.specs.declared.grid.Border.TheVariants.{Wrapped}
 use Rattle.cell_grid.specs.Space.{Space, neighbour}
-use Rattle.model_tree.specs.declared.group.DelayKind.TheVariants.{Transport}
+use Rattle.quantity.specs.declared.delay.DelayKind.TheVariants.{Transport}
 use Rattle.model_tree.specs.Tree.{Group}
 use Rattle.run_model.specs.CellStep.{PortState, CellState, and_then, and_took, all_treated, cell_moved}
 use Rattle.run_model.specs.Cycle.{cell_state, emitted_in, seen_of, sight_of}

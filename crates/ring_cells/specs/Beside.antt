@@ -2,7 +2,7 @@
 use Rattle.std.specs.Prelude.{ℕ, ◌+◌, ◌-◌, Bool, true, ◌==◌, Option, Some, None, List, [], ◌∷◌, map, if◌then◌else◌}
 use Rattle.quantity.specs.declared.value.Value.{Value}
 use Rattle.rule_tree.specs.Meaning.{whole, value_at, how_many}
-use Rattle.model_tree.specs.declared.group.DelayKind.TheVariants.{Transport}
+use Rattle.quantity.specs.declared.delay.DelayKind.TheVariants.{Transport}
 use Rattle.run_model.specs.CellStep.{PortState, CellState, initial_port, took}
 use Rattle.ring_cells.specs.declared.plain.PlainRule.{PlainRule}
 use Rattle.ring_cells.specs.Store.{cell_of}

@@ -9,7 +9,7 @@ use Rattle.rule_tree.specs.declared.node.Count.TheVariants.{Ones}
 use Rattle.rule_tree.specs.Expression.{Rule, Expr, number, truth, two, counted}
 use Rattle.rule_tree.specs.Meaning.{whole}
 use Rattle.cell_grid.specs.declared.grid.Border.TheVariants.{Wrapped}
-use Rattle.model_tree.specs.declared.group.DelayKind.TheVariants.{Transport}
+use Rattle.quantity.specs.declared.delay.DelayKind.TheVariants.{Transport}
 use Rattle.model_tree.specs.Tree.{Word, Group, Tree, coupled, cells, cons, nil}
 use Rattle.ring_cells.specs.declared.plain.PlainRule.{PlainRule}
 

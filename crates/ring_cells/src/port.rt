@@ -4,7 +4,7 @@ ghost use Rattle.quantity.specs.Arithmetic.{same_value};
 ghost use Rattle.quantity.specs.Delay.{put_pair};
 ghost use Rattle.quantity.specs.declared.value.Value.{Value as AnyValue};
 ghost use Rattle.rule_tree.specs.Meaning.{whole};
-ghost use Rattle.model_tree.specs.declared.group.DelayKind.TheVariants.{Transport};
+ghost use Rattle.quantity.specs.declared.delay.DelayKind.TheVariants.{Transport};
 ghost use Rattle.run_model.specs.CellStep.{first_time, port_emitted, port_took};
 
 use crate::PlainRule;

@@ -9,7 +9,7 @@ use Rattle.std.proofs.lemmas.Bool.{cases_eq}
 use Rattle.quantity.specs.declared.value.Value.{Value}
 use Rattle.quantity.specs.Arithmetic.{same_value}
 use Rattle.rule_tree.specs.Meaning.{whole, how_many, value_at}
-use Rattle.model_tree.specs.declared.group.DelayKind.TheVariants.{Transport}
+use Rattle.quantity.specs.declared.delay.DelayKind.TheVariants.{Transport}
 use Rattle.run_model.specs.CellStep.{PortState, CellState, took}
 use Rattle.ring_cells.specs.declared.plain.PlainRule.{PlainRule}
 use Rattle.ring_cells.specs.Beside.{left, right, emitted_of, ones_at, first_fit, with_rule, computed_cell}

@@ -13,7 +13,8 @@ use Rattle.atomic_face.specs.declared.class.Class.TheVariants.{Queue, Generator,
 use Rattle.atomic_face.specs.declared.class.PortNo.{PortNo}
 use Rattle.atomic_face.specs.Words.{no_time, time_in, word_of, value_in, milliseconds}
 use Rattle.atomic_face.specs.Classes.{Bag, outputs, is_at, same_time, QueueState, queue_state, without_first, first_value, queue_internal, queue_input, queue_inputs, queue_closing, queue_next, is_empty, first_time, GeneratorState, GeneratorSettings, generator_state, generator_settings, generator_words, generator_internal, is_none_left, one_less, cpu_pairs, cpu_next, cpu_put, cpu_inputs, cpu_moved, pairs_at, values_in, CounterState, counter_state, counter_words, counter_input, counter_inputs, counter_closing, counter_internal, or_none, setting, TableSettings, TableState, Take, Hold, no_hold, same_word, any_word, held_value, table_settings, table_state, entered, due_after, hold_of, taken, takes, table_input, table_internal, next_of, output_of, moved_state, initial_state}
-use Rattle.run_model.specs.Bounds.{IsDelay, IsTime, IsValueWord, IsBoundedHold, AreBoundedSettings, AreBoundedWords, IsBoundedBox}
+use Rattle.quantity.specs.Times.{IsDelay, IsTime}
+use Rattle.run_model.specs.Bounds.{IsValueWord, IsBoundedHold, AreBoundedSettings, AreBoundedWords, IsBoundedBox}
 use Rattle.run_model.proofs.WaitingBoxes.{cpu_pairs-cpu_words}
 use Rattle.run_model.proofs.BoundedValues.{sum-is}
 use Rattle.run_model.proofs.BoundedMeaning.{at_or}

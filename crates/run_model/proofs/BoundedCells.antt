@@ -9,7 +9,7 @@ use Rattle.quantity.specs.declared.value.Value.TheVariants.{Undefined, Num}
 use Rattle.quantity.specs.declared.truth.Tri.{Tri}
 use Rattle.quantity.specs.declared.truth.Tri.TheVariants.{True, False, Undef}
 use Rattle.quantity.specs.Arithmetic.{IsBounded, same_value}
-use Rattle.quantity.specs.Delay.{put_pair}
+use Rattle.quantity.specs.Delay.{put_pair, delayed}
 use Rattle.rule_tree.specs.declared.outcome.Answer.{Answer}
 use Rattle.rule_tree.specs.declared.outcome.Answer.TheVariants.{Num as Number', Logic}
 use Rattle.rule_tree.specs.declared.outcome.RuleStop.{RuleStop}
@@ -18,11 +18,12 @@ use Rattle.rule_tree.specs.Meaning.{Sight, number_in, truth_in, meaning}
 use Rattle.rule_tree.specs.Chosen.{Given, Chosen, delay_of, unless_overflow, after, values_of, variables_after, with_delay, given, if_true, chosen}
 use Rattle.atomic_face.specs.Classes.{Bag, is_at}
 use Rattle.atomic_face.specs.declared.class.PortNo.{PortNo}
-use Rattle.model_tree.specs.declared.group.DelayKind.{DelayKind}
-use Rattle.model_tree.specs.declared.group.DelayKind.TheVariants.{Transport, Inertial}
+use Rattle.quantity.specs.declared.delay.DelayKind.{DelayKind}
+use Rattle.quantity.specs.declared.delay.DelayKind.TheVariants.{Transport, Inertial}
 use Rattle.model_tree.specs.Tree.{Group}
-use Rattle.run_model.specs.CellStep.{PortState, CellState, initial_port, initial_cell, first_time, least, next_of_ports, first_emitted, port_emitted, cell_emitted, port_output, cell_output, delayed, port_took, took, and_took, cell_moved}
-use Rattle.run_model.specs.Bounds.{IsDelay, IsTime, IsBoundedPart, IsBoundedRule, IsBoundedGroup, IsBoundedPair, IsBoundedPort, IsBoundedCell}
+use Rattle.run_model.specs.CellStep.{PortState, CellState, initial_port, initial_cell, first_time, least, next_of_ports, first_emitted, port_emitted, cell_emitted, port_output, cell_output, port_took, took, and_took, cell_moved}
+use Rattle.quantity.specs.Times.{IsDelay, IsTime}
+use Rattle.run_model.specs.Bounds.{IsBoundedPart, IsBoundedRule, IsBoundedGroup, IsBoundedPair, IsBoundedPort, IsBoundedCell}
 use Rattle.run_model.proofs.CellKeeps.{took-keeps, cell_moved-keeps}
 use Rattle.run_model.proofs.BoundedLists.{flat_map-each, enumerated-each, map-each}
 use Rattle.run_model.proofs.BoundedMeaning.{IsBoundedAnswer, IsBoundedSight, at_or, meaning-is}

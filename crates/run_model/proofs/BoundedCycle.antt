@@ -24,7 +24,8 @@ use Rattle.run_model.specs.CellStep.{PortState, Stepped, cell_emitted, cell_move
 use Rattle.run_model.specs.Cycle.{LeafState, box_state, cell_state, initial_leaf, leaf_next, leaf_emitted, collected_of, collected, at_out, given_by_leaf, at_port, bag_of, bags, emitted_values, seen_of, neighbour_leaf, sight_of, Moved, stayed, moved, stopped, box_moved, cell_result, leaf_moved}
 use Rattle.run_model.specs.Run.{Event, RunState, port_records, records_of_bags, is_of_out, computed_of, record_of_move, state_record, out_records, event_at, events_at, at_top, cycle_of, state_after}
 use Rattle.run_model.specs.Runs.{ends, goes}
-use Rattle.run_model.specs.Bounds.{IsDelay, IsTime, IsBoundedGroup, AreBoundedSettings, HasBoundedValues, HaveBoundedValues, IsBoundedEvent, IsBoundedPort, IsBoundedCell, IsBoundedBox, IsBoundedLeaf, IsBoundedState, IsBoundedPortRecord, IsBoundedStateRecord, IsBoundedOutRecord, IsBoundedCycle, StartIsBounded, RunsAreBounded}
+use Rattle.quantity.specs.Times.{IsDelay, IsTime}
+use Rattle.run_model.specs.Bounds.{IsBoundedGroup, AreBoundedSettings, HasBoundedValues, HaveBoundedValues, IsBoundedEvent, IsBoundedPort, IsBoundedCell, IsBoundedBox, IsBoundedLeaf, IsBoundedState, IsBoundedPortRecord, IsBoundedStateRecord, IsBoundedOutRecord, IsBoundedCycle, StartIsBounded, RunsAreBounded}
 use Rattle.run_model.proofs.Steps.{moves_at, is_cycled}
 use Rattle.run_model.proofs.LeavesKeep.{MovedHas, all_after-keeps, all_asked-keeps}
 use Rattle.run_model.proofs.BoundedLists.{flat_map-each, filter_map-each, enumerated-each, map-each}

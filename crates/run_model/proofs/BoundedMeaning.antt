@@ -23,7 +23,8 @@ use Rattle.rule_tree.specs.declared.function.Function.TheVariants.{StateCount, C
 use Rattle.rule_tree.specs.Expression as E
 use Rattle.rule_tree.specs.Expression.{Expr, Exprs}
 use Rattle.rule_tree.specs.Meaning.{Sight, value_at, outs, whole, number_in, truth_in, as_answer, how_many, counted, one_meaning, two_meaning, by_truth, state_count, coordinates, cell_position, call_meaning, with_answer, with_answers, in_front, meaning, meanings}
-use Rattle.run_model.specs.Bounds.{IsDelay, HasBoundedNumbers, HaveBoundedNumbers}
+use Rattle.quantity.specs.Times.{IsDelay}
+use Rattle.run_model.specs.Bounds.{HasBoundedNumbers, HaveBoundedNumbers}
 use Rattle.run_model.proofs.BoundedValues.{sum-is, difference-is, product-is, quotient-is, remainder-is, least-is, greatest-is, negative-is, size-is, sign-is, whole_part-is, fraction-is, rounded-is, root-is}
 
 abbrev pub IsBoundedAnswer : Answer → Type 0

@@ -5,9 +5,10 @@ use Rattle.std.specs.List.{list_any, range_with_len}
 use Rattle.std.proofs.lemmas.Bool.Decides.{nat_tests}
 use Rattle.quantity.specs.declared.value.Value.{Value}
 use Rattle.rule_tree.specs.Scope.{differ}
-use Rattle.model_tree.specs.declared.group.DelayKind.{DelayKind}
+use Rattle.quantity.specs.declared.delay.DelayKind.{DelayKind}
 use Rattle.run_model.specs.CellStep.{PortState, port_took, took_at, took}
-use Rattle.run_model.specs.Ports.{or_earlier, given_at, by_port, port_took_some, each_took, ports_differ, TakesByPort}
+use Rattle.rule_tree.specs.Ports.{or_earlier, given_at, by_port}
+use Rattle.run_model.specs.Ports.{port_took_some, each_took, ports_differ, TakesByPort}
 use Rattle.run_model.proofs.FittingCells.{length-took_at}
 
 module _ (kind : DelayKind) (at : ℕ) where

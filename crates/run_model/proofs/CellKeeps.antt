@@ -11,7 +11,7 @@ use Rattle.rule_tree.specs.Expression.{Rule}
 use Rattle.cell_grid.specs.Zones.{zone_of}
 use Rattle.atomic_face.specs.Classes.{Bag}
 use Rattle.atomic_face.specs.declared.class.PortNo.{PortNo}
-use Rattle.model_tree.specs.declared.group.DelayKind.{DelayKind}
+use Rattle.quantity.specs.declared.delay.DelayKind.{DelayKind}
 use Rattle.model_tree.specs.declared.group.PortRule.{PortRule}
 use Rattle.model_tree.specs.Tree.{Word, Group}
 use Rattle.model_tree.specs.Pull.{cell_ports}

@@ -9,9 +9,10 @@ use Rattle.quantity.specs.Arithmetic.{same_value}
 use Rattle.rule_tree.specs.Meaning.{Sight, value_at}
 use Rattle.rule_tree.specs.Chosen.{Chosen, chosen}
 use Rattle.atomic_face.specs.Classes.{Bag, is_at}
-use Rattle.model_tree.specs.declared.group.DelayKind.{DelayKind}
+use Rattle.quantity.specs.declared.delay.DelayKind.{DelayKind}
 use Rattle.model_tree.specs.Tree.{Group, Leaf, atomic_leaf, cell_leaf}
-use Rattle.run_model.specs.CellStep.{PortState, CellState, Stepped, first_time, least, next_of_ports, cell_next, first_emitted, port_emitted, cell_emitted, port_output, cell_output, delayed, port_took, took_at, took, and_took, cell_moved}
+use Rattle.quantity.specs.Delay.{delayed}
+use Rattle.run_model.specs.CellStep.{PortState, CellState, Stepped, first_time, least, next_of_ports, cell_next, first_emitted, port_emitted, cell_emitted, port_output, cell_output, port_took, took_at, took, and_took, cell_moved}
 use Rattle.run_model.specs.Cycle.{LeafState, box_state, cell_state, collected, sight_of, is_woken, has_values, Moved, stayed, moved, stopped, cell_result, leaf_moved, asked, all_asked, first_stop, after, all_after}
 use Rattle.run_model.specs.Waiting.{IsNotBefore, CellWaitsFrom, LeafWaitsFrom, RisesFrom}
 use Rattle.run_model.specs.Fitting.{Fits}

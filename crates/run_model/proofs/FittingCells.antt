@@ -11,7 +11,7 @@ use Rattle.rule_tree.specs.Expression.{Expr, Rule}
 use Rattle.rule_tree.specs.Meaning.{Sight, number_in, truth_in, meaning}
 use Rattle.rule_tree.specs.Chosen.{Given, Chosen, delay_of, unless_overflow, after, values_of, variables_after, with_delay, given, if_true, chosen}
 use Rattle.atomic_face.specs.Classes.{Bag}
-use Rattle.model_tree.specs.declared.group.DelayKind.{DelayKind}
+use Rattle.quantity.specs.declared.delay.DelayKind.{DelayKind}
 use Rattle.model_tree.specs.Tree.{Group}
 use Rattle.run_model.specs.CellStep.{PortState, CellState, port_emitted, cell_emitted, port_took, took_at, took, and_took, cell_moved}
 use Rattle.run_model.specs.Fitting.{HasNumbers}

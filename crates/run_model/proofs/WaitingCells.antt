@@ -6,14 +6,14 @@ use Rattle.std.proofs.lemmas.List.Elements.{All-nil, All-cons, All-head, All-tai
 use Rattle.std.proofs.lemmas.Bool.Decides.{nat_tests}
 use Rattle.quantity.specs.declared.value.Value.{Value}
 use Rattle.quantity.specs.Arithmetic.{same_value}
-use Rattle.quantity.specs.Delay.{put_pair}
+use Rattle.quantity.specs.Delay.{put_pair, delayed}
 use Rattle.rule_tree.specs.Meaning.{Sight}
 use Rattle.rule_tree.specs.Chosen.{Chosen, chosen}
 use Rattle.atomic_face.specs.Classes.{Bag, is_at}
-use Rattle.model_tree.specs.declared.group.DelayKind.{DelayKind}
-use Rattle.model_tree.specs.declared.group.DelayKind.TheVariants.{Transport, Inertial}
+use Rattle.quantity.specs.declared.delay.DelayKind.{DelayKind}
+use Rattle.quantity.specs.declared.delay.DelayKind.TheVariants.{Transport, Inertial}
 use Rattle.model_tree.specs.Tree.{Group}
-use Rattle.run_model.specs.CellStep.{PortState, CellState, first_time, least, next_of_ports, first_emitted, port_emitted, cell_emitted, delayed, port_took, took, and_took, cell_moved}
+use Rattle.run_model.specs.CellStep.{PortState, CellState, first_time, least, next_of_ports, first_emitted, port_emitted, cell_emitted, port_took, took, and_took, cell_moved}
 use Rattle.run_model.specs.Waiting.{RisesFrom, CellWaitsFrom, IsNotBefore}
 use Rattle.run_model.proofs.CellKeeps.{took-keeps, cell_moved-keeps}
 

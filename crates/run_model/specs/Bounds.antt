@@ -1,6 +1,7 @@
 -- The values of a run are bounded, and its times are small: so each record has a line of a log.
 use Rattle.std.specs.Prelude.{◌≡◌, ℕ, ◌≤◌, false, List, length, ℤ, IfSome, ⊤}
 use Rattle.std.specs.List.{All}
+use Rattle.quantity.specs.Times.{IsDelay, IsTime}
 use Rattle.quantity.specs.declared.value.Value.{Value}
 use Rattle.quantity.specs.Arithmetic.{IsBounded}
 use Rattle.rule_tree.specs.Expression as E
@@ -17,14 +18,6 @@ use Rattle.run_model.specs.Run.{Event, PortRecord, StateRecord, OutRecord, Cycle
 use Rattle.run_model.specs.Runs.{Runs}
 
 -- ---- models
-
--- the most milliseconds of an end and of a delay: 99:59:59:999
-abbrev pub IsDelay : ℕ → Type 0
-IsDelay t = t ≤ 359999999
-
--- an end and a delay after it
-abbrev pub IsTime : ℕ → Type 0
-IsTime t = t ≤ 719999998
 
 abbrev mutual
   pub HasBoundedNumbers : Expr → Type 0

@@ -7,7 +7,8 @@ use Rattle.atomic_face.specs.declared.class.Class.{Class}
 use Rattle.atomic_face.specs.declared.class.PortNo.{PortNo}
 use Rattle.atomic_face.specs.Classes.{Bag, moved_state}
 use Rattle.atomic_face.specs.BoxStates.{is_box_state}
-use Rattle.run_model.specs.Bounds.{IsDelay, AreBoundedSettings}
+use Rattle.quantity.specs.Times.{IsDelay}
+use Rattle.run_model.specs.Bounds.{AreBoundedSettings}
 
 -- a move at a time, with bounded values, keeps a state a state
 abbrev pub StaysAState : Class → Type 0

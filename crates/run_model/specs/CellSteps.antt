@@ -5,8 +5,8 @@ use Rattle.quantity.specs.declared.value.Value.{Value}
 use Rattle.quantity.specs.declared.value.Value.TheVariants.{Undefined}
 use Rattle.rule_tree.specs.Meaning.{Sight, whole}
 use Rattle.atomic_face.specs.Classes.{Bag}
-use Rattle.model_tree.specs.declared.group.DelayKind.{DelayKind}
-use Rattle.model_tree.specs.declared.group.DelayKind.TheVariants.{Transport, Inertial}
+use Rattle.quantity.specs.declared.delay.DelayKind.{DelayKind}
+use Rattle.quantity.specs.declared.delay.DelayKind.TheVariants.{Transport, Inertial}
 use Rattle.model_tree.specs.Tree.{Group}
 use Rattle.model_tree.specs.Pull.{cell_ports}
 use Rattle.model_tree.specs.Examples.{letter}

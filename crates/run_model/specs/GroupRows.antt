@@ -10,7 +10,7 @@ use Rattle.rule_tree.specs.Meaning.{whole}
 use Rattle.cell_grid.specs.declared.grid.Border.TheVariants.{NoWrapped}
 use Rattle.cell_grid.specs.Region.{Region}
 use Rattle.atomic_face.specs.declared.class.Class.TheVariants.{Queue}
-use Rattle.model_tree.specs.declared.group.DelayKind.TheVariants.{Transport}
+use Rattle.quantity.specs.declared.delay.DelayKind.TheVariants.{Transport}
 use Rattle.model_tree.specs.declared.group.PortRule.{PortRule}
 use Rattle.model_tree.specs.declared.link.End.TheVariants.{Own, Child, Cell}
 use Rattle.model_tree.specs.Tree.{Group, Tree, coupled, cells, atomic, nil, cons}

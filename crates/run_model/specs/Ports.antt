@@ -1,26 +1,11 @@
 -- What a cell takes at its ports: in written order, or port by port.
-use Rattle.std.specs.Prelude.{◌≡◌, ℕ, ◌≤◌, ◌==◌, Bool, true, Option, Some, None, List, [], ◌∷◌, map, length, if◌then◌else◌}
+use Rattle.std.specs.Prelude.{◌≡◌, ℕ, ◌≤◌, Bool, true, Option, Some, None, List, [], ◌∷◌, map, length}
 use Rattle.std.specs.List.{range_with_len}
 use Rattle.quantity.specs.declared.value.Value.{Value}
 use Rattle.rule_tree.specs.Scope.{differ}
-use Rattle.model_tree.specs.declared.group.DelayKind.{DelayKind}
+use Rattle.rule_tree.specs.Ports.{given_at, by_port}
+use Rattle.quantity.specs.declared.delay.DelayKind.{DelayKind}
 use Rattle.run_model.specs.CellStep.{PortState, port_took, took}
-
--- ---- what is given at each port
-
--- the later value, if there is one
-abbrev pub or_earlier : Option Value → Option Value → Option Value
-or_earlier None earlier = earlier
-or_earlier (Some v) earlier = Some v
-
--- what is given at a port, if anything is (where several are, the last)
-abbrev pub given_at : List (ℕ × Value) → ℕ → Option Value
-given_at [] port = None
-given_at (g ∷ gs) port = or_earlier (given_at gs port) (if g.0 == port then Some g.1 else None)
-
--- what is given at each of four ports
-abbrev pub by_port : List (ℕ × Value) → List (Option Value)
-by_port gs = given_at gs 0 ∷ given_at gs 1 ∷ given_at gs 2 ∷ given_at gs 3 ∷ []
 
 -- ---- what ports take
 

@@ -16,8 +16,8 @@ use Rattle.rule_tree.specs.Meaning.{whole}
 use Rattle.cell_grid.specs.declared.grid.Border.{Border}
 use Rattle.cell_grid.specs.declared.grid.Border.TheVariants.{Wrapped, NoWrapped}
 use Rattle.atomic_face.specs.declared.class.Class.TheVariants.{Generator, Counter}
-use Rattle.model_tree.specs.declared.group.DelayKind.{DelayKind}
-use Rattle.model_tree.specs.declared.group.DelayKind.TheVariants.{Transport, Inertial}
+use Rattle.quantity.specs.declared.delay.DelayKind.{DelayKind}
+use Rattle.quantity.specs.declared.delay.DelayKind.TheVariants.{Transport, Inertial}
 use Rattle.model_tree.specs.declared.link.End.TheVariants.{Own, Child}
 use Rattle.model_tree.specs.Tree.{Group, Tree, coupled, cells, atomic, nil, cons}
 use Rattle.model_tree.specs.Examples.{«in», out, letter, link}

@@ -8,10 +8,11 @@ use Rattle.rule_tree.specs.Meaning.{Sight}
 use Rattle.rule_tree.specs.Expression.{Rule}
 use Rattle.rule_tree.specs.Chosen.{Chosen, chosen}
 use Rattle.atomic_face.specs.Classes.{Bag, moved_state}
-use Rattle.model_tree.specs.declared.group.DelayKind.{DelayKind}
+use Rattle.quantity.specs.declared.delay.DelayKind.{DelayKind}
 use Rattle.model_tree.specs.Tree.{Tree, Group, Leaf, atomic_leaf, cell_leaf, leaves}
 use Rattle.model_tree.specs.Pull.{cell_ports}
-use Rattle.run_model.specs.CellStep.{PortState, CellState, Stepped, delayed, port_took, took_at, took, and_took, and_then, by_rules, by_port, port_rules, treated, all_treated, cell_rules, cell_moved}
+use Rattle.quantity.specs.Delay.{delayed}
+use Rattle.run_model.specs.CellStep.{PortState, CellState, Stepped, port_took, took_at, took, and_took, and_then, by_rules, by_port, port_rules, treated, all_treated, cell_rules, cell_moved}
 use Rattle.run_model.specs.Cycle.{LeafState, box_state, cell_state, emitted_values, emitted_in, seen_of, neighbour_leaf, sight_of, box_moved, cell_result, after}
 use Rattle.run_model.specs.Run.{PortRecord}
 use Rattle.sparse_cycle.specs.Sparse.{leaf_of, is_woken_at, bag_in, moved_from, move_to, move_at}
