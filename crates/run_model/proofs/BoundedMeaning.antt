@@ -2,6 +2,7 @@
 use Rattle.std.proofs.Common.{ℕ, zero, suc, ◌/◌, ◌%◌, ◌≤◌, Bool, true, false, Option, Some, None, List, [], ◌∷◌, length, arith}
 use Rattle.std.specs.Prelude.{IfSome, ⊤, if◌then◌else◌, ◌&&◌, ◌==◌, nat_lt, pos, negsuc, slice_get, unwrap_or}
 use Rattle.std.specs.List.{All}
+use Rattle.std.specs.Option.{option_map}
 use Rattle.std.proofs.lemmas.List.{length-map}
 use Rattle.std.proofs.lemmas.List.Elements.{All-nil, All-cons, All-head, All-tail}
 use Rattle.std.proofs.lemmas.List.Sums.{count_by-le-length}
@@ -9,7 +10,7 @@ use Rattle.quantity.specs.declared.truth.Tri.{Tri}
 use Rattle.quantity.specs.declared.truth.Tri.TheVariants.{True, False, Undef}
 use Rattle.quantity.specs.declared.value.Value.{Value}
 use Rattle.quantity.specs.declared.value.Value.TheVariants.{Undefined, Num}
-use Rattle.quantity.specs.Arithmetic.{IsBounded, same_value}
+use Rattle.quantity.specs.Arithmetic.{IsBounded, same_value, remainder_of, least_of, greatest_of, size_of, sign_of, root_of, whole_part, rounded, fraction_of, is_even, is_odd, is_whole, test_of}
 use Rattle.rule_tree.specs.declared.outcome.Answer.{Answer}
 use Rattle.rule_tree.specs.declared.outcome.Answer.TheVariants.{Num as Number', Logic}
 use Rattle.rule_tree.specs.declared.node.Unary.{Unary}
@@ -18,11 +19,14 @@ use Rattle.rule_tree.specs.declared.node.Binary.{Binary}
 use Rattle.rule_tree.specs.declared.node.Binary.TheVariants.{Imp, Eqv, Or, Xor, And, Cmp, Add, Sub, Mul, Div}
 use Rattle.rule_tree.specs.declared.node.Count.{Count}
 use Rattle.rule_tree.specs.declared.node.Count.TheVariants.{Ones, Zeros, Undefs}
+use Rattle.rule_tree.specs.declared.function.Sort.{Sort}
+use Rattle.rule_tree.specs.declared.function.Sort.TheVariants.{Number, Truth}
 use Rattle.rule_tree.specs.declared.function.Function.{Function}
 use Rattle.rule_tree.specs.declared.function.Function.TheVariants.{StateCount, CellPos, If, Ifu, Abs, Sign, Sqrt, Trunc, Round, Fractional, Min, Max, Remainder, Even, Odd, IsInt, IsUndefined}
 use Rattle.rule_tree.specs.Expression as E
 use Rattle.rule_tree.specs.Expression.{Expr, Exprs}
-use Rattle.rule_tree.specs.Meaning.{Sight, value_at, outs, whole, number_in, truth_in, as_answer, how_many, counted, one_meaning, two_meaning, by_truth, state_count, coordinates, cell_position, call_meaning, with_answer, with_answers, in_front, meaning, meanings}
+use Rattle.rule_tree.specs.Functions.{Of, Maker, taken, given, made, is_undefined}
+use Rattle.rule_tree.specs.Meaning.{Sight, value_at, outs, whole, number_in, as_answer, how_many, counted, one_meaning, two_meaning, by_truth, state_count, coordinates, cell_position, call_meaning, with_answer, with_answers, in_front, meaning, meanings}
 use Rattle.quantity.specs.Times.{IsDelay}
 use Rattle.run_model.specs.Bounds.{HasBoundedNumbers, HaveBoundedNumbers}
 use Rattle.run_model.proofs.BoundedValues.{sum-is, difference-is, product-is, quotient-is, remainder-is, least-is, greatest-is, negative-is, size-is, sign-is, whole_part-is, fraction-is, rounded-is, root-is}
@@ -100,75 +104,62 @@ cell_position-is (Num (pos n)) s see = test ((n % 100000 == 0) && nat_lt (n / 10
     test false = tt
 cell_position-is (Num (negsuc n)) s see = tt
 
-abbrev First : Answer → List Answer → Type 0
-First a xs = All IsBoundedAnswer (a ∷ xs)
+abbrev IsBoundedOf : (a : Sort) → Of a → Type 0
+IsBoundedOf Number v = IsBounded v
+IsBoundedOf Truth t = ⊤
 
-first-is : (a : Answer) (xs : List Answer) → First a xs → IsBounded (number_in a)
-first-is a xs h = number-is a (All-head IsBoundedAnswer a xs h)
+-- what a maker makes of bounded values is bounded
+abbrev MakesBounded : (takes : List Sort) (gives : Sort) → Maker takes gives → Type 0
+MakesBounded [] gives maker = IfSome maker (IsBoundedOf gives)
+MakesBounded (a ∷ takes) gives maker = (x : Of a) → IsBoundedOf a x → MakesBounded takes gives (maker x)
 
-rest-are : (a : Answer) (xs : List Answer) → First a xs → All IsBoundedAnswer xs
-rest-are a xs h = All-tail IsBoundedAnswer a xs h
+taken-is : (a : Sort) (x : Answer) → IsBoundedAnswer x → IsBoundedOf a (taken a x)
+taken-is Number x h = number-is x h
+taken-is Truth x h = tt
+
+given-is : (a : Sort) (o : Option (Of a)) → IfSome o (IsBoundedOf a) → IfSome (option_map (given a) o) IsBoundedAnswer
+given-is a None h = tt
+given-is Number (Some v) h = h
+given-is Truth (Some t) h = tt
+
+made-is : (takes : List Sort) (gives : Sort) (maker : Maker takes gives) (xs : List Answer) → MakesBounded takes gives maker → All IsBoundedAnswer xs
+    → IfSome (made takes gives maker xs) IsBoundedAnswer
+made-is [] gives maker [] m h = given-is gives maker m
+made-is [] gives maker (x ∷ xs) m h = tt
+made-is (a ∷ takes) gives maker [] m h = tt
+made-is (a ∷ takes) gives maker (x ∷ xs) m h =
+    made-is takes gives (maker (taken a x)) xs (m (taken a x) (taken-is a x (All-head IsBoundedAnswer x xs h))) (All-tail IsBoundedAnswer x xs h)
+
+of_number-is : (f : Value → Value) (xs : List Answer) → ((v : Value) → IsBounded v → IsBounded (f v)) → All IsBoundedAnswer xs
+    → IfSome (made (Number ∷ []) Number (λ v. Some (f v)) xs) IsBoundedAnswer
+of_number-is f xs k h = made-is (Number ∷ []) Number (λ v. Some (f v)) xs k h
+
+of_test-is : (f : Value → Tri) (xs : List Answer) → All IsBoundedAnswer xs → IfSome (made (Number ∷ []) Truth (λ v. Some (f v)) xs) IsBoundedAnswer
+of_test-is f xs h = made-is (Number ∷ []) Truth (λ v. Some (f v)) xs (λ v k. tt) h
+
+of_two_numbers-is : (f : Value → Value → Value) (xs : List Answer) → ((v w : Value) → IsBounded v → IsBounded w → IsBounded (f v w)) → All IsBoundedAnswer xs
+    → IfSome (made (Number ∷ Number ∷ []) Number (λ v w. Some (f v w)) xs) IsBoundedAnswer
+of_two_numbers-is f xs k h = made-is (Number ∷ Number ∷ []) Number (λ v w. Some (f v w)) xs (λ v i w j. k v w i j) h
 
 call-is : (f : Function) (xs : List Answer) (s : Sight) → All IsBoundedAnswer xs → IsBoundedSight s → IfSome (call_meaning f xs s) IsBoundedAnswer
-call-is StateCount [] s h see = tt
-call-is StateCount (a ∷ []) s h see = state_count-is (number_in a) s see
-call-is StateCount (a ∷ b ∷ rest) s h see = tt
-call-is CellPos [] s h see = tt
-call-is CellPos (a ∷ []) s h see = cell_position-is (number_in a) s see
-call-is CellPos (a ∷ b ∷ rest) s h see = tt
-call-is If [] s h see = tt
-call-is If (a ∷ []) s h see = tt
-call-is If (a ∷ b ∷ []) s h see = tt
-call-is If (a ∷ b ∷ c ∷ []) s h see = let t = rest-are a (b ∷ c ∷ []) h in by_truth-is (truth_in a) (number_in b) (number_in c) (number_in c) (first-is b (c ∷ []) t) (first-is c [] (rest-are b (c ∷ []) t)) (first-is c [] (rest-are b (c ∷ []) t))
-call-is If (a ∷ b ∷ c ∷ d ∷ rest) s h see = tt
-call-is Ifu [] s h see = tt
-call-is Ifu (a ∷ []) s h see = tt
-call-is Ifu (a ∷ b ∷ []) s h see = tt
-call-is Ifu (a ∷ b ∷ c ∷ []) s h see = tt
-call-is Ifu (a ∷ b ∷ c ∷ d ∷ []) s h see = let t = rest-are a (b ∷ c ∷ d ∷ []) h in let u = rest-are b (c ∷ d ∷ []) t in by_truth-is (truth_in a) (number_in b) (number_in c) (number_in d) (first-is b (c ∷ d ∷ []) t) (first-is c (d ∷ []) u) (first-is d [] (rest-are c (d ∷ []) u))
-call-is Ifu (a ∷ b ∷ c ∷ d ∷ e ∷ rest) s h see = tt
-call-is Abs [] s h see = tt
-call-is Abs (a ∷ []) s h see = size-is (number_in a) (first-is a [] h)
-call-is Abs (a ∷ b ∷ rest) s h see = tt
-call-is Sign [] s h see = tt
-call-is Sign (a ∷ []) s h see = sign-is (number_in a) (first-is a [] h)
-call-is Sign (a ∷ b ∷ rest) s h see = tt
-call-is Sqrt [] s h see = tt
-call-is Sqrt (a ∷ []) s h see = root-is (number_in a) (first-is a [] h)
-call-is Sqrt (a ∷ b ∷ rest) s h see = tt
-call-is Trunc [] s h see = tt
-call-is Trunc (a ∷ []) s h see = whole_part-is (number_in a) (first-is a [] h)
-call-is Trunc (a ∷ b ∷ rest) s h see = tt
-call-is Round [] s h see = tt
-call-is Round (a ∷ []) s h see = rounded-is (number_in a) (first-is a [] h)
-call-is Round (a ∷ b ∷ rest) s h see = tt
-call-is Fractional [] s h see = tt
-call-is Fractional (a ∷ []) s h see = fraction-is (number_in a) (first-is a [] h)
-call-is Fractional (a ∷ b ∷ rest) s h see = tt
-call-is Min [] s h see = tt
-call-is Min (a ∷ []) s h see = tt
-call-is Min (a ∷ b ∷ []) s h see = least-is (number_in a) (number_in b) (first-is a (b ∷ []) h) (first-is b [] (rest-are a (b ∷ []) h))
-call-is Min (a ∷ b ∷ c ∷ rest) s h see = tt
-call-is Max [] s h see = tt
-call-is Max (a ∷ []) s h see = tt
-call-is Max (a ∷ b ∷ []) s h see = greatest-is (number_in a) (number_in b) (first-is a (b ∷ []) h) (first-is b [] (rest-are a (b ∷ []) h))
-call-is Max (a ∷ b ∷ c ∷ rest) s h see = tt
-call-is Remainder [] s h see = tt
-call-is Remainder (a ∷ []) s h see = tt
-call-is Remainder (a ∷ b ∷ []) s h see = remainder-is (number_in a) (number_in b) (first-is a (b ∷ []) h) (first-is b [] (rest-are a (b ∷ []) h))
-call-is Remainder (a ∷ b ∷ c ∷ rest) s h see = tt
-call-is Even [] s h see = tt
-call-is Even (a ∷ []) s h see = tt
-call-is Even (a ∷ b ∷ rest) s h see = tt
-call-is Odd [] s h see = tt
-call-is Odd (a ∷ []) s h see = tt
-call-is Odd (a ∷ b ∷ rest) s h see = tt
-call-is IsInt [] s h see = tt
-call-is IsInt (a ∷ []) s h see = tt
-call-is IsInt (a ∷ b ∷ rest) s h see = tt
-call-is IsUndefined [] s h see = tt
-call-is IsUndefined (a ∷ []) s h see = tt
-call-is IsUndefined (a ∷ b ∷ rest) s h see = tt
+call-is StateCount xs s h see = of_number-is (λ v. state_count v (outs s)) xs (λ v k. state_count-is v s see) h
+call-is CellPos xs s h see = of_number-is (λ v. cell_position v s) xs (λ v k. cell_position-is v s see) h
+call-is If xs s h see = made-is (Truth ∷ Number ∷ Number ∷ []) Number (λ t a b. Some (by_truth t a b b)) xs (λ t i a j b k. by_truth-is t a b b j k k) h
+call-is Ifu xs s h see =
+    made-is (Truth ∷ Number ∷ Number ∷ Number ∷ []) Number (λ t a b u. Some (by_truth t a b u)) xs (λ t i a j b k u l. by_truth-is t a b u j k l) h
+call-is Abs xs s h see = of_number-is size_of xs size-is h
+call-is Sign xs s h see = of_number-is sign_of xs sign-is h
+call-is Sqrt xs s h see = of_number-is root_of xs root-is h
+call-is Trunc xs s h see = of_number-is whole_part xs whole_part-is h
+call-is Fractional xs s h see = of_number-is fraction_of xs fraction-is h
+call-is Round xs s h see = of_number-is rounded xs rounded-is h
+call-is Min xs s h see = of_two_numbers-is least_of xs least-is h
+call-is Max xs s h see = of_two_numbers-is greatest_of xs greatest-is h
+call-is Remainder xs s h see = of_two_numbers-is remainder_of xs remainder-is h
+call-is Even xs s h see = of_test-is (test_of is_even) xs h
+call-is Odd xs s h see = of_test-is (test_of is_odd) xs h
+call-is IsInt xs s h see = of_test-is (test_of is_whole) xs h
+call-is IsUndefined xs s h see = of_test-is is_undefined xs h
 
 with_answer-is : (o : Option Answer) (go : Answer → Option Answer) → IfSome o IsBoundedAnswer → ((a : Answer) → IsBoundedAnswer a → IfSome (go a) IsBoundedAnswer) → IfSome (with_answer o go) IsBoundedAnswer
 with_answer-is None go h goes = tt
