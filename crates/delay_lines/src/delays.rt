@@ -87,8 +87,8 @@ impl Delays {
     }
 
     /// Puts a value into a cell's list at its time, in the place of a pair of that time. It visits the
-    /// nodes of that list alone, and only the last one where the time is later than its. It takes memory only where nothing is spare; where that is refused,
-    /// nothing changes, and no room is lost.
+    /// nodes of that list alone, and only the last one where that is earlier. It takes memory only
+    /// where nothing is spare; where that is refused, nothing changes, and no room is lost.
     pub fn transport(&mut self, cell: u32, at: Time, value: Value) -> Result<(), OutOfMemory>
         requires { cell < length self.old.lists }
         ensures ok { OnOk result (ChangesList self.old self.new cell (put_pair at value (list_of self.old cell))) }

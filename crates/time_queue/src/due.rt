@@ -79,7 +79,8 @@ fn take_leading<Q: DueFirst>(queue: &mut Q, at: Time, into: &mut Vec<u32>)
     }
 }
 
-/// What `TimeQueue::take_all_at` says. All leaves are gone through, since they stand anywhere behind those of earlier times.
+/// What `TimeQueue::take_all_at` says. All leaves are gone through, since they stand anywhere behind
+/// those of earlier times.
 pub fn take_scattered<Q: DueFirst>(queue: &mut Q, at: Time, into: &mut Vec<u32>)
     requires empty { into.old.items ≡ [] }
     requires room { length (Q.waiting queue.old) ≤ vec_capacity into.old }
