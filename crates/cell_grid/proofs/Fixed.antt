@@ -61,6 +61,15 @@ filter_map-map : {X Y Z : Type 0} (f : Y → Option Z) (g : X → Y) (xs : List 
 filter_map-map f g [] = refl
 filter_map-map f g (x ∷ xs) = ap (cons_option (f (g x))) (filter_map-map f g xs)
 
+all_there : {X Y : Type 0} (h : X → Option Y) (xs : List X) (ys : List Y) → map (λ y. Some y) ys ≡ map h xs → ys ≡ filter_map h xs
+all_there h [] [] e = refl
+all_there h [] (y ∷ ys) e = cc
+all_there h (x ∷ xs) [] e = cc
+all_there {X} {Y} h (x ∷ xs) (y ∷ ys) e =
+    let head : ◌≡◌ {A = Option Y} (Some y) (h x) = cc in
+    let tail : map (λ y. Some y) ys ≡ map h xs = cc in
+    ap (λ zs. y ∷ zs) (all_there h xs ys tail) ∙ ap (λ m. cons_option m (filter_map h xs)) head
+
 module _ (s : Space) (cell : ℕ) (p : Place) (held strides : List Stride) (n : Neighbourhood)
     (at : p ≡ place_of s cell) (same : strides ≡ held) (is : (let view : Neighbourhood = record { space = s; offsets = map offset_of_stride held } in view) ≡ n) where
   pub filled_neighbours : (into : List (Option ℕ)) → into ≡ map (λ (t : Stride). neighbour_at s p (offset_of_stride t)) strides → into ≡ neighbours n cell
@@ -73,6 +82,11 @@ module _ (s : Space) (cell : ℕ) (p : Place) (held strides : List Stride) (n : 
       found ∙ ap (filter_map (λ (t : Stride). neighbour_at s p (offset_of_stride t))) same
       ∙ ap (λ q. filter_map (λ (t : Stride). neighbour_at s q (offset_of_stride t)) held) at
       ∙ filter_map-map (neighbour s cell) offset_of_stride held ∙ ap (λ (m : Neighbourhood). filter_map (neighbour m.space cell) m.offsets) is
+
+  -- where there is a neighbour by each offset
+  pub written_neighbours : (into : List ℕ) → map (λ n. Some n) into ≡ map (λ (t : Stride). neighbour_at s p (offset_of_stride t)) strides → into ≡ filter_map (neighbour n.space cell) n.offsets
+  written_neighbours into written =
+      collected_neighbours into (all_there (λ (t : Stride). neighbour_at s p (offset_of_stride t)) strides into written)
 
 -- ---- watchers
 

@@ -68,7 +68,6 @@ impl Reach {
         ensures few { length into.new.items ≤ length self.now.offsets }
         ensures capacity { vec_capacity into.new ≡ vec_capacity into.old }
     {
-        into.clear();
         self.back.collect(cell, into);
     }
 }

@@ -79,18 +79,19 @@ impl Strides {
         }
     }
 
-    /// Puts the cells that the steps lead to from this cell into an empty list.
+    /// Puts the cells that the steps lead to from this cell into a list, in place of what it holds.
     pub fn collect(&self, cell: u32, into: &mut Vec<u32>)
         requires here { cell < cell_count self.now.space }
-        requires empty { into.old.items ≡ [] }
         requires room { length self.now.offsets ≤ vec_capacity into.old }
         ensures cells { into.new.items ≡ filter_map (neighbour self.now.space cell) self.now.offsets }
         ensures capacity { vec_capacity into.new ≡ vec_capacity into.old }
     {
         let place = self.grid.position(cell);
         if self.inner.has(place) {
-            collect_inside(self.grid, &self.strides, cell, into);
+            set_len(into, self.strides.len());
+            write_inside(self.grid, &self.strides, cell, into);
         } else {
+            into.clear();
             collect_at(self.grid, &self.strides, place, into);
         }
     }
@@ -145,17 +146,31 @@ fn fill_at(grid: Grid, strides: &[Stride], from: Place, into: &mut [Option<u32>]
     }
 }
 
-fn collect_inside(grid: Grid, strides: &[Stride], cell: u32, into: &mut Vec<u32>)
-    requires here { cell < cell_count grid }
-    requires fixed { All (IsFixed grid cell (place_of grid cell)) strides.now }
-    requires empty { into.old.items ≡ [] }
-    requires room { length strides.now ≤ vec_capacity into.old }
-    ensures cells { into.new.items
-        ≡ filter_map (λ stride. neighbour grid cell (offset_of_stride stride)) strides.now }
+/// Gives a list this length, where there is room for it. What it holds is to be written.
+fn set_len(into: &mut Vec<u32>, len: usize)
+    requires room { len ≤ vec_capacity into.old }
+    ensures len { length into.new.items ≡ len }
     ensures capacity { vec_capacity into.new ≡ vec_capacity into.old }
 {
-    for stride in strides {
-        into.push_reserved(further(cell, stride.cells));
+    if into.len() == len {
+        return;
+    }
+    into.clear();
+    for _place in 0..len {
+        into.push_reserved(0);
+    }
+}
+
+// Written into a slice, since a list that grows would keep its length in memory at each step.
+fn write_inside(grid: Grid, strides: &[Stride], cell: u32, into: &mut [u32])
+    requires here { cell < cell_count grid }
+    requires fixed { All (IsFixed grid cell (place_of grid cell)) strides.now }
+    requires length { length into.old ≡ length strides.now }
+    ensures { map (λ to. Some to) into.new
+        ≡ map (λ stride. neighbour grid cell (offset_of_stride stride)) strides.now }
+{
+    for (place, stride) in strides.iter().enumerate() {
+        into[place] = further(cell, stride.cells);
     }
 }
 
