@@ -1,6 +1,7 @@
 // The delay lists of the cells of a group.
 ghost use Rattle.std.specs.Prelude.{◌≡◌, ◌+◌, ◌<◌, ◌≤◌, [], ◌∷◌, ◌++◌, length, drop, replicate, OnOk, OnErr, IfOk, IsOk};
-ghost use Rattle.quantity.specs.Delay.{put_pair};
+ghost use Rattle.quantity.specs.Delay.{delayed};
+ghost use Rattle.quantity.specs.declared.delay.DelayKind.TheVariants.{Transport, Inertial};
 ghost use Rattle.delay_lines.specs.Lists.{list_of, first_pair, ChangesList, IsRising, KeepsPlaces};
 
 use crate::nodes::{Node, Spot, append_from, last_left, last_with, place_of};
@@ -91,7 +92,7 @@ impl Delays {
     /// where nothing is spare; where that is refused, nothing changes, and no room is lost.
     pub fn transport(&mut self, cell: u32, at: Time, value: Value) -> Result<(), OutOfMemory>
         requires { cell < length self.old.lists }
-        ensures ok { OnOk result (ChangesList self.old self.new cell (put_pair at value (list_of self.old cell))) }
+        ensures ok { OnOk result (ChangesList self.old self.new cell (delayed Transport (list_of self.old cell) at value)) }
         ensures rising { IsRising (list_of self.new cell) }
         ensures succeeds { 1 ≤ self.old.spare → IsOk result }
         ensures err { OnErr result (self.new.lists ≡ self.old.lists) }
@@ -122,7 +123,7 @@ impl Delays {
     pub fn inertial(&mut self, cell: u32, at: Time, value: Value)
         requires exists { cell < length self.old.lists }
         requires room { 1 ≤ self.old.spare + length (list_of self.old cell) }
-        ensures list { ChangesList self.old self.new cell ((at, value) ∷ []) }
+        ensures list { ChangesList self.old self.new cell (delayed Inertial (list_of self.old cell) at value) }
         ensures places { KeepsPlaces self.old self.new cell }
         ensures spare { self.old.spare ≤ self.new.spare + 1 }
     {
