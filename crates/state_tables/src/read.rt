@@ -59,6 +59,3 @@ fn initial_in(names: &[&[u8]], entries: &[Param]) -> u8
     };
     number_in(names, entry.value.as_bytes()).unwrap_or(0)
 }
-
-#[cfg(test)]
-mod tests;
