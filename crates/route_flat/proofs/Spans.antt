@@ -1,6 +1,6 @@
 -- Lists that stand one behind another, and their spans.
-use Rattle.std.proofs.Common.{◌≡◌, ◌<◌, ◌≤◌, ◌+◌, ◌++◌, ℕ, Bool, true, false, Some, None, List, [], ◌∷◌, map, take, drop, length, get_or, refl, sym, ap, ◌∙◌, arith, append_assoc, append-nil}
-use Rattle.std.specs.Prelude.{nat_le, if◌then◌else◌}
+use Rattle.std.proofs.Common.{◌≡◌, ◌<◌, ◌≤◌, ◌+◌, ◌++◌, ℕ, Bool, true, false, Some, List, [], ◌∷◌, map, take, drop, length, get_or, refl, sym, ap, ◌∙◌, arith, append_assoc, append-nil}
+use Rattle.std.specs.Prelude.{nat_le}
 use Rattle.std.specs.List.{flat_map}
 use Rattle.std.proofs.lemmas.List.{length-append, length-map, take_at, drop_at, take_more, map_push, map_more, take-map, drop-map}
 use Rattle.std.proofs.lemmas.List.Concat.{flat_map-append}
@@ -10,7 +10,7 @@ use Rattle.route_flat.specs.declared.net.Net.{Net}
 use Rattle.route_flat.specs.declared.source.Source.{Source}
 use Rattle.route_flat.specs.declared.source.Span.{Span}
 use Rattle.route_flat.specs.Nodes.{list_of, part_at}
-use Rattle.route_flat.specs.Nets.{Flat, AreWithin, flat_of_spans, flat_of_net}
+use Rattle.route_flat.specs.Nets.{AreWithin, flat_of_spans, flat_of_net}
 use Rattle.route_flat.specs.Lists.{span_at, IsList, AreLists}
 
 -- ---- one list more

@@ -1,7 +1,4 @@
-use Rattle.std.proofs.Common.{◌≡◌, ◌++◌, List, Some, map, take}
-use Rattle.std.specs.List.{flat_map}
-use Rattle.route_flat.specs.declared.source.Source.{Source}
-use Rattle.route_flat.specs.Nodes.{list_of}
+use Rattle.std.proofs.Common.{take}
 use Rattle.route_flat.specs.Lists.{AreLists}
 use Rattle.route_flat.proofs.lists.lists.Given as goal
 

@@ -1,4 +1,4 @@
-use Rattle.std.proofs.Common.{◌≡◌, ◌<◌, ◌≤◌, ◌+◌, List, length, arith, ap, sym, ◌∙◌, get_or, map, subst, [], ℕ}
+use Rattle.std.proofs.Common.{◌<◌, ◌+◌, List, length, arith, ap, sym, ◌∙◌, get_or, subst, []}
 use Rattle.route_flat.specs.declared.source.Source.{Source}
 use Rattle.route_flat.specs.Nodes.{part_at}
 use Rattle.route_flat.proofs.Reading.{within-at, count-leaves, read-leaf, port-below, read-port}
