@@ -8,8 +8,7 @@ use Rattle.std.specs.Str.{bytes_eq}
 use Rattle.model_tree.specs.Tree.{Tree, Leaf, leaves}
 use Rattle.run_model.specs.Cycle.{LeafState}
 use Rattle.quantity.specs.Bytes.{Bytes}
-use Rattle.quantity.specs.ValueTexts.{text5, guessed_value}
-use Rattle.quantity.specs.Times.{time_text, read_time, time_of}
+use Rattle.quantity.specs.Times.{read_time}
 use Rattle.quantity.specs.Written.{if_written, for_some}
 use Rattle.text_forms.specs.LogLine.{LogLine, parts_in, is_line, line_in, if_line, line_text}
 use Rattle.text_forms.specs.Lines.{ended}

@@ -1,5 +1,5 @@
 -- The lines of a run's log and output.
-use Rattle.std.specs.Prelude.{ℕ, ◌==◌, Option, List, [], ◌∷◌, ◌++◌, take, slice_get, codes, unwrap_or}
+use Rattle.std.specs.Prelude.{ℕ, ◌==◌, Option, List, [], ◌∷◌, ◌++◌, take, slice_get}
 use Rattle.std.specs.List.{list_any, filter, filter_map, flat_map, join_with_byte}
 use Rattle.std.specs.Option.{option_map}
 use Rattle.quantity.specs.Bytes.{Bytes}
