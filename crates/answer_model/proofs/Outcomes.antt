@@ -15,10 +15,10 @@ all_begun : (files : Files) → BeginFiles files files
 all_begun [] = tt
 all_begun (f ∷ fs) = (refl, ([], sym (append-nil f.1)), all_begun fs)
 
-whole_begun : (a : Answer) (did : Did) → did.made ≡ a.made → did.shown ≡ a.shown → IsBegun a did
+pub whole_begun : (a : Answer) (did : Did) → did.made ≡ a.made → did.shown ≡ a.shown → IsBegun a did
 whole_begun a did m s = (subst (λ fs. BeginFiles fs a.made) (sym m) (all_begun a.made), ([], sym s ∙ sym (append-nil did.shown)))
 
-none_begun : (a : Answer) (did : Did) → did.made ≡ [] → did.shown ≡ [] → IsBegun a did
+pub none_begun : (a : Answer) (did : Did) → did.made ≡ [] → did.shown ≡ [] → IsBegun a did
 none_begun a did m s = (subst (λ fs. BeginFiles fs a.made) (sym m) tt, (a.shown, ap (λ bs. bs ++ a.shown) (sym s)))
 
 -- ---- what was done, outside

@@ -1,0 +1,67 @@
+-- What a complaint came to, and what the last bytes that are shown came to.
+use Rattle.std.proofs.Common.{◌≡◌, ℕ, ◌<◌, List, [], length, take, drop, refl, sym, ap, ◌∙◌, take-append-drop, arith}
+use Rattle.std.specs.Prelude.{Contains, codes}
+use Rattle.std.proofs.lemmas.List.{length-take-le}
+use Rattle.std.proofs.Math.Seq.{take-length}
+use Rattle.room_edge.specs.Faults.{WriteFaultCounted, ComplaintFaultCounted, KeepsWriteFaults}
+use Rattle.room_edge.specs.Outside.{Outside, OnlyShown, OnlyComplained, streams}
+use Rattle.room_edge.proofs.Adding.{streams-nil}
+use Rattle.room_edge.proofs.Only.{OnlyShown-refl, OnlyComplained-refl}
+use Rattle.answer_model.specs.Answer.{write_fault_line}
+use Rattle.answer_model.specs.Outcome.{FallsShort}
+use Rattle.answer_model.specs.Endings.{Says, whole, cut, unsaid, ShowsEnd, all_shown, stopped, unshown}
+
+-- ---- pieces
+
+shorter : (n : ℕ) (bytes : List ℕ) → n < length bytes → take n bytes ≡ bytes → ⊥
+shorter n bytes lt e = absurd (omega (arith, lt, ap length e, length-take-le n bytes (omega (arith, lt))))
+
+-- the first bytes and not all
+pub short_of : (n : ℕ) (bytes : List ℕ) → n < length bytes → FallsShort (take n bytes) bytes
+short_of n bytes lt = ((drop n bytes, sym (take-append-drop n bytes)), shorter n bytes lt)
+
+-- ---- complaints
+
+pub said_whole : (old new : Outside) (line : List ℕ) (own : ℕ) → new.complained ≡ streams old.complained (take (length line) line) → OnlyComplained old new → KeepsWriteFaults old new → Says line own old new own
+said_whole old new line own is only keeps = whole (is ∙ ap (streams old.complained) (take-length line), only) keeps
+
+pub said_cut : (old new : Outside) (line : List ℕ) (own n : ℕ) → new.complained ≡ streams old.complained (take n line) → n < length line → OnlyComplained old new → WriteFaultCounted old new → ComplaintFaultCounted old new → Says line own old new 5
+said_cut old new line own n is lt only writes complaints = cut (take n line) (short_of n line lt) (is, only) writes complaints
+
+pub said_part : (old new : Outside) (line : List ℕ) (own n : ℕ) → new.complained ≡ streams old.complained (take n line) → OnlyComplained old new → Says line own old new 12
+said_part old new line own n is only = unsaid (take n line) (drop n line, sym (take-append-drop n line)) (is, only)
+
+pub said_nothing : (now : Outside) (line : List ℕ) (own : ℕ) → Says line own now now 12
+said_nothing now line own = unsaid [] (line, refl) (sym (streams-nil now.complained), OnlyComplained-refl now)
+
+-- the status is that of the line, of a write fault or of want of memory
+pub said_among : (statuses line : List ℕ) (own : ℕ) (old new : Outside) (status : ℕ) → Contains statuses own → Contains statuses 5 → Contains statuses 12 → Says line own old new status → Contains statuses status
+said_among statuses line own old new _ here fault memory (whole said keeps) = here
+said_among statuses line own old new _ here fault memory (cut part short said writes complaints) = fault
+said_among statuses line own old new _ here fault memory (unsaid part begins said) = memory
+
+pub said_only : (line : List ℕ) (own : ℕ) (old new : Outside) (status : ℕ) → Says line own old new status → OnlyComplained old new
+said_only line own old new _ (whole said keeps) = said.1
+said_only line own old new _ (cut part short said writes complaints) = said.1
+said_only line own old new _ (unsaid part begins said) = said.1
+
+-- ---- the last bytes that are shown
+
+pub shown_whole : (old new : Outside) (bytes : List ℕ) (own : ℕ) → new.shown ≡ streams old.shown (take (length bytes) bytes) → OnlyShown old new → KeepsWriteFaults old new → ShowsEnd bytes own old new own
+shown_whole old new bytes own is only keeps = all_shown (is ∙ ap (streams old.shown) (take-length bytes), only) keeps
+
+pub shown_stopped : (old mid new : Outside) (bytes : List ℕ) (own n status : ℕ) → mid.shown ≡ streams old.shown (take n bytes) → n < length bytes → OnlyShown old mid → KeepsWriteFaults old mid → WriteFaultCounted old mid
+    → Says (write_fault_line (codes "standard output")) 5 mid new status → ShowsEnd bytes own old new status
+shown_stopped old mid new bytes own n status is lt only keeps rose says = stopped (take n bytes) mid (short_of n bytes lt) (is, only) keeps rose says
+
+pub shown_part : (old new : Outside) (bytes : List ℕ) (own n : ℕ) → new.shown ≡ streams old.shown (take n bytes) → OnlyShown old new → KeepsWriteFaults old new → ShowsEnd bytes own old new 12
+shown_part old new bytes own n is only keeps = unshown (take n bytes) (drop n bytes, sym (take-append-drop n bytes)) (is, only) keeps
+
+pub shown_nothing : (now : Outside) (bytes : List ℕ) (own : ℕ) → ShowsEnd bytes own now now 12
+shown_nothing now bytes own = unshown [] (bytes, refl) (sym (streams-nil now.shown), OnlyShown-refl now) (omega arith)
+
+pub shown_among : (statuses bytes : List ℕ) (own : ℕ) (old new : Outside) (status : ℕ) → Contains statuses own → Contains statuses 5 → Contains statuses 12 → ShowsEnd bytes own old new status → Contains statuses status
+shown_among statuses bytes own old new _ here fault memory (all_shown showed keeps) = here
+shown_among statuses bytes own old new status here fault memory (stopped part mid short showed keeps rose says) =
+    said_among statuses (write_fault_line (codes "standard output")) 5 mid new status fault fault memory says
+shown_among statuses bytes own old new _ here fault memory (unshown part begins showed keeps) = memory
