@@ -1,5 +1,5 @@
 -- How a program ends, stage by stage.
-use Rattle.std.proofs.Common.{◌≡◌, ℕ, ◌≤◌, true, [], ◌∷◌, ◌++◌, append_assoc, refl, sym, ap, ◌∙◌, subst, arith}
+use Rattle.std.proofs.Common.{◌≡◌, ℕ, ◌≤◌, true, [], ◌∷◌, ◌++◌, append_assoc, refl, sym, ap, ◌∙◌, subst, arith, ◌⊎◌, inl, inr}
 use Rattle.std.specs.Prelude.{codes}
 use Rattle.std.proofs.lemmas.List.{append_cancel_left}
 use Rattle.quantity.specs.Bytes.{Bytes}
@@ -7,11 +7,11 @@ use Rattle.model_tree.specs.Tree.{Word}
 use Rattle.room_edge.specs.Faults.{Rose, ReadFaultCounted, WriteFaultCounted, ComplaintFaultCounted, KeepsReadFaults, KeepsWriteFaults}
 use Rattle.room_edge.specs.Outside.{Outside}
 use Rattle.answer_model.specs.Answer.{Answer, read_fault_line, write_fault_line}
-use Rattle.answer_model.specs.Headline.{Begins}
-use Rattle.answer_model.specs.Outcome.{Did, HasMore, as_answered, reading_failed, writing_failed, complaining_failed, memory_failed, Complaint, of_answer, of_reading, of_writing, FallsShort, IsBegun, IsLast, Lacks, a_file, the_output, Outcome}
+use Rattle.answer_model.specs.Headline.{Begins, Writes}
+use Rattle.answer_model.specs.Outcome.{Did, HasMore, Ending, as_answered, reading_failed, writing_failed, complaining_failed, memory_failed, Complaint, of_answer, of_reading, of_writing, FallsShort, IsBegun, IsLast, Lacks, a_file, the_output, Outcome}
 use Rattle.answer_model.specs.Steps.{is_made, did_nothing, and_tried, and_created, and_appended, and_showed, Tried, Created, Appended, Showed, Complained}
 use Rattle.answer_model.specs.Endings.{Says, whole, cut, unsaid, ShowsEnd, all_shown, stopped, unshown, IsOnWay, LeadsTo, EndsWith, StepsLead, EndingsFollow}
-use Rattle.answer_model.proofs.Outcomes.{whole_begun, none_begun}
+use Rattle.answer_model.proofs.Outcomes.{whole_begun, none_begun, writes}
 use Rattle.answer_model.proofs.Steps.{steps_add}
 
 -- ---- counts
@@ -187,5 +187,15 @@ ended_way a did old now new bytes _ way made all none (unshown part begins showe
 as_ended : (a : Answer) (did : Did) (now new : Outside) (bytes : Bytes) (status : ℕ) → did.made ≡ a.made → a.shown ≡ did.shown ++ bytes → a.complained ≡ [] → ShowsEnd bytes a.status now new status → EndsWith a did now new status
 as_ended a did now new bytes status made all none ends = λ start way. ended_way a did start now new bytes status way made all none ends
 
+sure_ending : (a : Answer) (old new : Outside) (did : Did) (status : ℕ) → HasMore did old new → Ending a old new did status → ¬ ReadFaultCounted old new → ¬ WriteFaultCounted old new → (status ≡ 12) ⊎ Writes a old new status
+sure_ending a old new did _ more (as_answered m s c) no_read no_write = inr (writes a old new did more m s c)
+sure_ending a old new did _ more (reading_failed rose m s l c) no_read no_write = absurd (no_read rose)
+sure_ending a old new did _ more (writing_failed rose b l c) no_read no_write = absurd (no_write rose)
+sure_ending a old new did _ more (complaining_failed rose also b l c) no_read no_write = absurd (no_write rose)
+sure_ending a old new did _ more (memory_failed b l c) no_read no_write = inl refl
+
+sure : (a : Answer) (old new : Outside) (status : ℕ) → Outcome a old new status → ¬ ReadFaultCounted old new → ¬ WriteFaultCounted old new → (status ≡ 12) ⊎ Writes a old new status
+sure a old new status o = sure_ending a old new o.did status o.more o.ending
+
 pub endings_follow : EndingsFollow
-endings_follow = record { shown = as_shown; ended = as_ended; said = as_said; reading = after_reading; writing = after_writing; memory = out_of_memory }
+endings_follow = record { shown = as_shown; ended = as_ended; said = as_said; reading = after_reading; writing = after_writing; memory = out_of_memory; surely = sure }

@@ -23,7 +23,7 @@ none_begun a did m s = (subst (λ fs. BeginFiles fs a.made) (sym m) tt, (a.shown
 
 -- ---- what was done, outside
 
-writes : (a : Answer) (old new : Outside) (did : Did) → HasMore did old new → did.made ≡ a.made → did.shown ≡ a.shown → did.complained ≡ a.complained → Writes a old new a.status
+pub writes : (a : Answer) (old new : Outside) (did : Did) → HasMore did old new → did.made ≡ a.made → did.shown ≡ a.shown → did.complained ≡ a.complained → Writes a old new a.status
 writes a old new did more m s c =
     record {
       status = refl;

@@ -1,11 +1,11 @@
 -- How a program ends, stage by stage.
-use Rattle.std.specs.Prelude.{◌≡◌, ℕ, true, List, [], ◌∷◌, ◌++◌, codes}
+use Rattle.std.specs.Prelude.{◌≡◌, ℕ, true, List, [], ◌∷◌, ◌++◌, ◌⊎◌, codes}
 use Rattle.quantity.specs.Bytes.{Bytes}
 use Rattle.model_tree.specs.Tree.{Word}
 use Rattle.room_edge.specs.Faults.{ReadFaultCounted, WriteFaultCounted, ComplaintFaultCounted, KeepsReadFaults, KeepsWriteFaults, KeepsComplaintFaults}
 use Rattle.room_edge.specs.Outside.{Outside}
 use Rattle.answer_model.specs.Answer.{Files, Answer, read_fault_line, write_fault_line}
-use Rattle.answer_model.specs.Headline.{Begins}
+use Rattle.answer_model.specs.Headline.{Begins, Writes}
 use Rattle.answer_model.specs.Outcome.{Did, HasMore, FallsShort, IsBegun, IsLast, Lacks, Outcome}
 use Rattle.answer_model.specs.Steps.{is_made, did_nothing, and_tried, and_created, and_appended, and_showed, Tried, Created, Appended, Showed, Complained}
 
@@ -75,3 +75,5 @@ pub record EndingsFollow : Type 0 where
   pub writing : (a : Answer) (did : Did) (old now new : Outside) (name : Word) (status : ℕ) → IsOnWay a did old now → IsBegun a did → Lacks a did name → WriteFaultCounted old now → Says (write_fault_line name) 5 now new status → Outcome a old new status
   -- memory ran out, and nothing is complained
   pub memory : (a : Answer) (did : Did) (now : Outside) → IsBegun a did → EndsWith a did now now 12
+  -- where no fault of reading or writing was counted, all is as answered, or memory ran out
+  pub surely : (a : Answer) (old new : Outside) (status : ℕ) → Outcome a old new status → ¬ ReadFaultCounted old new → ¬ WriteFaultCounted old new → (status ≡ 12) ⊎ Writes a old new status
