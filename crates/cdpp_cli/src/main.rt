@@ -4,6 +4,7 @@
 ghost use Rattle.std.specs.Prelude.{◌≡◌, ◌<◌};
 
 use cdpp_top::cdpp;
+use cdpp_top::status::{NO_MEMORY, USAGE, WRITE_FAULT};
 use ring_cells::Steps;
 use room_edge::FolderRoom;
 use std::alloc::Global;
@@ -12,12 +13,6 @@ use std::io::ErrorKind;
 use std::marker::Brand;
 use std::process::ExitCode;
 use std::sync::ledger::{Blank, Ledger};
-
-const USAGE: u8 = 2;
-
-const WRITE_FAULT: u8 = 5;
-
-const MEMORY: u8 = 12;
 
 // Words that are no text are refused as all others that the program doesn't take.
 fn refuse(rt: &impl Eprint) -> u8 {
@@ -48,13 +43,13 @@ fn main(rt: HostRuntime) -> ExitCode {
     let args = match env::args(&rt) {
         Ok(args) => args,
         Err(error) => match error.kind() {
-            ErrorKind::OutOfMemory => return ExitCode::from(MEMORY),
+            ErrorKind::OutOfMemory => return ExitCode::from(NO_MEMORY),
             _ => return ExitCode::from(refuse(&rt)),
         },
     };
     for word in args {
         let Ok(()) = words.push(word) else {
-            return ExitCode::from(MEMORY);
+            return ExitCode::from(NO_MEMORY);
         };
     }
     let mut room = FolderRoom::new(rt);

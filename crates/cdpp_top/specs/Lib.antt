@@ -1,7 +1,7 @@
 pub mod Form
 pub mod AskedOf
 pub mod Answer
-pub mod Statuses
+pub mod Ends
 pub mod Logged
 pub mod RunOf
 pub mod Lines

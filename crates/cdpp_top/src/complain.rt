@@ -1,28 +1,23 @@
 // What is said of a fault or a refusal.
-ghost use Rattle.std.specs.Prelude.{◌≡◌, ◌≢◌, ◌≤◌, ◌++◌};
-ghost use Rattle.std.specs.Bool.{OnFalse};
-ghost use Rattle.room_edge.specs.Outside.{OnlyComplained, streams};
-ghost use Rattle.room_edge.specs.Faults.{Rose};
+ghost use Rattle.std.specs.Prelude.{◌++◌};
 ghost use Rattle.text_forms.specs.Lines.{ended};
-ghost use Rattle.answer_model.specs.Headline.{is_free};
-ghost use Rattle.cdpp_top.specs.Statuses.{IsOr};
+ghost use Rattle.answer_model.specs.Answer.{write_fault_line};
+ghost use Rattle.answer_model.specs.Endings.{Says};
 
 use crate::lines::named_line;
+use crate::status::{NO_MEMORY, WRITE_FAULT};
 use room_edge::{Room, WriteAll, complain_all};
 use std::alloc::Global;
 
-/// Complains by one line. The status is the given one, or 5 or 12 where the line can't be written.
+/// Complains by one line. The status is the given one, or that of a write fault or of want of
+/// memory where the line can't be written.
 pub fn complain<R: Room>(room: &mut R, line: &[u8], status: u8) -> u8
-    ensures status { IsOr status result }
-    ensures complained { OnFalse (is_free result) ((R.outside room.new).complained ≡ streams (R.outside room.old).complained line.now) }
-    ensures fault { result ≡ 5 → status ≢ 5 → Rose (R.outside room.old).write_faults (R.outside room.new).write_faults }
-    ensures faults { (R.outside room.old).write_faults ≤ (R.outside room.new).write_faults }
-    ensures only { OnlyComplained (R.outside room.old) (R.outside room.new) }
+    ensures { Says line.now status (R.outside room.old) (R.outside room.new) result }
 {
     match complain_all(room, line) {
         Ok(()) => status,
-        Err(WriteAll::WriteFault(_)) => 5,
-        Err(WriteAll::Memory(_)) => 12,
+        Err(WriteAll::WriteFault(_)) => WRITE_FAULT,
+        Err(WriteAll::Memory(_)) => NO_MEMORY,
     }
 }
 
@@ -34,23 +29,17 @@ pub fn complain_named<R: Room>(
     name: &str,
     status: u8,
 ) -> u8
-    ensures status { IsOr status result }
-    ensures complained { OnFalse (is_free result) ((R.outside room.new).complained ≡ streams (R.outside room.old).complained (ended (what.now ++ name.now))) }
-    ensures fault { result ≡ 5 → status ≢ 5 → Rose (R.outside room.old).write_faults (R.outside room.new).write_faults }
-    ensures faults { (R.outside room.old).write_faults ≤ (R.outside room.new).write_faults }
-    ensures only { OnlyComplained (R.outside room.old) (R.outside room.new) }
+    ensures { Says (ended (what.now ++ name.now)) status (R.outside room.old) (R.outside room.new) result }
 {
     let Ok(line) = named_line(alloc, what, name) else {
-        return 12;
+        return NO_MEMORY;
     };
     complain(room, &line, status)
 }
 
 /// Tells of a write that failed, as far as it can.
 pub fn write_fault<R: Room>(alloc: Global, room: &mut R, name: &str) -> u8
-    ensures status { IsOr 5 result }
-    ensures faults { (R.outside room.old).write_faults ≤ (R.outside room.new).write_faults }
-    ensures only { OnlyComplained (R.outside room.old) (R.outside room.new) }
+    ensures { Says (write_fault_line name.now) 5 (R.outside room.old) (R.outside room.new) result }
 {
-    complain_named(alloc, room, b"write fault: ", name, 5)
+    complain_named(alloc, room, b"write fault: ", name, WRITE_FAULT)
 }

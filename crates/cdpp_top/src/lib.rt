@@ -7,6 +7,7 @@ mod lines;
 mod log;
 mod program;
 mod run;
+pub mod status;
 mod sure;
 mod words;
 

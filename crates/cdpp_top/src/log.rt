@@ -6,7 +6,7 @@ ghost use Rattle.room_edge.specs.Outside.{OnlyMade};
 ghost use Rattle.room_edge.specs.Faults.{Rose};
 ghost use Rattle.answer_model.specs.Headline.{Begins};
 ghost use Rattle.cdpp_top.specs.AskedOf.{name_of};
-ghost use Rattle.cdpp_top.specs.Logged.{with_log, logs, IsAmong};
+ghost use Rattle.cdpp_top.specs.Logged.{with_log, logs, IsAmong, FallsShortOn};
 
 use room_edge::{Room, WriteAll, WriteError, write_all};
 
@@ -31,6 +31,7 @@ pub fn write_log<R: Room>(room: &mut R, log: Option<&str>, text: &[u8]) -> Resul
     requires { IsAmong (name_of log) (R.outside room.old).created }
     ensures made { OnOk result ((R.outside room.new).made ≡ logs (name_of log.entry) (R.outside room.old).made text.now) }
     ensures part { (part : Bytes) × Begins part text.now × ((R.outside room.new).made ≡ logs (name_of log.entry) (R.outside room.old).made part) }
+    ensures short { IsErrOf result WriteError.Failed → FallsShortOn (name_of log.entry) text.now (R.outside room.old).made (R.outside room.new).made }
     ensures failed { IsErrOf result WriteError.Failed → Rose (R.outside room.old).write_faults (R.outside room.new).write_faults }
     ensures some { OnErr result (IsSome log.entry) }
     ensures created { (R.outside room.new).created ≡ (R.outside room.old).created }

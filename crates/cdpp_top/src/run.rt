@@ -6,13 +6,13 @@ ghost use Rattle.room_edge.specs.Outside.{OnlyMade};
 ghost use Rattle.room_edge.specs.Faults.{Rose};
 ghost use Rattle.answer_model.specs.Headline.{Begins};
 ghost use Rattle.cdpp_top.specs.AskedOf.{name_of};
-ghost use Rattle.cdpp_top.specs.Logged.{logs, IsAmong};
+ghost use Rattle.cdpp_top.specs.Logged.{logs, IsAmong, FallsShortOn};
 ghost use Rattle.cdpp_top.specs.RunOf.{run_of, log_of};
 ghost use Rattle.cdpp_top.specs.Trouble as trouble;
 
 use crate::log::write_log;
-use ring_cells::Steps;
 use quantity::Time;
+use ring_cells::Steps;
 use ring_run::{Progress, RingRun, Stop};
 use room_edge::{Room, WriteError};
 use std::alloc::Global;
@@ -45,6 +45,7 @@ pub fn run_cycles<R: Room, L: Ledger>(
     ensures log_many { (t : ℕ) → IsErrOf result (Trouble.TooManyCycles t) → (R.outside room.new).made ≡ logs (name_of log.entry) (R.outside room.old).made (log_of run.old.ring (run_of most run.old).cycles) }
     ensures part { (part : Bytes) × Begins part (log_of run.old.ring (run_of most run.old).cycles) × ((R.outside room.new).made ≡ logs (name_of log.entry) (R.outside room.old).made part) }
 
+    ensures short { IsErrOf result Trouble.WriteFault → FallsShortOn (name_of log.entry) (log_of run.old.ring (run_of most run.old).cycles) (R.outside room.old).made (R.outside room.new).made }
     ensures fault { IsErrOf result Trouble.WriteFault → Rose (R.outside room.old).write_faults (R.outside room.new).write_faults }
     ensures some { IsErrOf result Trouble.WriteFault → IsSome log.entry }
     ensures faults { (R.outside room.old).write_faults ≤ (R.outside room.new).write_faults }

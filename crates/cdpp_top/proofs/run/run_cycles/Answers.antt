@@ -6,7 +6,7 @@ use Rattle.cdpp_top.specs.AskedOf.{name_of}
 use Rattle.cdpp_top.specs.RunOf.{run_of, log_of}
 use Rattle.cdpp_top.specs.declared.run.Trouble.TheVariants as troubles
 use Rattle.cdpp_top.proofs.Runs.{run_ended, run_stopped, run_more, stops_at}
-use Rattle.cdpp_top.proofs.Logs.{logs-nil, lines_next, log_ended, log_part, log_more}
+use Rattle.cdpp_top.proofs.Logs.{logs-nil, lines_next, log_ended, log_part, log_short, log_more}
 use Rattle.cdpp_top.proofs.run.run_cycles.Goals as goal
 
 pub cycles-init : goal.cycles-init
@@ -69,6 +69,17 @@ returns-in-Err-Failed-clause-part g c =
     let lines = lines_next c.args.run.now.ring s.ring _ (run_of (c.cycles.left - 1) m) step.cycle c.deref.result.now was.ring more text_is in
     let part = c.write_log.ensures.part in
     log_part (name_of c.args.log) _ _ _ was.log.0 _ _ _ _ part.0 lines was.log.1 was.log.2 part.1 part.2
+
+pub returns-in-Err-Failed-clause-short : goal.returns-in-Err-Failed-clause-short
+returns-in-Err-Failed-clause-short g c = λ e.
+    let s = c.cycles.run in
+    let m = c.cycle.new.self in
+    let was = c.cycles.invariant in
+    let step = rw c.in-Cycled.is at c.in-Ok.ensures in
+    let more = run_more c.cycles.left s m step.cycle (omega arith) step.next step.keeps in
+    let text_is = c.deref.ensures.value ∙ step.log ∙ ap (λ l. l ++ ring.log_of s.ring step.cycle) c.new-text.ensures.items in
+    let lines = lines_next c.args.run.now.ring s.ring _ (run_of (c.cycles.left - 1) m) step.cycle c.deref.result.now was.ring more text_is in
+    log_short (name_of c.args.log) _ _ _ was.log.0 _ _ _ _ lines was.log.1 was.log.2 ((rw c.in-Err-Failed.field-0-is at c.in-Err-Failed.ensures).short refl)
 
 pub returns-in-Err-Memory-clause-part : goal.returns-in-Err-Memory-clause-part
 returns-in-Err-Memory-clause-part g c =
