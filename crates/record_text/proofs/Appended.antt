@@ -1,0 +1,93 @@
+-- Texts of leaves that are appended one after another.
+use Rattle.std.proofs.Common.{◌≡◌, ℕ, ◌+◌, ◌<◌, ◌≤◌, Option, Some, None, List, [], ◌∷◌, ◌++◌, refl, sym, ap, ◌∙◌, subst, append_assoc, append-nil, arith, length, take, zero, suc, codes, get_or, slice_get}
+use Rattle.std.specs.List.{All, flat_map, join_with_byte}
+use Rattle.std.specs.Prelude.{ℤ}
+use Rattle.std.proofs.Math.Seq.{take-append_seam}
+use Rattle.std.proofs.lemmas.List.{length-take, take-take, take_more, flat_map_more}
+use Rattle.quantity.specs.declared.value.Value.{Value}
+use Rattle.quantity.specs.Bytes.{Bytes}
+use Rattle.quantity.specs.Times.{time_text}
+use Rattle.quantity.specs.ValueTexts.{text5}
+use Rattle.model_tree.specs.declared.table.Model.{Model}
+use Rattle.model_tree.specs.Tree.{Word, Leaf, atomic_leaf, cell_leaf, leaves, leaf_count}
+use Rattle.model_tree.specs.LeafTexts.{leaf_text}
+use Rattle.model_tree.specs.Models.{tree_of}
+use Rattle.model_tree.specs.Leaves.{Settings, IsLeafOf, Appends, no_settings}
+use Rattle.model_tree.proofs.Read.{rows-length, leaves-length}
+use Rattle.text_forms.specs.LogLine as log
+use Rattle.text_forms.specs.LogLine.{given, moved, state_text, next_text, with_strokes}
+use Rattle.text_forms.specs.Lines.{ended, leaf_name}
+use Rattle.record_text.specs.RecordTexts.{head_text, text_at}
+
+-- ---- a leaf of the model, whatever the settings
+
+at : (ls : List Leaf) (k : ℕ) → k < length ls → (l : Leaf) × (slice_get ls k ≡ Some l)
+at [] k h = absurd (omega arith)
+at (l ∷ ls) zero h = (l, refl)
+at (l ∷ ls) (suc k) h = at ls k (omega arith)
+
+leaf_of : (m : Model) (leaf : ℕ) (settings : Settings) → IsLeafOf m leaf → (l : Leaf) × (slice_get (leaves (tree_of m settings)) leaf ≡ Some l)
+leaf_of m leaf settings h =
+    at (leaves (tree_of m settings)) leaf (omega (arith, h, rows-length m no_settings, rows-length m settings, leaves-length (tree_of m settings) 0))
+
+-- what was appended for a leaf is what is written of it
+pub appended_at : (m : Model) (leaf : ℕ) (settings : Settings) (text : Leaf → Bytes) (old new : Bytes) → IsLeafOf m leaf → Appends m leaf text old new → new ≡ old ++ text_at text (slice_get (leaves (tree_of m settings)) leaf)
+appended_at m leaf settings text old new h a =
+    let l = leaf_of m leaf settings h in a settings l.0 l.1 ∙ ap (λ o. old ++ text_at text o) (sym l.1)
+
+-- what was appended for a leaf leaves what was there
+pub appended_keeps : (m : Model) (leaf : ℕ) (text : Leaf → Bytes) (old new : Bytes) → IsLeafOf m leaf → Appends m leaf text old new → take (length old) new ≡ old
+appended_keeps m leaf text old new h a =
+    let l = leaf_of m leaf no_settings h in ap (take (length old)) (a no_settings l.0 l.1) ∙ take-append_seam old (text l.0)
+
+shorter : (a b : Bytes) → take (length a) b ≡ a → length a ≤ length b
+shorter a b h = let n = ap length h in let m = length-take (length a) b in omega (arith, n, m)
+
+-- what is kept twice is kept
+pub kept_on : (a b c : Bytes) → take (length a) b ≡ a → take (length b) c ≡ b → take (length a) c ≡ a
+kept_on a b c h k = sym (take-take (length a) (length b) c (shorter a b h)) ∙ ap (take (length a)) k ∙ h
+
+-- what is appended leaves what was there
+pub append_keeps : (a b more : Bytes) → b ≡ a ++ more → take (length a) b ≡ a
+append_keeps a b more h = ap (take (length a)) h ∙ take-append_seam a more
+
+-- ---- the pieces of a line
+
+head_joined : (old a b c d e : Bytes) → ((((old ++ a) ++ b) ++ c) ++ d) ++ e ≡ old ++ (a ++ b ++ c ++ d ++ e)
+head_joined old a b c d e = simp append_assoc
+
+pub head_made : (old : Bytes) (letter t : ℕ) (l : Leaf) (new1 new2 new3 new4 new5 : Bytes) → new1 ≡ old ++ letter ∷ codes " / " → new2 ≡ new1 ++ time_text t → new3 ≡ new2 ++ codes " / " → new4 ≡ new3 ++ leaf_text l → new5 ≡ new4 ++ codes " / " → new5 ≡ old ++ head_text letter t l
+head_made old letter t l new1 new2 new3 new4 new5 a b c d e =
+    e ∙ ap (λ x. x ++ codes " / ") (d ∙ ap (λ x. x ++ leaf_text l) (c ∙ ap (λ x. x ++ codes " / ") (b ∙ ap (λ x. x ++ time_text t) a)))
+    ∙ head_joined old (letter ∷ codes " / ") (time_text t) (codes " / ") (leaf_text l) (codes " / ")
+
+given_parts : (old : Bytes) (letter : ℕ) (t l p v : Bytes) → ((old ++ ((letter ∷ codes " / ") ++ t ++ codes " / " ++ l ++ codes " / ")) ++ p) ++ (codes " / " ++ v ++ codes "\n") ≡ old ++ ended (join_with_byte 32 (with_strokes ((letter ∷ []) ∷ t ∷ l ∷ p ∷ v ∷ [])))
+given_parts old letter t l p v = simp append_assoc
+
+moved_parts : (old t l s n : Bytes) → ((((old ++ ((83 ∷ codes " / ") ++ t ++ codes " / " ++ l ++ codes " / ")) ++ s) ++ codes " / ") ++ n) ++ codes "\n" ≡ old ++ ended (join_with_byte 32 (with_strokes (codes "S" ∷ t ∷ l ∷ s ∷ n ∷ [])))
+moved_parts old t l s n = simp append_assoc
+
+pub out_joined : (old t p v : Bytes) → (((((old ++ t) ++ codes " ") ++ p) ++ codes " ") ++ v) ++ codes "\n" ≡ old ++ ended (join_with_byte 32 (t ∷ p ∷ v ∷ []))
+out_joined old t p v = simp append_assoc
+
+same_name : (l : Leaf) → log.leaf_text (leaf_name l) ≡ leaf_text l
+same_name (atomic_leaf name class settings) = append-nil name
+same_name (cell_leaf g first cell) = refl
+
+pub given_joined : (old : Bytes) (letter t : ℕ) (l : Leaf) (port : Bytes) (v : Value) (new1 new2 new3 : Bytes) → new1 ≡ old ++ head_text letter t l → new2 ≡ new1 ++ port → new3 ≡ new2 ++ (codes " / " ++ text5 v ++ codes "\n") → new3 ≡ old ++ ended (log.line_text (given letter t (leaf_name l) port v))
+given_joined old letter t l port v new1 new2 new3 a b c =
+    c ∙ ap (λ x. x ++ (codes " / " ++ text5 v ++ codes "\n")) (b ∙ ap (λ x. x ++ port) a) ∙ given_parts old letter (time_text t) (leaf_text l) port (text5 v)
+    ∙ ap (λ x. old ++ ended (join_with_byte 32 (with_strokes ((letter ∷ []) ∷ time_text t ∷ x ∷ port ∷ text5 v ∷ [])))) (sym (same_name l))
+
+pub moved_joined : (old : Bytes) (t : ℕ) (l : Leaf) (state : Option Value) (next : Option ℕ) (new1 new2 new3 new4 new5 : Bytes) → new1 ≡ old ++ head_text 83 t l → new2 ≡ new1 ++ state_text state → new3 ≡ new2 ++ codes " / " → new4 ≡ new3 ++ next_text next → new5 ≡ new4 ++ codes "\n" → new5 ≡ old ++ ended (log.line_text (moved t (leaf_name l) state next))
+moved_joined old t l state next new1 new2 new3 new4 new5 a b c d e =
+    e ∙ ap (λ x. x ++ codes "\n") (d ∙ ap (λ x. x ++ next_text next) (c ∙ ap (λ x. x ++ codes " / ") (b ∙ ap (λ x. x ++ state_text state) a)))
+    ∙ moved_parts old (time_text t) (leaf_text l) (state_text state) (next_text next)
+    ∙ ap (λ x. old ++ ended (join_with_byte 32 (with_strokes (codes "S" ∷ time_text t ∷ x ∷ state_text state ∷ next_text next ∷ [])))) (sym (same_name l))
+
+-- ---- texts of many leaves
+
+-- one more text behind those of the records before it
+pub texts_more : {A : Type 0} (f : A → Bytes) (start old new : Bytes) (rs : List A) (i : ℕ) (r : A) → i < length rs → r ≡ get_or rs i r → old ≡ start ++ flat_map f (take i rs) → new ≡ old ++ f r → new ≡ start ++ flat_map f (take (i + 1) rs)
+texts_more f start old new rs i r lt is a b =
+    b ∙ ap (λ x. x ++ f r) a ∙ flat_map_more f start (take i rs) r ∙ ap (λ x. start ++ flat_map f (take i rs ++ x ∷ [])) is ∙ ap (λ ys. start ++ flat_map f ys) (sym (take_more rs i r lt))

@@ -1,0 +1,18 @@
+use Rattle.std.proofs.Common.{slice_get, subst, sym}
+use Rattle.model_tree.specs.Tree.{leaves}
+use Rattle.model_tree.specs.Models.{tree_of}
+use Rattle.model_tree.specs.Leaves.{IsLeafOf}
+use Rattle.record_text.specs.declared.records.SRecord.{SRecord}
+use Rattle.record_text.specs.RecordTexts.{text_at, s_text}
+use Rattle.record_text.proofs.Appended.{appended_at, kept_on, texts_more}
+use Rattle.record_text.proofs.moved.put_moved.Goals as goal
+
+pub loop-moved-preserved : goal.loop-moved-preserved
+loop-moved-preserved c = record {
+  appended = λ settings.
+      texts_more (λ (r : SRecord). text_at (s_text r) (slice_get (leaves (tree_of c.args.model.now settings)) r.leaf))
+      c.args.into.now.items c.loop-moved.into.items c.put_moved_line.new.into.items c.args.records.now c.loop-moved.moved-index c.moved-item.result c.loop-moved-test.true c.moved-item.is
+      (c.loop-moved.invariant.appended settings)
+      (appended_at c.args.model.now c.moved-item.result.leaf settings (s_text c.moved-item.result) c.loop-moved.into.items c.put_moved_line.new.into.items (subst (λ (r : SRecord). IsLeafOf c.args.model.now r.leaf) (sym c.moved-item.is) (c.requires c.loop-moved.moved-index c.moved-item.result c.loop-moved-test.true)) c.in_ok-put_moved_line.ensures.ok);
+  kept = kept_on c.args.into.now.items c.loop-moved.into.items c.put_moved_line.new.into.items c.loop-moved.invariant.kept c.in_ok-put_moved_line.ensures.kept;
+}

@@ -1,0 +1,4 @@
+pub mod Held
+pub mod Chosen
+pub mod Named
+pub mod RecordTexts

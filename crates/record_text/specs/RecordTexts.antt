@@ -1,0 +1,62 @@
+-- The lines of records, as private clauses have them: of a leaf, and of a list of leaves.
+use Rattle.std.specs.Prelude.{ℕ, Bool, Option, Some, None, List, [], ◌∷◌, ◌++◌, slice_get, codes, if◌then◌else◌}
+use Rattle.std.specs.List.{flat_map}
+use Rattle.quantity.specs.Bytes.{Bytes}
+use Rattle.quantity.specs.Times.{time_text}
+use Rattle.quantity.specs.declared.value.Value.{Value}
+use Rattle.model_tree.specs.Tree.{Word, Leaf}
+use Rattle.model_tree.specs.LeafTexts.{leaf_text}
+use Rattle.text_forms.specs.LogLine.{given, moved, line_text}
+use Rattle.text_forms.specs.Lines as forms
+use Rattle.text_forms.specs.Lines.{ended, leaf_name, in_port_name, out_port_name}
+use Rattle.record_text.specs.declared.records.Letters.{Letters}
+use Rattle.record_text.specs.declared.records.YRecord.{YRecord}
+use Rattle.record_text.specs.declared.records.XRecord.{XRecord}
+use Rattle.record_text.specs.declared.records.SRecord.{SRecord}
+use Rattle.record_text.specs.declared.records.OutRecord.{OutRecord}
+use Rattle.record_text.specs.declared.records.Records.{Records}
+
+-- letter, time and leaf of a line
+abbrev pub head_text : ℕ → ℕ → Leaf → Bytes
+head_text letter time l = (letter ∷ codes " / ") ++ time_text time ++ codes " / " ++ leaf_text l ++ codes " / "
+
+-- the line of a value given at an output port
+abbrev pub y_text : ℕ → YRecord → Leaf → Bytes
+y_text letter r l = ended (line_text (given letter r.time (leaf_name l) (out_port_name l r.port.0) r.value))
+
+-- the line of a value that reached an input port
+abbrev pub x_text : XRecord → Leaf → Bytes
+x_text r l = ended (line_text (given 88 r.time (leaf_name l) (in_port_name l r.port.0) r.value))
+
+-- the line of a leaf that moved
+abbrev pub s_text : SRecord → Leaf → Bytes
+s_text r l = ended (line_text (moved r.time (leaf_name l) r.value r.next))
+
+-- the text of a leaf, where there is one
+abbrev pub text_at : (Leaf → Bytes) → Option Leaf → Bytes
+text_at text None = []
+text_at text (Some l) = text l
+
+-- the lines of records
+abbrev pub y_texts : ℕ → List Leaf → List YRecord → Bytes
+y_texts letter ls rs = flat_map (λ (r : YRecord). text_at (y_text letter r) (slice_get ls r.leaf)) rs
+
+abbrev pub x_texts : List Leaf → List XRecord → Bytes
+x_texts ls rs = flat_map (λ (r : XRecord). text_at (x_text r) (slice_get ls r.leaf)) rs
+
+abbrev pub s_texts : List Leaf → List SRecord → Bytes
+s_texts ls rs = flat_map (λ (r : SRecord). text_at (s_text r) (slice_get ls r.leaf)) rs
+
+-- all of a list, or nothing
+abbrev pub all_if : {A : Type 0} → Bool → List A → List A
+all_if chosen xs = if chosen then xs else []
+
+-- the lines of the chosen letters
+abbrev pub log_text : List Leaf → Letters → Records → Bytes
+log_text ls letters r =
+    y_texts 89 ls (all_if letters.y r.y.items) ++ y_texts 78 ls (all_if letters.n r.n.items)
+    ++ x_texts ls (all_if letters.x r.x.items) ++ s_texts ls (all_if letters.s r.s.items)
+
+-- the lines of outputs of top
+abbrev pub out_texts : List Word → List OutRecord → Bytes
+out_texts outs rs = flat_map (λ (r : OutRecord). forms.out_line outs r.time (record { port = r.port; value = r.value })) rs

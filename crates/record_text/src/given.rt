@@ -1,0 +1,112 @@
+// The lines of values that leaves gave and that reached leaves. A refusal may leave more behind what was there.
+ghost use Rattle.std.specs.Prelude.{◌≡◌, ◌++◌, length, take, OnOk};
+ghost use Rattle.std.specs.List.{All};
+ghost use Rattle.model_tree.specs.Tree.{leaves};
+ghost use Rattle.model_tree.specs.LeafTexts.{in_ports, name_at, out_ports};
+ghost use Rattle.model_tree.specs.Leaves.{Appends, OfTree};
+ghost use Rattle.record_text.specs.declared.records.YRecord as y;
+ghost use Rattle.record_text.specs.declared.records.XRecord as x;
+ghost use Rattle.record_text.specs.Named.{HasPort};
+ghost use Rattle.record_text.specs.RecordTexts.{x_text, x_texts, y_text, y_texts};
+
+use crate::pieces::{put_head, put_value};
+use crate::records::{XRecord, YRecord};
+use atomic_face::PortNo;
+use model_tree::Model;
+use quantity::OutOfMemory;
+
+/// Appends the lines of values that were given.
+pub(crate) fn put_given(
+    records: &[YRecord],
+    letter: u8,
+    model: &Model,
+    into: &mut Vec<u8>,
+) -> Result<(), OutOfMemory>
+    requires { All (λ (r : y.YRecord). HasPort model.now out_ports r.leaf r.port.0) records.now }
+    ensures ok { OnOk result (OfTree model.now (λ tree.
+        into.new.items ≡ into.old.items ++ y_texts letter (leaves tree) records.now)) }
+    ensures kept { take (length into.old.items) into.new.items ≡ into.old.items }
+{
+    for given in records {
+        put_given_line(given, letter, model, into)?;
+    }
+    Ok(())
+}
+
+fn put_given_line(
+    given: &YRecord,
+    letter: u8,
+    model: &Model,
+    into: &mut Vec<u8>,
+) -> Result<(), OutOfMemory>
+    requires { HasPort model.now out_ports given.now.leaf given.now.port.0 }
+    ensures ok { OnOk result
+        (Appends model.now given.now.leaf (y_text letter given.now) into.old.items into.new.items) }
+    ensures kept { take (length into.old.items) into.new.items ≡ into.old.items }
+{
+    put_head(letter, given.time, given.leaf, model, into)?;
+    put_out_port(given.leaf, given.port, model, into)?;
+    put_value(given.value, into)?;
+    Ok(())
+}
+
+/// Appends the name of a leaf's output port.
+fn put_out_port(
+    leaf: u32,
+    port: PortNo,
+    model: &Model,
+    into: &mut Vec<u8>,
+) -> Result<(), OutOfMemory>
+    requires { HasPort model.now out_ports leaf port.0 }
+    ensures ok { OnOk result (Appends model.now leaf (λ l. name_at (out_ports l) port.0)
+        into.old.items into.new.items) }
+    ensures kept { take (length into.old.items) into.new.items ≡ into.old.items }
+{
+    model.out_port_text(leaf, port, into)?;
+    Ok(())
+}
+
+/// Appends the lines of values that reached leaves.
+pub(crate) fn put_reached(
+    records: &[XRecord],
+    model: &Model,
+    into: &mut Vec<u8>,
+) -> Result<(), OutOfMemory>
+    requires { All (λ (r : x.XRecord). HasPort model.now in_ports r.leaf r.port.0) records.now }
+    ensures ok { OnOk result (OfTree model.now (λ tree.
+        into.new.items ≡ into.old.items ++ x_texts (leaves tree) records.now)) }
+    ensures kept { take (length into.old.items) into.new.items ≡ into.old.items }
+{
+    for reached in records {
+        put_reached_line(reached, model, into)?;
+    }
+    Ok(())
+}
+
+fn put_reached_line(reached: &XRecord, model: &Model, into: &mut Vec<u8>) -> Result<(), OutOfMemory>
+    requires { HasPort model.now in_ports reached.now.leaf reached.now.port.0 }
+    ensures ok { OnOk result
+        (Appends model.now reached.now.leaf (x_text reached.now) into.old.items into.new.items) }
+    ensures kept { take (length into.old.items) into.new.items ≡ into.old.items }
+{
+    put_head(b'X', reached.time, reached.leaf, model, into)?;
+    put_in_port(reached.leaf, reached.port, model, into)?;
+    put_value(reached.value, into)?;
+    Ok(())
+}
+
+/// Appends the name of a leaf's input port.
+fn put_in_port(
+    leaf: u32,
+    port: PortNo,
+    model: &Model,
+    into: &mut Vec<u8>,
+) -> Result<(), OutOfMemory>
+    requires { HasPort model.now in_ports leaf port.0 }
+    ensures ok { OnOk result (Appends model.now leaf (λ l. name_at (in_ports l) port.0)
+        into.old.items into.new.items) }
+    ensures kept { take (length into.old.items) into.new.items ≡ into.old.items }
+{
+    model.port_text(leaf, port, into)?;
+    Ok(())
+}

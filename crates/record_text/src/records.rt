@@ -1,0 +1,76 @@
+// The records of a cycle.
+use atomic_face::PortNo;
+use quantity::{Time, Value};
+use std::alloc::Global;
+
+/// The letters of the log's lines that are written.
+#[derive(Clone, Copy, PartialEq, Eq, Debug)]
+pub struct Letters {
+    pub y: bool,
+    pub n: bool,
+    pub x: bool,
+    pub s: bool,
+}
+
+/// A value that a leaf gave: at its port `out`, or at a further port.
+#[derive(Clone, Copy, PartialEq, Eq, Debug)]
+pub struct YRecord {
+    pub time: Time,
+    pub leaf: u32,
+    pub port: PortNo,
+    pub value: Value,
+}
+
+/// A value that reached an input port of a leaf.
+#[derive(Clone, Copy, PartialEq, Eq, Debug)]
+pub struct XRecord {
+    pub time: Time,
+    pub leaf: u32,
+    pub port: PortNo,
+    pub value: Value,
+}
+
+/// A leaf that moved: its computed value, where it is a cell, and its next time, where it has one.
+#[derive(Clone, Copy, PartialEq, Eq, Debug)]
+pub struct SRecord {
+    pub time: Time,
+    pub leaf: u32,
+    pub value: Option<Value>,
+    pub next: Option<Time>,
+}
+
+/// A value at an output of top.
+#[derive(Clone, Copy, PartialEq, Eq, Debug)]
+pub struct OutRecord {
+    pub time: Time,
+    pub port: u16,
+    pub value: Value,
+}
+
+/// The records of one cycle: values given at ports `out` and at further ports, values that reached a leaf,
+/// leaves that moved, and values at outputs of top. A caller keeps them, so that their room is used again.
+#[derive(Drop)]
+pub struct Records {
+    pub y: Vec<YRecord>,
+    pub n: Vec<YRecord>,
+    pub x: Vec<XRecord>,
+    pub s: Vec<SRecord>,
+    pub out: Vec<OutRecord>,
+}
+
+impl Records {
+    ghost use Rattle.record_text.specs.Held.{AreEmpty};
+
+    /// No records.
+    pub fn none(alloc: Global) -> Records
+        ensures { AreEmpty result }
+    {
+        Records {
+            y: Vec::new(alloc),
+            n: Vec::new(alloc),
+            x: Vec::new(alloc),
+            s: Vec::new(alloc),
+            out: Vec::new(alloc),
+        }
+    }
+}

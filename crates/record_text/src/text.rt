@@ -1,0 +1,92 @@
+// The texts of a cycle's records.
+ghost use Rattle.std.specs.Prelude.{◌≡◌, ◌∷◌, [], ◌++◌, length, take, OnOk, OnErr};
+ghost use Rattle.run_model.specs.Run.{Cycle};
+ghost use Rattle.model_tree.specs.Tree.{leaves};
+ghost use Rattle.model_tree.specs.Leaves.{OfTree};
+ghost use Rattle.text_forms.specs.Lines as forms;
+ghost use Rattle.record_text.specs.Held.{Holds};
+ghost use Rattle.record_text.specs.Chosen.{letters_of};
+ghost use Rattle.record_text.specs.Named.{NamesLeaves};
+ghost use Rattle.record_text.specs.RecordTexts.{all_if, log_text, out_texts};
+
+use crate::given::{put_given, put_reached};
+use crate::moved::put_moved;
+use crate::output::put_outputs;
+use crate::records::{Letters, Records};
+use model_tree::Model;
+use quantity::OutOfMemory;
+
+/// Appends the lines of the chosen letters: Y, then N, X and S. The records are those of one cycle, and
+/// name leaves and ports of the model. Where memory is refused, `into` stays as it was.
+pub fn log_bytes(
+    records: &Records,
+    letters: &Letters,
+    model: &Model,
+    into: &mut Vec<u8>,
+) -> Result<(), OutOfMemory>
+    requires { NamesLeaves model.now records.now }
+    // For the cycle whose records these are.
+    ensures ok { OnOk result ((c : Cycle) → Holds records.now c → OfTree model.now (λ tree.
+        into.new.items ≡ into.old.items ++ forms.log_bytes tree (letters_of letters.now) (c ∷ []))) }
+    ensures err { OnErr result (into.new.items ≡ into.old.items) }
+{
+    let before = into.len();
+    let done = put_lines(records, letters, model, into);
+    if done.is_err() {
+        into.truncate(before);
+    }
+    done
+}
+
+/// Appends the lines of the chosen letters. A refusal may leave more behind what was there.
+fn put_lines(
+    records: &Records,
+    letters: &Letters,
+    model: &Model,
+    into: &mut Vec<u8>,
+) -> Result<(), OutOfMemory>
+    requires { NamesLeaves model.now records.now }
+    ensures ok { OnOk result (OfTree model.now (λ tree.
+        into.new.items ≡ into.old.items ++ log_text (leaves tree) letters.now records.now)) }
+    ensures kept { take (length into.old.items) into.new.items ≡ into.old.items }
+{
+    put_given(chosen(letters.y, &records.y), b'Y', model, into)?;
+    put_given(chosen(letters.n, &records.n), b'N', model, into)?;
+    put_reached(chosen(letters.x, &records.x), model, into)?;
+    put_moved(chosen(letters.s, &records.s), model, into)?;
+    Ok(())
+}
+
+/// All records, or none.
+fn chosen<T>(is_chosen: bool, records: &[T]) -> &[T]
+    ensures { result.now ≡ all_if is_chosen records.now }
+{
+    if is_chosen { records } else { &[] }
+}
+
+/// Appends the lines of the outputs of top. The records are those of one cycle. Where memory is refused,
+/// `into` stays as it was.
+pub fn out_bytes(records: &Records, model: &Model, into: &mut Vec<u8>) -> Result<(), OutOfMemory>
+    // For the cycle whose records these are.
+    ensures ok { OnOk result ((c : Cycle) → Holds records.now c → OfTree model.now (λ tree.
+        into.new.items ≡ into.old.items ++ forms.out_bytes tree (c ∷ []))) }
+    ensures err { OnErr result (into.new.items ≡ into.old.items) }
+{
+    let before = into.len();
+    let done = put_outputs_of(records, model, into);
+    if done.is_err() {
+        into.truncate(before);
+    }
+    done
+}
+
+/// Appends the lines of the outputs of top. A refusal may leave more behind what was there.
+fn put_outputs_of(records: &Records, model: &Model, into: &mut Vec<u8>) -> Result<(), OutOfMemory>
+    ensures ok { let names = model.now.top.outs.items in
+        OnOk result (into.new.items ≡ into.old.items ++ out_texts names records.now.out.items) }
+    ensures kept { take (length into.old.items) into.new.items ≡ into.old.items }
+{
+    let top = model.top();
+    put_outputs(&records.out, &top.outs, into)?;
+    Ok(())
+}
