@@ -1,0 +1,9 @@
+use Rattle.std.proofs.Common.{◌≡◌, ◌++◌, length, take}
+use Rattle.frame_draw.specs.Pictures.{cells_text}
+use Rattle.frame_draw.proofs.rows.put_cells.Given as goal
+
+abbrev pub invariant-loop-column : goal.invariant-loop-column
+invariant-loop-column l = record {
+  appended : l.into.items ≡ l.fn.into.items ++ cells_text l.plane l.values l.row l.column;
+  kept : take (length l.fn.into.items) l.into.items ≡ l.fn.into.items;
+}

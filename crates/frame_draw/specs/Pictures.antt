@@ -1,0 +1,36 @@
+-- What private clauses say of the plane that is drawn.
+use Rattle.std.specs.Prelude.{◌≡◌, ℕ, List, ◌++◌, length, codes}
+use Rattle.std.specs.List.{flat_map, range_with_len}
+use Rattle.quantity.specs.Bytes.{Bytes}
+use Rattle.quantity.specs.Times.{time_text}
+use Rattle.quantity.specs.ValueTexts.{value_text}
+use Rattle.quantity.specs.declared.value.Value.{Value}
+use Rattle.cell_grid.specs.Space.{cell_count, number_of}
+use Rattle.text_forms.specs.Lines.{ended}
+use Rattle.text_forms.specs.Frames.{Picture, row_text}
+use Rattle.frame_draw.specs.declared.plane.Plane.{Plane}
+use Rattle.frame_draw.specs.Drawing.{CanDraw, value_of}
+
+abbrev pub picture_of : Plane → Picture
+picture_of p = record { space = p.grid; plane = p.plane; width = p.width; decimals = p.decimals }
+
+-- the plane can be drawn, and each cell has a value
+pub record IsPicture (p : Plane) (values : List Value) : Type 0 where
+  pub can_draw : CanDraw p.grid p.plane p.width p.decimals
+  pub all : length values ≡ cell_count p.grid
+
+-- the first line of a frame
+abbrev pub time_line : ℕ → Bytes
+time_line t = ended (codes "Time: " ++ time_text t)
+
+-- the value of a cell of the plane
+abbrev pub cell_text : Plane → List Value → ℕ → ℕ → Bytes
+cell_text p values row column = value_text p.decimals p.width (value_of values (number_of p.grid row column p.plane))
+
+-- the first cells of a row
+abbrev pub cells_text : Plane → List Value → ℕ → ℕ → Bytes
+cells_text p values row n = flat_map (cell_text p values row) (range_with_len 0 n)
+
+-- the first rows
+abbrev pub rows_text : Plane → List Value → ℕ → Bytes
+rows_text p values n = flat_map (row_text (picture_of p) (value_of values)) (range_with_len 0 n)

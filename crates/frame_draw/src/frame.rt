@@ -1,0 +1,70 @@
+// The text of one frame. A refusal may leave more behind what was there.
+ghost use Rattle.std.specs.Prelude.{◌≡◌, ◌*◌, ◌++◌, length, take, replicate, OnOk};
+ghost use Rattle.text_forms.specs.Frames.{edge, frame_text};
+ghost use Rattle.frame_draw.specs.Drawing.{value_of};
+ghost use Rattle.frame_draw.specs.Pictures.{picture_of, time_line, IsPicture};
+
+use crate::plane::Plane;
+use crate::rows::put_rows;
+use quantity::{OutOfMemory, Time, Value};
+
+/// Appends the frame of an instant.
+pub(crate) fn put_frame(
+    plane: &Plane,
+    values: &[Value],
+    at: Time,
+    into: &mut Vec<u8>,
+) -> Result<(), OutOfMemory>
+    requires { IsPicture plane.now values.now }
+    ensures ok { OnOk result (into.new.items ≡
+        into.old.items ++ frame_text (picture_of plane.now) at (value_of values.now)) }
+    ensures kept { take (length into.old.items) into.new.items ≡ into.old.items }
+{
+    put_time(at, into)?;
+    put_edge(plane, into)?;
+    put_rows(plane, values, into)?;
+    put_edge(plane, into)?;
+    put(b"\n", into)?;
+    Ok(())
+}
+
+fn put_time(at: Time, into: &mut Vec<u8>) -> Result<(), OutOfMemory>
+    ensures ok { OnOk result (into.new.items ≡ into.old.items ++ time_line at) }
+    ensures kept { take (length into.old.items) into.new.items ≡ into.old.items }
+{
+    put(b"Time: ", into)?;
+    at.text(into)?;
+    put(b"\n", into)?;
+    Ok(())
+}
+
+/// Appends the line above and below the rows.
+fn put_edge(plane: &Plane, into: &mut Vec<u8>) -> Result<(), OutOfMemory>
+    ensures ok { OnOk result (into.new.items ≡ into.old.items ++ edge (picture_of plane.now)) }
+    ensures kept { take (length into.old.items) into.new.items ≡ into.old.items }
+{
+    let columns = plane.grid.columns() as usize;
+    put(b"+", into)?;
+    put_dashes(usize::from(plane.width) * columns, into)?;
+    put(b"+\n", into)?;
+    Ok(())
+}
+
+fn put_dashes(count: usize, into: &mut Vec<u8>) -> Result<(), OutOfMemory>
+    ensures ok { OnOk result (into.new.items ≡ into.old.items ++ replicate count 45) }
+    ensures kept { take (length into.old.items) into.new.items ≡ into.old.items }
+{
+    for _dash in 0..count {
+        put(b"-", into)?;
+    }
+    Ok(())
+}
+
+/// Appends a text.
+pub(crate) fn put(text: &[u8], into: &mut Vec<u8>) -> Result<(), OutOfMemory>
+    ensures ok { OnOk result (into.new.items ≡ into.old.items ++ text.now) }
+    ensures kept { take (length into.old.items) into.new.items ≡ into.old.items }
+{
+    into.extend_from_slice(text)?;
+    Ok(())
+}
