@@ -1,2 +1,5 @@
 pub mod Cycles
 pub mod Appended
+pub mod StrictLemmas
+pub mod StrictLeaves
+pub mod StrictLines

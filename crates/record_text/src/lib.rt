@@ -1,12 +1,17 @@
-//! The texts of a run's records: its log and its output.
+//! The texts of a run's records: its log and its output, and log lines read back.
 #![tactic(auto)]
 
 mod given;
+pub mod leaf_name;
+pub mod line;
 mod moved;
 mod output;
+mod parts;
 mod pieces;
 pub mod records;
 mod text;
 
+pub use leaf_name::LeafName;
+pub use line::{LogLine, read_line};
 pub use records::{Letters, OutRecord, Records, SRecord, XRecord, YRecord};
 pub use text::{log_bytes, out_bytes};

@@ -1,0 +1,182 @@
+// A log line read back.
+ghost use Rattle.std.specs.Prelude.{◌≡◌};
+ghost use Rattle.std.specs.Option.{option_map};
+ghost use Rattle.text_forms.specs.LogLine as forms;
+ghost use Rattle.record_text.specs.LeafRead.{name_of};
+ghost use Rattle.record_text.specs.LineRead.{line_of};
+ghost use Rattle.record_text.specs.PartsRead.{parts_of};
+ghost use Rattle.record_text.specs.Strict as strict;
+
+use crate::leaf_name::{LeafName, has_place, read_leaf};
+use crate::parts::{Parts, cut_parts};
+use quantity::name::is_name;
+use quantity::{Time, Value};
+
+/// A line of a log: a value given at the port `out` or at a further port, a value that reached a leaf,
+/// or a leaf that moved.
+#[derive(Clone, Copy)]
+pub enum LogLine<'a> {
+    Y {
+        time: Time,
+        leaf: LeafName<'a>,
+        port: &'a [u8],
+        value: Value,
+    },
+    N {
+        time: Time,
+        leaf: LeafName<'a>,
+        port: &'a [u8],
+        value: Value,
+    },
+    X {
+        time: Time,
+        leaf: LeafName<'a>,
+        port: &'a [u8],
+        value: Value,
+    },
+    S {
+        time: Time,
+        leaf: LeafName<'a>,
+        value: Option<Value>,
+        next: Option<Time>,
+    },
+}
+
+/// The line that a text, without its line end, is; None exactly where it is off the form of a log's
+/// lines. It takes no memory.
+pub fn read_line(text: &[u8]) -> Option<LogLine<'_>>
+    ensures { option_map line_of result ≡ forms.read_line text.now }
+{
+    strict_line(text)
+}
+
+/// The same, as it is read from left to right.
+fn strict_line(text: &[u8]) -> Option<LogLine<'_>>
+    ensures { option_map line_of result ≡ strict.strict_line text.now }
+{
+    let parts = cut_parts(text)?;
+    line_by(&parts)
+}
+
+/// The line of these parts, by its letter.
+fn line_by<'a>(parts: &Parts<'a>) -> Option<LogLine<'a>>
+    ensures { option_map line_of result ≡ strict.line_by parts.now.letter.now (parts_of parts.now) }
+{
+    match parts.letter {
+        [letter] => one_letter(*letter, parts),
+        _ => None,
+    }
+}
+
+fn one_letter<'a>(letter: u8, parts: &Parts<'a>) -> Option<LogLine<'a>>
+    ensures { option_map line_of result ≡ strict.one_letter letter (parts_of parts.now) }
+{
+    if letter == b'S' {
+        moved_line(parts)
+    } else {
+        given_line(letter, parts)
+    }
+}
+
+fn given_line<'a>(letter: u8, parts: &Parts<'a>) -> Option<LogLine<'a>>
+    ensures { option_map line_of result ≡ strict.given_line letter (parts_of parts.now) }
+{
+    let time = Time::read_text(parts.time)?;
+    let leaf = read_leaf(parts.leaf)?;
+    let value = Value::read_text5(parts.second)?;
+    if is_name(parts.first) {
+        given(letter, time, &leaf, parts.first, value)
+    } else {
+        None
+    }
+}
+
+fn given<'a>(
+    letter: u8,
+    time: Time,
+    leaf: &LeafName<'a>,
+    port: &'a [u8],
+    value: Value,
+) -> Option<LogLine<'a>>
+    ensures { option_map line_of result ≡ strict.given_as letter time (name_of leaf.now) port.now value }
+{
+    let leaf_here = *leaf;
+    match letter {
+        b'Y' => Some(LogLine::Y {
+            time,
+            leaf: leaf_here,
+            port,
+            value,
+        }),
+        b'X' => Some(LogLine::X {
+            time,
+            leaf: leaf_here,
+            port,
+            value,
+        }),
+        b'N' => {
+            if has_place(leaf) {
+                Some(LogLine::N {
+                    time,
+                    leaf: leaf_here,
+                    port,
+                    value,
+                })
+            } else {
+                None
+            }
+        }
+        _ => None,
+    }
+}
+
+fn moved_line<'a>(parts: &Parts<'a>) -> Option<LogLine<'a>>
+    ensures { option_map line_of result ≡ strict.moved_line (parts_of parts.now) }
+{
+    let time = Time::read_text(parts.time)?;
+    let leaf = read_leaf(parts.leaf)?;
+    let value = read_state(parts.first)?;
+    let next = read_next(parts.second)?;
+    if agrees(&leaf, &value) {
+        Some(LogLine::S {
+            time,
+            leaf,
+            value,
+            next,
+        })
+    } else {
+        None
+    }
+}
+
+/// A cell has a value, and an atomic component none.
+fn agrees(leaf: &LeafName<'_>, value: &Option<Value>) -> bool
+    ensures { result ≡ strict.agrees (name_of leaf.now) value.now }
+{
+    match value {
+        None => !has_place(leaf),
+        Some(_) => has_place(leaf),
+    }
+}
+
+/// A value, or `-` for none.
+fn read_state(text: &[u8]) -> Option<Option<Value>>
+    ensures { result ≡ strict.read_state text.now }
+{
+    if text == b"-".as_slice() {
+        return Some(None);
+    }
+    let value = Value::read_text5(text)?;
+    Some(Some(value))
+}
+
+/// A time, or `...` for none.
+fn read_next(text: &[u8]) -> Option<Option<Time>>
+    ensures { result ≡ strict.read_next text.now }
+{
+    if text == b"...".as_slice() {
+        return Some(None);
+    }
+    let time = Time::read_text(text)?;
+    Some(Some(time))
+}
