@@ -2,3 +2,4 @@ pub mod Stood
 pub mod Spans
 pub mod Totals
 pub mod Reading
+pub mod Steps

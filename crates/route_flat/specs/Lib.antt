@@ -2,3 +2,5 @@ pub mod Nodes
 pub mod Nets
 pub mod Counts
 pub mod Lists
+pub mod Ways
+pub mod BySource

@@ -1,13 +1,18 @@
 // Routes: what reaches each port, worked out once.
 #![tactic(auto)]
 
+mod by_source;
 mod counts;
 mod follow;
 mod lists;
 pub mod net;
+mod port_lists;
+pub mod refusal;
 pub mod routes;
 pub mod source;
+mod ways;
 
 pub use net::{Net, Node, net_of};
-pub use routes::{RouteRefusal, Routes};
-pub use source::{Path, Source, Span, TargetPort};
+pub use refusal::RouteRefusal;
+pub use routes::Routes;
+pub use source::{Path, Source, Span, Target, TargetPort, Way};

@@ -47,7 +47,7 @@ fn list(
 }
 
 /// A number of things, which refuses as if there were no memory for more.
-fn counted(number: usize) -> Result<u32, OutOfMemory>
+pub(crate) fn counted(number: usize) -> Result<u32, OutOfMemory>
     ensures { IfOk result (λ n. n ≡ number) }
 {
     u32::try_from(number).map_err(|_| OutOfMemory)

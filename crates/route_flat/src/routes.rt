@@ -1,63 +1,45 @@
-// What reaches each port.
-ghost use Rattle.std.specs.Prelude.{◌≡◌, ◌+◌, ◌<◌, ◌≤◌, IfOk, length};
+// What reaches each port, and where each source leads.
+ghost use Rattle.std.specs.Prelude.{◌≡◌, ◌<◌, ◌≤◌, IfOk, length};
 ghost use Rattle.std.specs.List.{HoldsAt};
 ghost use Rattle.model_tree.specs.Leaves.{OfTree};
 ghost use Rattle.model_tree.specs.Sound.{path_count};
-ghost use Rattle.route_flat.specs.Nodes.{part_at};
 ghost use Rattle.route_flat.specs.Nets.{IsParted, RoutesOf, flat_of_net, paths_in};
+ghost use Rattle.route_flat.specs.Ways.{paths_of, ways_of, targets_among};
 
-use crate::counts::{counts, sum_of};
-use crate::lists::lists;
+use crate::by_source::BySource;
 use crate::net::{Net, net_of};
-use crate::source::{Source, Span};
+use crate::port_lists::PortLists;
+use crate::refusal::RouteRefusal;
+use crate::source::{Path, Source, Target, Way};
+use crate::ways::{by_source, ways};
 use atomic_face::PortNo;
 use model_tree::Model;
-use quantity::OutOfMemory;
 use std::alloc::Global;
-
-/// Why there are no routes.
-#[derive(Clone, Copy, PartialEq, Eq, Debug)]
-pub enum RouteRefusal {
-    /// There are more than 65536 paths along links.
-    TooManyRoutes,
-    /// There is no memory.
-    Memory,
-}
-
-impl From<OutOfMemory> for RouteRefusal {
-    ghost use Rattle.route_flat.specs.declared.routes.RouteRefusal.TheVariants.{Memory};
-
-    ghost from_gives = { λ _ refusal. refusal ≡ Memory };
-
-    fn from(_error: OutOfMemory) -> RouteRefusal {
-        RouteRefusal::Memory
-    }
-}
 
 /// The sources at each port of each leaf and at each output of top. Seen as these lists.
 #[derive(Drop)]
 pub struct Routes {
-    /// The ports of each leaf.
-    leaves: Vec<Span>,
-    /// The paths to each port of a leaf.
-    ports: Vec<Span>,
-    /// The paths to each output of top.
-    outputs: Vec<Span>,
-    /// The source of each path, by its number: by leaf, port and place, and then by outputs of top.
-    paths: Vec<Source>,
+    lists: PortLists,
+    /// The paths by their numbers.
+    ways: Vec<Way>,
+    /// The targets of each source.
+    targets: BySource,
 }
 
 impl std::marker::Model for Routes {
-    ghost use Rattle.route_flat.specs.Nets.{Flat, AreWithin, flat_of_spans};
+    ghost use Rattle.std.specs.Prelude.{◌≡◌};
+    ghost use Rattle.route_flat.specs.declared.source.Source.{Source as AnySource};
+    ghost use Rattle.route_flat.specs.Nets.{Flat};
+    ghost use Rattle.route_flat.specs.Ways.{ways_of, targets_among};
+    ghost use Rattle.route_flat.specs.BySource.{list_from};
 
     ghost Value = { Flat };
 
-    ghost view = { λ r. flat_of_spans r.leaves.items r.ports.items r.outputs.items r.paths.items };
+    ghost view = { λ r. r.lists };
 
     ghost invariant = { λ r. record {
-      leaves : AreWithin r.ports.items r.leaves.items;
-      ports : AreWithin r.paths.items r.ports.items;
-      outputs : AreWithin r.paths.items r.outputs.items;
+      ways : r.ways.items ≡ ways_of r.lists;
+      targets : (from : AnySource) → list_from r.targets from ≡ targets_among r.ways.items from;
     } };
 }
 
@@ -82,20 +64,13 @@ impl Routes {
         ensures few { IfOk result (λ r. paths_in (flat_of_net net) ≤ 65536) }
         ensures many { result ≡ Err RouteRefusal.TooManyRoutes → 65536 < paths_in (flat_of_net net) }
     {
-        let counts = counts(alloc, &net.nodes)?;
-        let to_ports = sum_of(&net.ports, &counts);
-        let to_outputs = sum_of(&net.outputs, &counts);
-        if to_ports + to_outputs > 65536 {
-            return Err(RouteRefusal::TooManyRoutes);
-        }
-        let mut paths = Vec::new(alloc);
-        let ports = lists(alloc, &net.nodes, &counts, &net.ports, &mut paths)?;
-        let outputs = lists(alloc, &net.nodes, &counts, &net.outputs, &mut paths)?;
+        let lists = PortLists::of_net(alloc, net)?;
+        let ways = ways(alloc, &lists)?;
+        let targets = by_source(alloc, &ways)?;
         Ok(Routes {
-            leaves: net.leaves,
-            ports,
-            outputs,
-            paths,
+            lists,
+            ways,
+            targets,
         })
     }
 
@@ -104,7 +79,7 @@ impl Routes {
         requires { leaf < length self.now.ports }
         ensures { HoldsAt (λ ports. result ≡ length ports) self.now.ports leaf }
     {
-        self.leaves[leaf as usize].count
+        self.lists.ports(leaf)
     }
 
     /// The sources at an input port of a leaf, in the order in which their values come.
@@ -113,8 +88,7 @@ impl Routes {
         requires port { HoldsAt (λ ports. port.0 < length ports) self.now.ports leaf }
         ensures { HoldsAt (λ ports. HoldsAt (λ list. result.now ≡ list) ports port.0) self.now.ports leaf }
     {
-        let first = self.leaves[leaf as usize].first as usize;
-        part(&self.paths, self.ports[first + port.0 as usize])
+        self.lists.sources(leaf, port)
     }
 
     /// The same at an output of top.
@@ -122,15 +96,30 @@ impl Routes {
         requires { out < length self.now.tops }
         ensures { HoldsAt (λ list. result.now ≡ list) self.now.tops out }
     {
-        part(&self.paths, self.outputs[out as usize])
+        self.lists.top_sources(out)
     }
-}
 
-/// The items of a span.
-fn part(items: &[Source], span: Span) -> &[Source]
-    requires { span.first + span.count ≤ length items.now }
-    ensures { result.now ≡ part_at items.now span }
-{
-    let first = span.first as usize;
-    &items[first..first + span.count as usize]
+    /// The targets of a source, by rising leaf, port and place among the sources there, and then the
+    /// outputs of top. A source that there is not has none.
+    pub fn targets(&self, from: Source) -> &[Target]
+        ensures { result.now ≡ targets_among (ways_of self.now) from }
+    {
+        self.targets.targets(from)
+    }
+
+    /// The number of paths. Paths are counted by rising leaf, port and place among the sources there,
+    /// and then by outputs of top.
+    pub fn path_count(&self) -> usize
+        ensures { result ≡ length (paths_of self.now) }
+    {
+        self.ways.len()
+    }
+
+    /// The path of a number.
+    pub fn path(&self, number: u32) -> Path
+        requires { number < length (paths_of self.now) }
+        ensures { HoldsAt (λ path. result ≡ path) (paths_of self.now) number }
+    {
+        self.ways[number as usize].path
+    }
 }

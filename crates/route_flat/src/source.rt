@@ -28,3 +28,18 @@ pub struct Span {
     pub first: u32,
     pub count: u32,
 }
+
+/// A path, and its place among the sources of the port where it leads.
+#[derive(Clone, Copy, PartialEq, Eq, Debug)]
+pub struct Way {
+    pub path: Path,
+    pub rank: u32,
+}
+
+/// Where a source leads: to a port, as the source of this place there, by the path of this number.
+#[derive(Clone, Copy, PartialEq, Eq, Debug)]
+pub struct Target {
+    pub to: TargetPort,
+    pub rank: u32,
+    pub path: u32,
+}

@@ -2,7 +2,7 @@ use Rattle.std.proofs.Common.{◌<◌, ◌+◌, List, length, arith, ap, sym, �
 use Rattle.route_flat.specs.declared.source.Source.{Source}
 use Rattle.route_flat.specs.Nodes.{part_at}
 use Rattle.route_flat.proofs.Reading.{within-at, count-leaves, read-leaf, port-below, read-port}
-use Rattle.route_flat.proofs.routes.Routes.sources.Goals as goal
+use Rattle.route_flat.proofs.port_lists.PortLists.sources.Goals as goal
 
 pub index-requires-2 : goal.index-requires-2
 index-requires-2 c =

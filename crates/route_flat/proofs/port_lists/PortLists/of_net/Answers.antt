@@ -5,7 +5,7 @@ use Rattle.route_flat.specs.Counts.{sum_of}
 use Rattle.route_flat.proofs.Stood.{of-counts, kept-sum}
 use Rattle.route_flat.proofs.Spans.{of-lists, first-parts, last-parts, flat-same, within-same, same-count}
 use Rattle.route_flat.proofs.Totals.{net-paths}
-use Rattle.route_flat.proofs.routes.Routes.of_net.Goals as goal
+use Rattle.route_flat.proofs.port_lists.PortLists.of_net.Goals as goal
 
 pub returns-then-to_ports-to_outputs-gt65536-clause-many : goal.returns-then-to_ports-to_outputs-gt65536-clause-many
 returns-then-to_ports-to_outputs-gt65536-clause-many c = λ e.

@@ -1,0 +1,19 @@
+use Rattle.std.proofs.Common.{◌≡◌, ◌<◌, ℕ, ap, sym, ◌∙◌, List, [], ◌∷◌, ◌++◌, get_or, length, arith, refl}
+use Rattle.std.specs.Prelude.{if◌then◌else◌}
+use Rattle.route_flat.specs.declared.source.Source.TheVariants.{Leaf}
+use Rattle.route_flat.specs.declared.source.TargetPort.TheVariants as target
+use Rattle.route_flat.specs.declared.source.Way.{Way}
+use Rattle.route_flat.specs.declared.source.Target.{Target}
+use Rattle.route_flat.specs.Ways.{same_source, target_of}
+use Rattle.route_flat.specs.BySource.{list_from}
+use Rattle.route_flat.proofs.Steps.{targets-more}
+use Rattle.route_flat.proofs.ways.by_source.Goals as goal
+
+pub loop-number-preserved : goal.loop-number-preserved
+loop-number-preserved c = λ from.
+    let none : Way = record { path = record { from = Leaf 0; to = target.Leaf 0 (record { 0 = 0 }) }; rank = 0 } in
+    let way : Way = get_or c.args.ways.now c.loop-number.number none in
+    c.in_ok-put.ensures from
+    ∙ ap (λ (n : ℕ). if same_source way.path.from from then list_from c.loop-number.by from ++ target_of (n, way) ∷ [] else list_from c.loop-number.by from) c.in_ok-counted.ensures
+    ∙ ap (λ (ts : List Target). if same_source way.path.from from then ts ++ target_of (c.loop-number.number, way) ∷ [] else ts) (c.loop-number.invariant from)
+    ∙ sym (targets-more c.args.ways.now c.loop-number.number way none from (omega arith) refl)

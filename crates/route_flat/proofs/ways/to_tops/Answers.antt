@@ -1,0 +1,15 @@
+use Rattle.std.proofs.Common.{◌≡◌, ◌<◌, ℕ, ap, ◌∙◌, List, [], ◌++◌, get_or, length, arith}
+use Rattle.route_flat.specs.declared.source.TargetPort.TheVariants as target
+use Rattle.route_flat.specs.Ways.{ways_at, ways_to_top}
+use Rattle.route_flat.proofs.Steps.{ways-more}
+use Rattle.route_flat.proofs.ways.to_tops.Goals as goal
+
+pub loop-out-preserved : goal.loop-out-preserved
+loop-out-preserved c =
+    let all = c.args.lists.now.tops in
+    let number : c.in_ok-number.number ≡ c.loop-out.out = c.in_ok-number.ensures ∙ c.in_ok-counted.ensures in
+    let read : c.top_sources.result.now ≡ get_or all c.loop-out.out [] =
+    c.top_sources.ensures [] ∙ ap (λ (n : ℕ). get_or all n []) number in
+    let grown : c.to_port.new.into.items ≡ c.loop-out.into.items ++ ways_to_top (c.loop-out.out, c.top_sources.result.now) =
+    c.in_ok-to_port.ensures ∙ ap (λ (n : ℕ). c.loop-out.into.items ++ ways_at (target.TopOut n) c.top_sources.result.now) number in
+    ways-more ways_to_top all c.loop-out.out c.top_sources.result.now [] c.args.into.now.items c.loop-out.into.items c.to_port.new.into.items (omega arith) read c.loop-out.invariant grown

@@ -1,0 +1,59 @@
+-- The paths of a model by their numbers, and where each source leads.
+use Rattle.std.specs.Prelude.{ℕ, ◌==◌, Bool, false, List, ◌++◌, map}
+use Rattle.std.specs.List.{enumerate_from, filter, flat_map}
+use Rattle.atomic_face.specs.declared.class.PortNo.{PortNo}
+use Rattle.route_flat.specs.declared.source.Source.{Source}
+use Rattle.route_flat.specs.declared.source.Source.TheVariants.{Leaf, TopIn}
+use Rattle.route_flat.specs.declared.source.TargetPort.{TargetPort}
+use Rattle.route_flat.specs.declared.source.TargetPort.TheVariants as target
+use Rattle.route_flat.specs.declared.source.Path.{Path}
+use Rattle.route_flat.specs.declared.source.Way.{Way}
+use Rattle.route_flat.specs.declared.source.Target.{Target}
+use Rattle.route_flat.specs.Nets.{Flat}
+
+-- both are the same source
+abbrev pub same_source : Source → Source → Bool
+same_source (Leaf k) (Leaf l) = k == l
+same_source (Leaf k) (TopIn l) = false
+same_source (TopIn k) (Leaf l) = false
+same_source (TopIn k) (TopIn l) = k == l
+
+-- the path to a port from the source at a place
+abbrev pub way_at : TargetPort → ℕ × Source → Way
+way_at to p = record { path = record { from = p.1; to = to }; rank = p.0 }
+
+-- the paths to a port with these sources
+abbrev pub ways_at : TargetPort → List Source → List Way
+ways_at to sources = map (way_at to) (enumerate_from 0 sources)
+
+-- the paths to an input port of a leaf, which has a number and sources
+abbrev pub ways_to_port : ℕ → ℕ × List Source → List Way
+ways_to_port leaf p = ways_at (target.Leaf leaf (record { 0 = p.0 })) p.1
+
+-- the paths to a leaf, which has a number and for each port its sources
+abbrev pub ways_to_leaf : ℕ × List (List Source) → List Way
+ways_to_leaf l = flat_map (ways_to_port l.0) (enumerate_from 0 l.1)
+
+-- the paths to an output of top
+abbrev pub ways_to_top : ℕ × List Source → List Way
+ways_to_top p = ways_at (target.TopOut p.0) p.1
+
+-- all paths, by leaf, port and place among the sources of the port, and then by outputs of top
+abbrev pub ways_of : Flat → List Way
+ways_of r =
+    flat_map ways_to_leaf (enumerate_from 0 r.ports) ++ flat_map ways_to_top (enumerate_from 0 r.tops)
+
+abbrev pub paths_of : Flat → List Path
+paths_of r = map (λ (w : Way). w.path) (ways_of r)
+
+-- where a path of a number leads
+abbrev pub target_of : ℕ × Way → Target
+target_of w = record { to = w.1.path.to; rank = w.1.rank; path = w.0 }
+
+-- a path begins at this source
+abbrev pub is_way_from : Source → ℕ × Way → Bool
+is_way_from from w = same_source w.1.path.from from
+
+-- where a source leads, by rising numbers of paths
+abbrev pub targets_among : List Way → Source → List Target
+targets_among ws from = map target_of (filter (is_way_from from) (enumerate_from 0 ws))

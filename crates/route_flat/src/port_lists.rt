@@ -1,0 +1,115 @@
+// The sources at each port, in lists one behind another.
+ghost use Rattle.std.specs.Prelude.{◌≡◌, ◌+◌, ◌<◌, ◌≤◌, IfOk, length};
+ghost use Rattle.std.specs.List.{HoldsAt};
+ghost use Rattle.route_flat.specs.Nodes.{part_at};
+ghost use Rattle.route_flat.specs.Nets.{IsParted, flat_of_net, paths_in};
+
+use crate::counts::{counts, sum_of};
+use crate::lists::lists;
+use crate::net::Net;
+use crate::refusal::RouteRefusal;
+use crate::source::{Source, Span};
+use atomic_face::PortNo;
+use std::alloc::Global;
+
+/// The sources at each port of each leaf and at each output of top. Seen as these lists.
+#[derive(Drop)]
+pub(crate) struct PortLists {
+    /// The ports of each leaf.
+    leaves: Vec<Span>,
+    /// The paths to each port of a leaf.
+    ports: Vec<Span>,
+    /// The paths to each output of top.
+    outputs: Vec<Span>,
+    /// The source of each path, by its number: by leaf, port and place, and then by outputs of top.
+    paths: Vec<Source>,
+}
+
+impl std::marker::Model for PortLists {
+    ghost use Rattle.route_flat.specs.Nets.{Flat, AreWithin, flat_of_spans};
+
+    ghost Value = { Flat };
+
+    ghost view = { λ r. flat_of_spans r.leaves.items r.ports.items r.outputs.items r.paths.items };
+
+    ghost invariant = { λ r. record {
+      leaves : AreWithin r.ports.items r.leaves.items;
+      ports : AreWithin r.paths.items r.ports.items;
+      outputs : AreWithin r.paths.items r.outputs.items;
+    } };
+}
+
+impl PortLists {
+    /// The lists of a net.
+    pub(crate) fn of_net(alloc: Global, net: Net) -> Result<PortLists, RouteRefusal>
+        requires { IsParted net }
+        ensures built { IfOk result (λ r. r ≡ flat_of_net net) }
+        ensures few { IfOk result (λ r. paths_in (flat_of_net net) ≤ 65536) }
+        ensures many { result ≡ Err RouteRefusal.TooManyRoutes → 65536 < paths_in (flat_of_net net) }
+    {
+        let counts = counts(alloc, &net.nodes)?;
+        let to_ports = sum_of(&net.ports, &counts);
+        let to_outputs = sum_of(&net.outputs, &counts);
+        if to_ports + to_outputs > 65536 {
+            return Err(RouteRefusal::TooManyRoutes);
+        }
+        let mut paths = Vec::new(alloc);
+        let ports = lists(alloc, &net.nodes, &counts, &net.ports, &mut paths)?;
+        let outputs = lists(alloc, &net.nodes, &counts, &net.outputs, &mut paths)?;
+        Ok(PortLists {
+            leaves: net.leaves,
+            ports,
+            outputs,
+            paths,
+        })
+    }
+
+    /// The number of leaves.
+    pub(crate) fn leaf_count(&self) -> usize
+        ensures { result ≡ length self.now.ports }
+    {
+        self.leaves.len()
+    }
+
+    /// The number of outputs of top.
+    pub(crate) fn top_count(&self) -> usize
+        ensures { result ≡ length self.now.tops }
+    {
+        self.outputs.len()
+    }
+
+    /// The number of input ports of a leaf.
+    pub(crate) fn ports(&self, leaf: u32) -> u32
+        requires { leaf < length self.now.ports }
+        ensures { HoldsAt (λ ports. result ≡ length ports) self.now.ports leaf }
+    {
+        self.leaves[leaf as usize].count
+    }
+
+    /// The sources at an input port of a leaf, in the order in which their values come.
+    pub(crate) fn sources(&self, leaf: u32, port: PortNo) -> &[Source]
+        requires leaf { leaf < length self.now.ports }
+        requires port { HoldsAt (λ ports. port.0 < length ports) self.now.ports leaf }
+        ensures { HoldsAt (λ ports. HoldsAt (λ list. result.now ≡ list) ports port.0) self.now.ports leaf }
+    {
+        let first = self.leaves[leaf as usize].first as usize;
+        part(&self.paths, self.ports[first + port.0 as usize])
+    }
+
+    /// The same at an output of top.
+    pub(crate) fn top_sources(&self, out: u16) -> &[Source]
+        requires { out < length self.now.tops }
+        ensures { HoldsAt (λ list. result.now ≡ list) self.now.tops out }
+    {
+        part(&self.paths, self.outputs[out as usize])
+    }
+}
+
+/// The items of a span.
+fn part(items: &[Source], span: Span) -> &[Source]
+    requires { span.first + span.count ≤ length items.now }
+    ensures { result.now ≡ part_at items.now span }
+{
+    let first = span.first as usize;
+    &items[first..first + span.count as usize]
+}
