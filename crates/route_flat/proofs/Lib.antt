@@ -3,3 +3,4 @@ pub mod Spans
 pub mod Totals
 pub mod Reading
 pub mod Steps
+pub mod Numbered

@@ -1,6 +1,6 @@
 -- The paths of a model by their numbers, and where each source leads.
-use Rattle.std.specs.Prelude.{ℕ, ◌==◌, Bool, false, List, ◌++◌, map}
-use Rattle.std.specs.List.{enumerate_from, filter, flat_map}
+use Rattle.std.specs.Prelude.{ℕ, ◌==◌, Bool, false, List, ◌++◌, map, length, slice_index_or}
+use Rattle.std.specs.List.{enumerate_from, filter, flat_map, range_with_len}
 use Rattle.atomic_face.specs.declared.class.PortNo.{PortNo}
 use Rattle.route_flat.specs.declared.source.Source.{Source}
 use Rattle.route_flat.specs.declared.source.Source.TheVariants.{Leaf, TopIn}
@@ -57,3 +57,21 @@ is_way_from from w = same_source w.1.path.from from
 -- where a source leads, by rising numbers of paths
 abbrev pub targets_among : List Way → Source → List Target
 targets_among ws from = map target_of (filter (is_way_from from) (enumerate_from 0 ws))
+
+-- ---- paths by their numbers
+
+-- the path begins at this source
+abbrev pub is_from : Source → Path → Bool
+is_from from p = same_source p.from from
+
+-- what stands where there is no path
+abbrev pub nowhere : Path
+nowhere = record { from = Leaf 0; to = target.TopOut 0 }
+
+-- the path of a number
+abbrev pub path_at : List Path → ℕ → Path
+path_at ps k = slice_index_or ps k nowhere
+
+-- the numbers of the paths for which a test holds, rising
+abbrev pub numbers : (Path → Bool) → List Path → List ℕ
+numbers test ps = filter (λ k. test (path_at ps k)) (range_with_len 0 (length ps))

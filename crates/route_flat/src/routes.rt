@@ -1,10 +1,10 @@
 // What reaches each port, and where each source leads.
-ghost use Rattle.std.specs.Prelude.{◌≡◌, ◌<◌, ◌≤◌, IfOk, length};
+ghost use Rattle.std.specs.Prelude.{◌≡◌, ◌<◌, ◌≤◌, IfOk, length, map};
 ghost use Rattle.std.specs.List.{HoldsAt};
 ghost use Rattle.model_tree.specs.Leaves.{OfTree};
 ghost use Rattle.model_tree.specs.Sound.{path_count};
 ghost use Rattle.route_flat.specs.Nets.{IsParted, RoutesOf, flat_of_net, paths_in};
-ghost use Rattle.route_flat.specs.Ways.{paths_of, ways_of, targets_among};
+ghost use Rattle.route_flat.specs.Ways.{paths_of, ways_of, targets_among, numbers, is_from};
 
 use crate::by_source::BySource;
 use crate::net::{Net, net_of};
@@ -102,7 +102,8 @@ impl Routes {
     /// The targets of a source, by rising leaf, port and place among the sources there, and then the
     /// outputs of top. A source that there is not has none.
     pub fn targets(&self, from: Source) -> &[Target]
-        ensures { result.now ≡ targets_among (ways_of self.now) from }
+        ensures targets { result.now ≡ targets_among (ways_of self.now) from }
+        ensures numbers { map (λ t. t.path) result.now ≡ numbers (is_from from) (paths_of self.now) }
     {
         self.targets.targets(from)
     }
