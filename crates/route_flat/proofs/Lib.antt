@@ -4,3 +4,4 @@ pub mod Totals
 pub mod Reading
 pub mod Steps
 pub mod Numbered
+pub mod TreePaths

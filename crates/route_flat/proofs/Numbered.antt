@@ -7,10 +7,7 @@ use Rattle.route_flat.specs.declared.source.Source.{Source}
 use Rattle.route_flat.specs.declared.source.Path.{Path}
 use Rattle.route_flat.specs.declared.source.Way.{Way}
 use Rattle.route_flat.specs.declared.source.Target.{Target}
-use Rattle.route_flat.specs.Ways.{is_way_from, target_of, targets_among, is_from, nowhere, path_at, numbers}
-
-abbrev path_in : Way → Path
-path_in w = w.path
+use Rattle.route_flat.specs.Ways.{path_in, is_way_from, target_of, targets_among, is_from, nowhere, path_at, numbers}
 
 abbrev number_in : Target → ℕ
 number_in t = t.path

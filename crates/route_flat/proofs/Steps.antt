@@ -41,24 +41,24 @@ ways-more f xs i x d old mid new h e are is =
     (sym (ap (flat_map f) (enumerate-more xs i x d h e) ∙ flat_map-append f (enumerate_from 0 (take i xs)) ((i, x) ∷ []) ∙ ap (λ (ws : List Way). flat_map f (enumerate_from 0 (take i xs)) ++ ws) last))
 
 -- one more path, for its source and for the others
-pub targets-more : (ws : List Way) (i : ℕ) (w d : Way) (from : Source) → i < length ws → w ≡ get_or ws i d → targets_among (take (i + 1) ws) from ≡ (if same_source w.path.from from then targets_among (take i ws) from ++ target_of (i, w) ∷ [] else targets_among (take i ws) from)
+pub targets-more : (ws : List Way) (i : ℕ) (w d : Way) (from : Source) → i < length ws → w ≡ get_or ws i d → targets_among (take (i + 1) ws) from ≡ (if same_source from w.path.from then targets_among (take i ws) from ++ target_of (i, w) ∷ [] else targets_among (take i ws) from)
 targets-more ws i w d from h e =
     let before = filter (is_way_from from) (enumerate_from 0 (take i ws)) in
     ap (λ (ps : List (ℕ × Way)). map target_of (filter (is_way_from from) ps)) (enumerate-more ws i w d h e)
     ∙ ap (map target_of) (filter-append (is_way_from from) (enumerate_from 0 (take i ws)) ((i, w) ∷ []))
-    ∙ cases before (same_source w.path.from from) refl
+    ∙ cases before (same_source from w.path.from) refl
   where
-    cases : (before : List (ℕ × Way)) (b : Bool) → same_source w.path.from from ≡ b → map target_of (before ++ filter (is_way_from from) ((i, w) ∷ [])) ≡ (if same_source w.path.from from then map target_of before ++ target_of (i, w) ∷ [] else map target_of before)
+    cases : (before : List (ℕ × Way)) (b : Bool) → same_source from w.path.from ≡ b → map target_of (before ++ filter (is_way_from from) ((i, w) ∷ [])) ≡ (if same_source from w.path.from then map target_of before ++ target_of (i, w) ∷ [] else map target_of before)
     cases before true f = rw f (map_push target_of before (i, w))
     cases before false f = rw f (ap (map target_of) (append-nil before))
 
 -- ---- lists by number
 
 -- one list gets an item more
-pub one-more : {X Y : Type 0} (f : X → List Y) (xs : List X) (i : ℕ) (old new : X) (y : Y) (k : ℕ) → i < length xs → old ≡ get_or xs i old → f new ≡ f old ++ y ∷ [] → get_or (map f (set xs i new)) k [] ≡ (if i == k then get_or (map f xs) k [] ++ y ∷ [] else get_or (map f xs) k [])
-one-more f xs i old new y k h e is = ap (λ ls. get_or ls k []) (map-set f xs i new) ∙ cases (i == k) refl
+pub one-more : {X Y : Type 0} (f : X → List Y) (xs : List X) (i : ℕ) (old new : X) (y : Y) (k : ℕ) → i < length xs → old ≡ get_or xs i old → f new ≡ f old ++ y ∷ [] → get_or (map f (set xs i new)) k [] ≡ (if k == i then get_or (map f xs) k [] ++ y ∷ [] else get_or (map f xs) k [])
+one-more f xs i old new y k h e is = ap (λ ls. get_or ls k []) (map-set f xs i new) ∙ cases (k == i) refl
   where
-    cases : (b : Bool) → (i == k) ≡ b → get_or (set (map f xs) i (f new)) k [] ≡ (if i == k then get_or (map f xs) k [] ++ y ∷ [] else get_or (map f xs) k [])
+    cases : (b : Bool) → (k == i) ≡ b → get_or (set (map f xs) i (f new)) k [] ≡ (if k == i then get_or (map f xs) k [] ++ y ∷ [] else get_or (map f xs) k [])
     cases true t =
         let same : i ≡ k = grind (arith, nat_tests) in
         let within : i < length (map f xs) = rw (length-map xs f) h in

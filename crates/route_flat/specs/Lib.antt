@@ -4,3 +4,4 @@ pub mod Counts
 pub mod Lists
 pub mod Ways
 pub mod BySource
+pub mod TreePaths

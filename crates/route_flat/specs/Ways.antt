@@ -43,8 +43,19 @@ abbrev pub ways_of : Flat → List Way
 ways_of r =
     flat_map ways_to_leaf (enumerate_from 0 r.ports) ++ flat_map ways_to_top (enumerate_from 0 r.tops)
 
+abbrev pub path_in : Way → Path
+path_in w = w.path
+
 abbrev pub paths_of : Flat → List Path
-paths_of r = map (λ (w : Way). w.path) (ways_of r)
+paths_of r = map path_in (ways_of r)
+
+-- those to leaves, which come first
+abbrev pub leaf_paths : Flat → List Path
+leaf_paths r = map path_in (flat_map ways_to_leaf (enumerate_from 0 r.ports))
+
+-- those to outputs of top, which come last
+abbrev pub top_paths : Flat → List Path
+top_paths r = map path_in (flat_map ways_to_top (enumerate_from 0 r.tops))
 
 -- where a path of a number leads
 abbrev pub target_of : ℕ × Way → Target
@@ -52,7 +63,7 @@ target_of w = record { to = w.1.path.to; rank = w.1.rank; path = w.0 }
 
 -- a path begins at this source
 abbrev pub is_way_from : Source → ℕ × Way → Bool
-is_way_from from w = same_source w.1.path.from from
+is_way_from from w = same_source from w.1.path.from
 
 -- where a source leads, by rising numbers of paths
 abbrev pub targets_among : List Way → Source → List Target
@@ -62,7 +73,7 @@ targets_among ws from = map target_of (filter (is_way_from from) (enumerate_from
 
 -- the path begins at this source
 abbrev pub is_from : Source → Path → Bool
-is_from from p = same_source p.from from
+is_from from p = same_source from p.from
 
 -- what stands where there is no path
 abbrev pub nowhere : Path

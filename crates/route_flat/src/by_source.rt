@@ -35,7 +35,7 @@ impl BySource {
         target: Target,
     ) -> Result<(), OutOfMemory>
         ensures { OnOk result ((other : Source) → list_from self.new other
-            ≡ (if same_source from other then list_from self.old other ++ target ∷ []
+            ≡ (if same_source other from then list_from self.old other ++ target ∷ []
                else list_from self.old other)) }
     {
         match from {
@@ -75,7 +75,7 @@ fn put_at(
     ensures { let old = map (λ v. v.items) lists.old.items in
         let new = map (λ v. v.items) lists.new.items in
         OnOk result ((k : ℕ) → slice_index_or new k []
-        ≡ (if number == k then slice_index_or old k [] ++ target ∷ [] else slice_index_or old k [])) }
+        ≡ (if k == number then slice_index_or old k [] ++ target ∷ [] else slice_index_or old k [])) }
 {
     reach(alloc, lists, number)?;
     push(&mut lists[number], target)

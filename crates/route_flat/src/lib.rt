@@ -4,6 +4,7 @@
 mod by_source;
 mod counts;
 mod follow;
+pub mod laws;
 mod lists;
 pub mod net;
 mod port_lists;
