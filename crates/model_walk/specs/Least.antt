@@ -1,0 +1,13 @@
+-- The least of refusals that are met one after another.
+use Rattle.std.specs.Prelude.{◌≡◌, Option, Some, None, List, ◌++◌}
+use Rattle.model_text.specs.Refusals.{Refusal}
+use Rattle.model_text.specs.Keyed.{lesser, least}
+
+-- the one that comes before the other, the first where neither does
+abbrev pub merged : Option Refusal → Option Refusal → Option Refusal
+merged None b = b
+merged (Some a) b = Some (lesser a b)
+
+-- the least of two parts' refusals is that of their least ones
+abbrev pub LeastOfBoth : Type 0
+LeastOfBoth = (xs ys : List Refusal) → least (xs ++ ys) ≡ merged (least xs) (least ys)
