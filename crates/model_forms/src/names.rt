@@ -1,0 +1,137 @@
+// Names and words between blanks.
+ghost use Rattle.std.specs.Prelude.{◌≡◌, ◌&&◌, not, codes, length, IfOk};
+ghost use Rattle.std.specs.List.{list_all, list_any};
+ghost use Rattle.std.specs.Str.{bytes_eq};
+ghost use Rattle.quantity.specs.Bytes.{has_repeat, is_among, words};
+ghost use Rattle.quantity.specs.Digits.{has_length};
+ghost use Rattle.rule_syntax.specs.Tokens.{is_of_word};
+ghost use Rattle.source_text.specs.Shown.{texts};
+ghost use Rattle.model_text.specs.Forms as F;
+
+use crate::sizes::is_value_text;
+use quantity::OutOfMemory;
+use quantity::name::is_name;
+use source_text::words::{next_word, words};
+use std::alloc::Global;
+
+/// Whether each word is a name.
+pub fn are_names(text: &[u8]) -> bool
+    ensures { result ≡ F.are_names text.now }
+{
+    let mut rest = text;
+    while let Some((word, behind)) = next_word(rest) {
+        if !is_name(word) {
+            return false;
+        }
+        rest = behind;
+    }
+    true
+}
+
+/// Whether each word is a value, or `?`.
+pub fn are_values(text: &[u8]) -> bool
+    ensures { result ≡ list_all F.is_value_text (words text.now) }
+{
+    let mut rest = text;
+    while let Some((word, behind)) = next_word(rest) {
+        if !is_value_text(word) {
+            return false;
+        }
+        rest = behind;
+    }
+    true
+}
+
+/// How many words there are.
+pub fn word_count(text: &[u8]) -> usize
+    ensures { result ≡ length (words text.now) }
+{
+    let mut count = 0;
+    let mut rest = text;
+    while let Some((_word, behind)) = next_word(rest) {
+        count += 1;
+        rest = behind;
+    }
+    count
+}
+
+/// Whether this is a word of the rule language: a letter, then letters, digits and `_`, at most 64 in all.
+pub fn is_word(text: &[u8]) -> bool
+    ensures { result ≡ F.is_word text.now }
+{
+    match text {
+        [] => false,
+        [first, rest @ ..] => {
+            first.is_ascii_alphabetic() && all_are_of_word(rest) && rest.len() < 64
+        }
+    }
+}
+
+fn all_are_of_word(text: &[u8]) -> bool
+    ensures { result ≡ list_all is_of_word text.now }
+{
+    text.iter().all(|byte| is_of_word(*byte))
+}
+
+fn is_of_word(byte: u8) -> bool
+    ensures { result ≡ is_of_word byte }
+{
+    byte.is_ascii_alphanumeric() || byte == b'_'
+}
+
+/// Whether these are 1 to `most` different words of the rule language.
+pub fn are_words(alloc: Global, most: usize, text: &[u8]) -> Result<bool, OutOfMemory>
+    ensures { IfOk result (λ are. are ≡ F.are_words most text.now) }
+{
+    let found = words(alloc, text)?;
+    Ok(are_different_words(most, &found))
+}
+
+/// Whether these are 1 to 3 different words of the rule language, none of them `out`.
+pub fn are_ports(alloc: Global, text: &[u8]) -> Result<bool, OutOfMemory>
+    ensures { IfOk result (λ are. are ≡ F.are_ports text.now) }
+{
+    let found = words(alloc, text)?;
+    Ok(are_different_words(3, &found) && !is_among(&found, b"out"))
+}
+
+fn are_different_words(most: usize, found: &[&[u8]]) -> bool
+    ensures { result ≡ (has_length 1 most (texts found.now) && list_all F.is_word (texts found.now) && not (has_repeat (texts found.now))) }
+{
+    1 <= found.len() && found.len() <= most && all_are_words(found) && !has_repeat(found)
+}
+
+fn all_are_words(found: &[&[u8]]) -> bool
+    ensures { result ≡ list_all F.is_word (texts found.now) }
+{
+    each_is_word(found)
+}
+
+fn each_is_word(found: &[&[u8]]) -> bool
+    ensures { result ≡ list_all (λ r. F.is_word r.now) found.now }
+{
+    found.iter().all(|text| is_word(text))
+}
+
+/// Whether some text stands twice.
+// It is asked of at most eight texts.
+fn has_repeat(found: &[&[u8]]) -> bool
+    ensures { result ≡ has_repeat (texts found.now) }
+{
+    let Some((first, rest)) = found.split_first() else {
+        return false;
+    };
+    is_among(rest, first) || has_repeat(rest)
+}
+
+fn is_among(found: &[&[u8]], text: &[u8]) -> bool
+    ensures { result ≡ is_among (texts found.now) text.now }
+{
+    is_one_of(found, text)
+}
+
+fn is_one_of(found: &[&[u8]], text: &[u8]) -> bool
+    ensures { result ≡ list_any (λ r. bytes_eq text.now r.now) found.now }
+{
+    found.iter().any(|other| text == *other)
+}
