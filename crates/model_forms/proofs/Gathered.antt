@@ -6,9 +6,9 @@ use Rattle.std.specs.List.{list_all}
 use Rattle.std.specs.Option.{option_map, option_and_then}
 use Rattle.std.specs.Bool.{then_some}
 use Rattle.quantity.specs.Bytes.{Bytes, trimmed, in_front, all_there}
-use Rattle.source_text.specs.Tuples.{NamedTuple, named_tuple, parts_of}
+use Rattle.source_text.specs.Tuples.{named_tuple, parts_of}
 use Rattle.model_text.specs.Forms.{is_of_group, tuples_of}
-use Rattle.model_forms.specs.Parts.{tuple_in, tuples_in}
+use Rattle.model_forms.specs.Parts.{tuples_in}
 
 module _ {A B : Type 0} (f : A → Option B) (test : B → Bool) where
   abbrev all_pass : List B → Option (List B)

@@ -1,9 +1,9 @@
 -- Texts behind references, and texts without their blanks.
-use Rattle.std.proofs.Common.{◌≡◌, ℕ, ◌+◌, ◌<◌, Bool, true, false, not, ◌||◌, cond, List, [], ◌∷◌, ◌++◌, map, length, get_or, take, drop, refl, sym, ap, ◌∙◌, Bor}
-use Rattle.std.proofs.lemmas.List.{append_assoc, drop_more, take_more}
+use Rattle.std.proofs.Common.{◌≡◌, ℕ, ◌+◌, ◌<◌, Bool, ◌||◌, List, [], ◌∷◌, ◌++◌, length, get_or, take, refl, ap, ◌∙◌, Bor}
+use Rattle.std.proofs.lemmas.List.{take_more}
 use Rattle.std.proofs.lemmas.List.Elements.{filter-append}
 use Rattle.std.specs.Prelude.{◌&&◌}
-use Rattle.std.specs.List.{filter, list_all, list_any}
+use Rattle.std.specs.List.{list_all, list_any}
 use Rattle.std.specs.Str.{bytes_eq}
 use Rattle.quantity.specs.Bytes.{Bytes, is_among}
 use Rattle.source_text.specs.Shown.{texts}

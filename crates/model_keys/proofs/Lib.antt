@@ -1,0 +1,4 @@
+mod Parts
+mod Off
+mod Kept
+mod Repeats

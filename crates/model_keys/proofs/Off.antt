@@ -1,0 +1,68 @@
+-- Values that are off their form, entry by entry.
+use Rattle.std.proofs.Common.{◌≡◌, ℕ, ◌+◌, ◌<◌, Bool, true, false, cond, Option, Some, None, List, [], ◌∷◌, map, length, get_or, drop, refl, sym, ap, ◌∙◌}
+use Rattle.std.proofs.lemmas.List.{drop_more, map-append}
+use Rattle.std.proofs.lemmas.List.Elements.{filter-append}
+use Rattle.std.specs.List.{filter, find}
+use Rattle.std.specs.Option.{option_map}
+use Rattle.std.specs.Str.{bytes_eq}
+use Rattle.quantity.specs.Bytes.{Bytes}
+use Rattle.ma_lines.specs.declared.section.Entry.{Entry}
+use Rattle.ma_lines.specs.Sections.{Section}
+use Rattle.rule_tree.specs.Phrases.{looked_up}
+use Rattle.model_text.specs.declared.kind.Kind.TheVariants.{BadValue}
+use Rattle.model_text.specs.Refusals.{Refusal, refusal}
+use Rattle.model_text.specs.Keyed.{least}
+use Rattle.model_text.specs.Keys.{is_off, off_form, forms, group_forms}
+use Rattle.model_walk.specs.Least.{merged}
+use Rattle.model_walk.proofs.Orders.{least_step}
+use Rattle.model_keys.specs.declared.form.Form.{Form}
+use Rattle.model_keys.specs.declared.form.Form.TheVariants.{Dim, Height, Width, Delay, DefaultDelayTime, Border, Neighbors, InitialValue, InitialMapValue, InitialCellsValue, LocalTransition, PortInTransition, StateVariables, StateValues, NeighborPorts, PortValues, In, Out, Link}
+use Rattle.model_keys.specs.FormOf.{key_of, test_of, table_of}
+
+-- ---- the table of forms
+
+-- the forms of a group
+abbrev pub all_forms : List Form
+all_forms =
+    Dim ∷ Height ∷ Width ∷ Delay ∷ DefaultDelayTime ∷ Border ∷ Neighbors ∷ InitialValue ∷ InitialMapValue ∷ InitialCellsValue ∷ LocalTransition
+    ∷ PortInTransition ∷ StateVariables ∷ StateValues ∷ NeighborPorts ∷ PortValues ∷ In ∷ Out ∷ Link ∷ []
+
+abbrev row_of : Section → Form → Bytes × (Bytes → Bool)
+row_of s f = (key_of f, test_of s f)
+
+pub group_rows : (s : Section) → table_of s all_forms ≡ group_forms s
+group_rows s = refl
+
+pub plain_rows : (s : Section) → table_of s (In ∷ Out ∷ Link ∷ []) ≡ forms s
+plain_rows s = refl
+
+row_found : (s : Section) (key : Bytes) (f : Form) (fs : List Form) (b : Bool) → looked_up (map (row_of s) fs) key ≡ option_map (test_of s) (find (λ (g : Form). bytes_eq (key_of g) key) fs)
+    → option_map (λ (p : Bytes × (Bytes → Bool)). p.1) (cond b (Some (row_of s f)) (find (λ (p : Bytes × (Bytes → Bool)). bytes_eq p.0 key) (map (row_of s) fs)))
+    ≡ option_map (test_of s) (cond b (Some f) (find (λ (g : Form). bytes_eq (key_of g) key) fs))
+row_found s key f fs true e = refl
+row_found s key f fs false e = e
+
+found_row : (s : Section) (key : Bytes) (fs : List Form) → looked_up (map (row_of s) fs) key ≡ option_map (test_of s) (find (λ (f : Form). bytes_eq (key_of f) key) fs)
+found_row s key [] = refl
+found_row s key (f ∷ fs) = row_found s key f fs (bytes_eq (key_of f) key) (found_row s key fs)
+
+pub off_by : (s : Section) (fs : List Form) (key text : Bytes) (o : Option Form) → o ≡ find (λ (f : Form). bytes_eq (key_of f) key) fs → is_off (option_map (test_of s) o) text ≡ is_off (looked_up (table_of s fs) key) text
+off_by s fs key text o e = ap (λ p. is_off p text) (ap (option_map (test_of s)) e ∙ sym (found_row s key fs))
+
+-- ---- entry by entry
+
+pub off_one : (table : List (Bytes × (Bytes → Bool))) (e : Entry) (b : Bool) → b ≡ is_off (looked_up table e.key) e.value → cond b (Some (refusal e.line BadValue)) None ≡ least (off_form table (e ∷ []))
+off_one table e b h = by b ∙ ap (λ (v : Bool). least (map (λ (e : Entry). refusal e.line BadValue) (cond v (e ∷ []) []))) h
+  where
+    by : (v : Bool) → cond v (Some (refusal e.line BadValue)) None ≡ least (map (λ (e : Entry). refusal e.line BadValue) (cond v (e ∷ []) []))
+    by true = refl
+    by false = refl
+
+pub off_step : (table : List (Bytes × (Bytes → Bool))) (es : List Entry) (i : ℕ) (d : Entry) (first now : Option Refusal) → i < length es → now ≡ least (off_form table (get_or es i d ∷ []))
+    → merged first (least (off_form table (drop i es))) ≡ least (off_form table es) → merged (merged first now) (least (off_form table (drop (i + 1) es))) ≡ least (off_form table es)
+off_step table es i d first now lt e h =
+    let off = λ (x : Entry). is_off (looked_up table x.key) x.value in
+    let at = λ (x : Entry). refusal x.line BadValue in
+    least_step first now (off_form table (get_or es i d ∷ [])) (off_form table (drop (i + 1) es)) (least (off_form table es)) e
+    (ap (λ rs. merged first (least rs)) (sym (map-append at (filter off (get_or es i d ∷ [])) (filter off (drop (i + 1) es))) ∙ ap (map at) (sym (filter-append off (get_or es i d ∷ []) (drop (i + 1) es))))
+    ∙ ap (λ (rest : List Entry). merged first (least (off_form table rest))) (sym (drop_more es i d lt)) ∙ h)

@@ -1,0 +1,30 @@
+-- How many values go with the words of another key. For clauses of private functions.
+use Rattle.std.specs.Prelude.{◌≡◌, ◌==◌, Bool, false, ◌&&◌, Option, Some, None, length, if◌then◌else◌, codes}
+use Rattle.std.specs.List.{list_all}
+use Rattle.quantity.specs.Bytes.{Bytes, words}
+use Rattle.ma_lines.specs.Sections.{Section}
+use Rattle.model_text.specs.Forms.{is_value_text, are_words, are_ports}
+use Rattle.model_text.specs.Keyed.{value_of}
+use Rattle.model_keys.specs.declared.wanted.Wanted.{Wanted}
+use Rattle.model_keys.specs.declared.wanted.Wanted.TheVariants.{Nothing, Any, Exactly}
+use Rattle.model_keys.specs.declared.wanted.WantedValues.{WantedValues}
+
+-- as many as there are words, where they are right
+abbrev pub wanted_by : Bool → Bytes → Wanted
+wanted_by are_right names = if are_right then Exactly (length (words names)) else Any
+
+-- the same of a value that may not be there
+abbrev pub wanted : (Bytes → Bool) → Option Bytes → Wanted
+wanted is_right None = Nothing
+wanted is_right (Some names) = wanted_by (is_right names) names
+
+-- values, as many as are wanted
+abbrev pub fits : Wanted → Bytes → Bool
+fits Nothing text = false
+fits Any text = list_all is_value_text (words text)
+fits (Exactly n) text = list_all is_value_text (words text) && (length (words text) == n)
+
+-- what a section wants
+pub record AreWanted (s : Section) (values : WantedValues) : Type 0 where
+  pub variables : values.variables ≡ wanted (are_words 8) (value_of (codes "statevariables") s)
+  pub ports : values.ports ≡ wanted are_ports (value_of (codes "neighborports") s)

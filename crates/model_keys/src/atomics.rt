@@ -1,0 +1,89 @@
+// What is refused of the parameters of atomic components.
+ghost use Rattle.std.specs.Prelude.{◌≡◌, ◌∷◌, [], map, IfOk};
+ghost use Rattle.std.specs.List.{filter, flat_map};
+ghost use Rattle.std.specs.Option.{option_map};
+ghost use Rattle.atomic_face.specs.Settings.{once_keys};
+ghost use Rattle.source_text.specs.Shown.{texts};
+ghost use Rattle.model_text.specs.Keyed as L;
+ghost use Rattle.model_text.specs.Keys as K;
+ghost use Rattle.model_text.specs.Walk as W;
+ghost use Rattle.model_walk.specs.Shown.{item_of, refusal_of};
+
+use crate::again::again;
+use atomic_face::Class;
+use ma_lines::Sections;
+use model_walk::entries::section_named;
+use model_walk::item::{class_of, is_atomic, name_of};
+use model_walk::least::least;
+use model_walk::{Item, Refused};
+use quantity::OutOfMemory;
+use std::alloc::Global;
+
+/// The least refusal of the parameters of the atomic components among these.
+pub(crate) fn of_atomics(
+    alloc: Global,
+    sections: &Sections,
+    items: &[Item<'_>],
+) -> Result<Option<Refused>, OutOfMemory>
+    ensures { IfOk result (λ why. option_map refusal_of why ≡ L.least (flat_map (K.of_atomic sections.now) (filter W.is_atomic (map item_of items.now)))) }
+{
+    let mut first = None;
+    for item in items {
+        first = least(first, of_item(alloc, sections, item)?);
+    }
+    Ok(first)
+}
+
+/// The least refusal of the parameters of an item, where it is an atomic component.
+fn of_item(
+    alloc: Global,
+    sections: &Sections,
+    item: &Item<'_>,
+) -> Result<Option<Refused>, OutOfMemory>
+    ensures { IfOk result (λ why. option_map refusal_of why ≡ L.least (flat_map (K.of_atomic sections.now) (filter W.is_atomic (item_of item.now ∷ [])))) }
+{
+    if !is_atomic(item) {
+        return Ok(None);
+    }
+    of_atomic(alloc, sections, item)
+}
+
+/// The least parameter of an atomic component that stands again and may not.
+fn of_atomic(
+    alloc: Global,
+    sections: &Sections,
+    item: &Item<'_>,
+) -> Result<Option<Refused>, OutOfMemory>
+    ensures { IfOk result (λ why. option_map refusal_of why ≡ L.least (K.of_atomic sections.now (item_of item.now))) }
+{
+    let Some(class) = Class::of_name(class_of(item)) else {
+        return Ok(None);
+    };
+    let Some(section) = section_named(sections, name_of(item)) else {
+        return Ok(None);
+    };
+    again(alloc, once_keys(class), &section.entries)
+}
+
+const QUEUE_KEYS: [&[u8]; 1] = [b"preparation"];
+
+const GENERATOR_KEYS: [&[u8]; 5] = [b"start", b"period", b"value", b"step", b"count"];
+
+const CPU_KEYS: [&[u8]; 1] = [b"delay"];
+
+const COUNTER_KEYS: [&[u8]; 3] = [b"delay", b"start", b"step"];
+
+const TABLE_KEYS: [&[u8]; 2] = [b"states", b"initial"];
+
+/// The parameters of a class that may stand once.
+fn once_keys(class: Class) -> &'static [&'static [u8]]
+    ensures { texts result.now ≡ once_keys class }
+{
+    match class {
+        Class::Queue => &QUEUE_KEYS,
+        Class::Generator => &GENERATOR_KEYS,
+        Class::Cpu => &CPU_KEYS,
+        Class::Counter => &COUNTER_KEYS,
+        Class::Table => &TABLE_KEYS,
+    }
+}

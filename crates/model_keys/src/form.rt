@@ -1,0 +1,216 @@
+// The forms of the values of keys.
+ghost use Rattle.std.specs.Prelude.{◌≡◌, ◌∷◌, [], IfOk};
+ghost use Rattle.std.specs.List.{find};
+ghost use Rattle.std.specs.Option.{is_some, option_map};
+ghost use Rattle.std.specs.Str.{bytes_eq};
+ghost use Rattle.ma_lines.specs.Sections.{section_of};
+ghost use Rattle.rule_tree.specs.Phrases.{looked_up};
+ghost use Rattle.model_text.specs.Forms as F;
+ghost use Rattle.model_text.specs.Keyed as L;
+ghost use Rattle.model_text.specs.Keys as K;
+ghost use Rattle.model_walk.specs.Shown.{refusal_of};
+ghost use Rattle.model_keys.specs.FormOf.{key_of, test_of, table_of};
+ghost use Rattle.model_keys.specs.Wanted.{AreWanted};
+
+use crate::wanted::{WantedValues, fits, wanted_values};
+use ma_lines::{Entry, Section};
+use model_forms::link::has_two_ends;
+use model_forms::names::{are_names, are_ports, are_words};
+use model_forms::port_rule::port_rule_text;
+use model_forms::sizes::{is_delay_time, is_dim, is_size, is_value_text};
+use model_forms::tuples::tuples_of;
+use model_text::Kind;
+use model_walk::Refused;
+use model_walk::least::least;
+use quantity::OutOfMemory;
+use quantity::name::is_name;
+use std::alloc::Global;
+
+/// The form of a key's value.
+#[derive(Clone, Copy, PartialEq, Eq, Debug)]
+pub(crate) enum Form {
+    Dim,
+    Height,
+    Width,
+    Delay,
+    DefaultDelayTime,
+    Border,
+    Neighbors,
+    InitialValue,
+    InitialMapValue,
+    InitialCellsValue,
+    LocalTransition,
+    PortInTransition,
+    StateVariables,
+    StateValues,
+    NeighborPorts,
+    PortValues,
+    In,
+    Out,
+    Link,
+}
+
+/// The forms of a group.
+pub(crate) const GROUP_FORMS: [Form; 19] = [
+    Form::Dim,
+    Form::Height,
+    Form::Width,
+    Form::Delay,
+    Form::DefaultDelayTime,
+    Form::Border,
+    Form::Neighbors,
+    Form::InitialValue,
+    Form::InitialMapValue,
+    Form::InitialCellsValue,
+    Form::LocalTransition,
+    Form::PortInTransition,
+    Form::StateVariables,
+    Form::StateValues,
+    Form::NeighborPorts,
+    Form::PortValues,
+    Form::In,
+    Form::Out,
+    Form::Link,
+];
+
+/// The forms of a section of components.
+pub(crate) const PLAIN_FORMS: [Form; 3] = [Form::In, Form::Out, Form::Link];
+
+/// The least refusal of values that are off the form of their key.
+pub(crate) fn off_forms(
+    alloc: Global,
+    forms: &[Form],
+    section: &Section,
+) -> Result<Option<Refused>, OutOfMemory>
+    ensures { IfOk result (λ why. option_map refusal_of why ≡ L.least (K.off_form (table_of (section_of section.now) forms.now) section.now.entries.items)) }
+{
+    let values = wanted_values(alloc, section)?;
+    let mut first = None;
+    for entry in &section.entries {
+        first = least(first, off_form(alloc, forms, section, &values, entry)?);
+    }
+    Ok(first)
+}
+
+/// The refusal of one entry, where its value is off its form.
+fn off_form(
+    alloc: Global,
+    forms: &[Form],
+    section: &Section,
+    values: &WantedValues,
+    entry: &Entry,
+) -> Result<Option<Refused>, OutOfMemory>
+    requires { AreWanted (section_of section.now) values.now }
+    ensures { IfOk result (λ why. option_map refusal_of why ≡ L.least (K.off_form (table_of (section_of section.now) forms.now) (entry.now ∷ []))) }
+{
+    if !is_off(alloc, forms, section, values, entry)? {
+        return Ok(None);
+    }
+    Ok(Some(Refused {
+        line: entry.line,
+        kind: Kind::BadValue,
+    }))
+}
+
+fn is_off(
+    alloc: Global,
+    forms: &[Form],
+    section: &Section,
+    values: &WantedValues,
+    entry: &Entry,
+) -> Result<bool, OutOfMemory>
+    requires { AreWanted (section_of section.now) values.now }
+    ensures { IfOk result (λ off. off ≡ K.is_off (looked_up (table_of (section_of section.now) forms.now) entry.now.key) entry.now.value) }
+{
+    let Some(form) = form_of(forms, entry.key.as_bytes()) else {
+        return Ok(false);
+    };
+    let right = is_right(alloc, section, values, form, entry.value.as_bytes())?;
+    Ok(!right)
+}
+
+/// Whether a value has this form.
+fn is_right(
+    alloc: Global,
+    section: &Section,
+    values: &WantedValues,
+    form: Form,
+    text: &[u8],
+) -> Result<bool, OutOfMemory>
+    requires { AreWanted (section_of section.now) values.now }
+    ensures { IfOk result (λ right. right ≡ test_of (section_of section.now) form text.now) }
+{
+    match form {
+        Form::Dim => Ok(is_dim(text)),
+        Form::Height => Ok(is_size(text)),
+        Form::Width => Ok(is_size(text)),
+        Form::Delay => Ok(is_either(b"transport", b"inertial", text)),
+        Form::DefaultDelayTime => Ok(is_delay_time(text)),
+        Form::Border => Ok(is_either(b"wrapped", b"nowrapped", text)),
+        Form::Neighbors => are_tuples(alloc, section, text),
+        Form::InitialValue => Ok(is_value_text(text)),
+        Form::InitialMapValue => Ok(!text.is_empty()),
+        Form::InitialCellsValue => Ok(!text.is_empty()),
+        Form::LocalTransition => Ok(is_name(text)),
+        Form::PortInTransition => Ok(is_port_rule(section, text)),
+        Form::StateVariables => are_words(alloc, 8, text),
+        Form::StateValues => Ok(fits(values.variables, text)),
+        Form::NeighborPorts => are_ports(alloc, text),
+        Form::PortValues => Ok(fits(values.ports, text)),
+        Form::In => Ok(are_names(text)),
+        Form::Out => Ok(are_names(text)),
+        Form::Link => has_two_ends(alloc, text),
+    }
+}
+
+fn is_either(a: &[u8], b: &[u8], text: &[u8]) -> bool
+    ensures { result ≡ F.is_one_of (a.now ∷ b.now ∷ []) text.now }
+{
+    text == a || text == b
+}
+
+fn are_tuples(alloc: Global, section: &Section, text: &[u8]) -> Result<bool, OutOfMemory>
+    ensures { IfOk result (λ are. are ≡ is_some (F.tuples_of section.now.name text.now)) }
+{
+    let tuples = tuples_of(alloc, section.name.as_bytes(), text)?;
+    Ok(tuples.is_some())
+}
+
+fn is_port_rule(section: &Section, text: &[u8]) -> bool
+    ensures { result ≡ is_some (F.port_rule_text section.now.name text.now) }
+{
+    port_rule_text(section.name.as_bytes(), text).is_some()
+}
+
+/// The first of these forms whose key this is.
+fn form_of(forms: &[Form], key: &[u8]) -> Option<Form>
+    ensures { result ≡ find (λ f. bytes_eq (key_of f) key.now) forms.now }
+{
+    forms.iter().copied().find(|form| key_of(*form) == key)
+}
+
+fn key_of(form: Form) -> &'static [u8]
+    ensures { result.now ≡ key_of form }
+{
+    match form {
+        Form::Dim => b"dim",
+        Form::Height => b"height",
+        Form::Width => b"width",
+        Form::Delay => b"delay",
+        Form::DefaultDelayTime => b"defaultdelaytime",
+        Form::Border => b"border",
+        Form::Neighbors => b"neighbors",
+        Form::InitialValue => b"initialvalue",
+        Form::InitialMapValue => b"initialmapvalue",
+        Form::InitialCellsValue => b"initialcellsvalue",
+        Form::LocalTransition => b"localtransition",
+        Form::PortInTransition => b"portintransition",
+        Form::StateVariables => b"statevariables",
+        Form::StateValues => b"statevalues",
+        Form::NeighborPorts => b"neighborports",
+        Form::PortValues => b"portvalues",
+        Form::In => b"in",
+        Form::Out => b"out",
+        Form::Link => b"link",
+    }
+}

@@ -1,0 +1,38 @@
+// The keys of sections: how often they may stand, and the form of their values.
+#![tactic(auto)]
+
+mod again;
+mod atomics;
+mod form;
+mod group;
+mod repeated;
+mod sections;
+mod wanted;
+
+ghost use Rattle.std.specs.Prelude.{◌≡◌, IfOk};
+ghost use Rattle.std.specs.Option.{option_map};
+ghost use Rattle.model_text.specs.Keys as K;
+ghost use Rattle.model_walk.specs.Met.{IsWalk, met_of};
+ghost use Rattle.model_walk.specs.Shown.{refusal_of};
+
+use crate::atomics::of_atomics;
+use crate::sections::of_sections;
+use ma_lines::Sections;
+use model_walk::least::least;
+use model_walk::{Refused, Walked};
+use quantity::OutOfMemory;
+use std::alloc::Global;
+
+/// The least refusal of the keys of the sections that the walk met, and of the parameters of its atomic components.
+pub fn keys_refused(
+    alloc: Global,
+    sections: &Sections,
+    walked: &Walked<'_>,
+) -> Result<Option<Refused>, OutOfMemory>
+    requires { IsWalk sections.now (met_of walked.now) }
+    ensures { IfOk result (λ why. option_map refusal_of why ≡ K.keys_refused sections.now) }
+{
+    let first = of_sections(alloc, &walked.sections)?;
+    let second = of_atomics(alloc, sections, &walked.items)?;
+    Ok(least(first, second))
+}

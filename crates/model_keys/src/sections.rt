@@ -1,0 +1,89 @@
+// What is refused of section after section.
+ghost use Rattle.std.specs.Prelude.{◌≡◌, [], map, IfOk, if◌then◌else◌};
+ghost use Rattle.std.specs.List.{flat_map};
+ghost use Rattle.std.specs.Option.{option_map};
+ghost use Rattle.ma_lines.specs.Sections.{section_of};
+ghost use Rattle.model_text.specs.Keyed as L;
+ghost use Rattle.model_text.specs.Keys as K;
+ghost use Rattle.model_text.specs.Walk as W;
+ghost use Rattle.model_walk.specs.Shown.{refusal_of};
+
+use crate::again::again;
+use crate::form::{PLAIN_FORMS, off_forms};
+use crate::group::of_group;
+use crate::repeated::repeated;
+use ma_lines::Section;
+use model_walk::Refused;
+use model_walk::entries::is_group;
+use model_walk::least::least;
+use quantity::OutOfMemory;
+use std::alloc::Global;
+
+/// The keys that may stand once in a group.
+const GROUP_KEYS: [&[u8]; 15] = [
+    b"type",
+    b"dim",
+    b"height",
+    b"width",
+    b"delay",
+    b"defaultdelaytime",
+    b"border",
+    b"initialvalue",
+    b"initialmapvalue",
+    b"initialcellsvalue",
+    b"localtransition",
+    b"statevariables",
+    b"statevalues",
+    b"neighborports",
+    b"portvalues",
+];
+
+/// The keys that may stand once in a section of components.
+const COUPLED_KEYS: [&[u8]; 1] = [b"type"];
+
+/// The least refusal of all these sections.
+pub(crate) fn of_sections(
+    alloc: Global,
+    sections: &[&Section],
+) -> Result<Option<Refused>, OutOfMemory>
+    ensures { IfOk result (λ why. option_map refusal_of why ≡ L.least (flat_map K.of_section (map (λ r. section_of r.now) sections.now))) }
+{
+    let mut first = None;
+    for section in sections {
+        first = least(first, of_section(alloc, section)?);
+    }
+    Ok(first)
+}
+
+/// The least refusal of the keys of one section.
+fn of_section(alloc: Global, section: &Section) -> Result<Option<Refused>, OutOfMemory>
+    ensures { IfOk result (λ why. option_map refusal_of why ≡ L.least (K.of_section (section_of section.now))) }
+{
+    let keys = keys_again(alloc, section)?;
+    let inputs = repeated(alloc, section, b"in")?;
+    let outputs = repeated(alloc, section, b"out")?;
+    let values = of_values(alloc, section)?;
+    Ok(least(least(least(keys, inputs), outputs), values))
+}
+
+/// The least key that stands again and may not.
+fn keys_again(alloc: Global, section: &Section) -> Result<Option<Refused>, OutOfMemory>
+    ensures { IfOk result (λ why. option_map refusal_of why ≡ L.least (K.again (K.section_keys (section_of section.now)) [] section.now.entries.items)) }
+{
+    if is_group(section) {
+        again(alloc, &GROUP_KEYS, &section.entries)
+    } else {
+        again(alloc, &COUPLED_KEYS, &section.entries)
+    }
+}
+
+/// The least refusal of the values.
+fn of_values(alloc: Global, section: &Section) -> Result<Option<Refused>, OutOfMemory>
+    ensures { IfOk result (λ why. option_map refusal_of why ≡ L.least (if W.is_group (section_of section.now) then K.of_group (section_of section.now) else K.off_form (K.forms (section_of section.now)) section.now.entries.items)) }
+{
+    if is_group(section) {
+        of_group(alloc, section)
+    } else {
+        off_forms(alloc, &PLAIN_FORMS, section)
+    }
+}
