@@ -1,0 +1,8 @@
+mod Gathered
+mod Marked
+mod Picked
+mod Runs
+mod Reached
+mod Bags
+mod Steps
+mod Halves

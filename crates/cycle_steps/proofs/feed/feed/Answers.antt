@@ -1,0 +1,19 @@
+use Rattle.std.proofs.Common.{◌++◌, ◌∙◌, map, ap}
+use Rattle.record_text.specs.Held.{x_at, out_at}
+use Rattle.route_flat.specs.declared.source.Path.{Path}
+use Rattle.cycle_steps.specs.Untimed.{y_records}
+use Rattle.cycle_steps.specs.Routed.{values_at, path_at, fed_to, out_to, fed_in, out_in}
+use Rattle.cycle_steps.proofs.Runs.{one-more}
+use Rattle.cycle_steps.proofs.feed.feed.Goals as goal
+
+pub loop-k-preserved : goal.loop-k-preserved
+loop-k-preserved g c =
+    let ps = g.R.Routing.paths c.args.routes.now in
+    let from = values_at (y_records c.args.y.now) c.args.inputs.now in
+    let ks = c.args.numbers.now in
+    record {
+      x = one-more (x_at c.args.t) (λ k. fed_to (path_at ps k).to (from (path_at ps k).from)) ks c.loop-k.k-index _ c.loop-k.x.items c.append_path.new.x.items c.loop-k-test.true c.loop-k.invariant.x
+          (c.in_ok-append_path.ensures.x ∙ ap (λ (p : Path). c.loop-k.x.items ++ map (x_at c.args.t) (fed_to p.to (from p.from))) c.path-path.ensures);
+      out = one-more (out_at c.args.t) (λ k. out_to (path_at ps k).to (from (path_at ps k).from)) ks c.loop-k.k-index _ c.loop-k.out.items c.append_path.new.out.items c.loop-k-test.true c.loop-k.invariant.out
+          (c.in_ok-append_path.ensures.out ∙ ap (λ (p : Path). c.loop-k.out.items ++ map (out_at c.args.t) (out_to p.to (from p.from))) c.path-path.ensures);
+    }

@@ -1,0 +1,18 @@
+-- What leaves give, as records with the time of their cycle.
+use Rattle.std.specs.Prelude.{◌≡◌, ℕ, ◌+◌, List, ◌++◌, map, length}
+use Rattle.run_model.specs.Cycle.{LeafState}
+use Rattle.run_model.specs.Run.{PortRecord}
+use Rattle.record_text.specs.declared.records.YRecord.{YRecord}
+use Rattle.record_text.specs.Held.{y_at}
+use Rattle.sparse_cycle.specs.Collect.{Collected}
+
+-- the lists are what leaves gave
+pub record Collects (t : ℕ) (c : Collected) (y n : List YRecord) (givers : List ℕ) (states : List LeafState) : Type 0 where
+  pub y_is : y ≡ map (y_at t) c.y
+  pub n_is : n ≡ map (y_at t) c.n
+  pub givers_is : givers ≡ c.givers
+  pub states_is : states ≡ c.leaf_states
+
+-- how many values were given
+abbrev pub values_in : Collected → ℕ
+values_in c = length c.y + length c.n

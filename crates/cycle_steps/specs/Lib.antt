@@ -1,0 +1,10 @@
+pub mod Untimed
+pub mod Gathering
+pub mod Marking
+pub mod Watching
+pub mod Routed
+pub mod Leading
+pub mod Moving
+pub mod Stepping
+pub mod Paths
+pub mod Half

@@ -1,0 +1,46 @@
+-- What the move of one leaf makes of all leaves, and what a walk over leaves comes to.
+use Rattle.std.specs.Prelude.{◌≡◌, ℕ, Option, List, [], ◌∷◌, ◌++◌, map, slice_set, ⊤}
+use Rattle.std.specs.declared.result.Result.{Result}
+use Rattle.std.specs.declared.result.Result.TheVariants.{Ok, Err}
+use Rattle.run_model.specs.Cycle.{LeafState, leaf_next, Moved, stayed, moved, stopped}
+use Rattle.run_model.specs.Run.{StateRecord, computed_of}
+use Rattle.record_text.specs.declared.records.SRecord.{SRecord}
+use Rattle.record_text.specs.Held.{s_at}
+use Rattle.sparse_cycle.specs.Walk.{Stand, Walked, halted, walked}
+use Rattle.cycle_steps.specs.declared.halt.Told.{Told}
+use Rattle.cycle_steps.specs.declared.halt.LeafStop.{LeafStop}
+use Rattle.cycle_steps.specs.declared.halt.LeafStop.TheVariants as leaf
+use Rattle.cycle_steps.specs.declared.halt.Halt.{Halt}
+use Rattle.cycle_steps.specs.declared.halt.Halt.TheVariants.{Stopped, Memory}
+
+-- ---- one leaf
+
+-- a leaf that moved: how all leaves stand then, and what is told of it
+pub record HasMoved (old new : List LeafState) (l : ℕ) (told : Told) (x : LeafState) : Type 0 where
+  pub states_are : new ≡ slice_set old l x
+  pub value_is : told.value ≡ computed_of x
+  pub next_is : told.next ≡ leaf_next x
+
+-- a leaf moves or stops; one that is asked to move doesn't stay
+abbrev pub Moves : List LeafState → List LeafState → ℕ → Moved → Result Told LeafStop → Type 0
+Moves old new l stayed (Ok told) = ⊥
+Moves old new l (moved x) (Ok told) = HasMoved old new l told x
+Moves old new l (stopped why) (Ok told) = ⊥
+Moves old new l stayed (Err (leaf.Rule stop)) = ⊥
+Moves old new l (moved x) (Err (leaf.Rule stop)) = ⊥
+Moves old new l (stopped why) (Err (leaf.Rule stop)) = stop ≡ why
+Moves old new l m (Err leaf.Memory) = ⊤
+
+-- ---- all leaves
+
+-- the leaves and the times for which they wait
+abbrev pub stand_of : List LeafState → List (Option ℕ) → Stand
+stand_of states waiting = record { leaf_states = states; waiting = waiting }
+
+-- all leaves have moved, and these are the S records; or this is the first that stops
+abbrev pub WalksTo : {U : Type 0} → ℕ → Walked → List LeafState → List (Option ℕ) → List SRecord → Result U Halt → Type 0
+WalksTo t (walked st rs) states waiting s (Ok u) = (st ≡ stand_of states waiting) × (s ≡ map (s_at t) rs)
+WalksTo t (halted l why) states waiting s (Ok u) = ⊥
+WalksTo t (walked st rs) states waiting s (Err (Stopped l stop)) = ⊥
+WalksTo t (halted l why) states waiting s (Err (Stopped k stop)) = (k ≡ l) × (stop ≡ why)
+WalksTo t w states waiting s (Err Memory) = ⊤

@@ -1,0 +1,46 @@
+-- The paths of a model, as they are numbered.
+use Rattle.std.specs.Prelude.{◌≡◌, ℕ, ◌<◌, Option, Some, None, List, length, ⊤}
+use Rattle.std.specs.List.{All, filter_map}
+use Rattle.model_tree.specs.Tree.{Word, Tree, ins_of}
+use Rattle.model_tree.specs.Pull as pull
+use Rattle.route_flat.specs.declared.source.Path.{Path}
+use Rattle.route_flat.specs.declared.source.Source.{Source}
+use Rattle.route_flat.specs.declared.source.Source.TheVariants.{Leaf, TopIn}
+use Rattle.route_flat.specs.declared.source.TargetPort.{TargetPort}
+use Rattle.route_flat.specs.declared.source.TargetPort.TheVariants as target
+use Rattle.route_flat.specs.Nets.{named}
+use Rattle.sparse_cycle.specs.Sparse as sparse
+
+-- a path to a leaf
+abbrev pub to_leaf : TargetPort → pull.Source → Option sparse.Path
+to_leaf (target.Leaf l port) s = Some (record { to = l; port = port.0; source = s })
+to_leaf (target.TopOut k) s = None
+
+-- a path to an output of top
+abbrev pub to_top : TargetPort → pull.Source → Option sparse.Path
+to_top (target.Leaf l port) s = None
+to_top (target.TopOut k) s = Some (record { to = 0; port = k; source = s })
+
+-- the paths to leaves among these
+abbrev pub leaf_paths : List Word → List Path → List sparse.Path
+leaf_paths ins ps = filter_map (λ (p : Path). to_leaf p.to (named ins p.from)) ps
+
+-- the paths to outputs of top among these
+abbrev pub top_paths : List Word → List Path → List sparse.Path
+top_paths ins ps = filter_map (λ (p : Path). to_top p.to (named ins p.from)) ps
+
+-- an input that there is
+abbrev pub IsThere : List Word → Source → Type 0
+IsThere ins (Leaf l) = ⊤
+IsThere ins (TopIn k) = k < length ins
+
+-- all paths of a model, with the inputs of top by their numbers
+pub record ArePathsOf (tree : Tree) (ps : List Path) : Type 0 where
+  pub leaves : leaf_paths (ins_of tree) ps ≡ sparse.paths tree
+  pub outputs : top_paths (ins_of tree) ps ≡ sparse.out_paths tree
+  pub inputs : All (λ (p : Path). IsThere (ins_of tree) p.from) ps
+
+-- a leaf of so many, or an output of top
+abbrev pub IsWithin : ℕ → TargetPort → Type 0
+IsWithin n (target.Leaf l port) = l < n
+IsWithin n (target.TopOut k) = ⊤

@@ -1,0 +1,33 @@
+-- One step of a walk. No public clause cites this module.
+use Rattle.std.specs.Prelude.{◌≡◌, ℕ, Option, List, [], ◌∷◌, ◌++◌, map, slice_set, ⊤}
+use Rattle.std.specs.declared.result.Result.{Result}
+use Rattle.std.specs.declared.result.Result.TheVariants.{Ok, Err}
+use Rattle.run_model.specs.Cycle.{LeafState, leaf_next, Moved, stayed, moved, stopped}
+use Rattle.run_model.specs.Run.{StateRecord, computed_of}
+use Rattle.record_text.specs.declared.records.SRecord.{SRecord}
+use Rattle.record_text.specs.Held.{s_at}
+use Rattle.cycle_steps.specs.declared.halt.LeafStop.{LeafStop}
+use Rattle.cycle_steps.specs.declared.halt.LeafStop.TheVariants as leaf
+use Rattle.cycle_steps.specs.declared.halt.Halt.{Halt}
+use Rattle.cycle_steps.specs.declared.halt.Halt.TheVariants.{Stopped, Memory}
+
+-- a leaf's state, its next time and its S record
+pub record StepsTo (t : ℕ) (old new : List LeafState) (w w' : List (Option ℕ)) (s s' : List SRecord) (l : ℕ) (x : LeafState) : Type 0 where
+  pub states_are : new ≡ slice_set old l x
+  pub waiting_are : w' ≡ slice_set w l (leaf_next x)
+  pub records_are : s' ≡ s ++ map (s_at t) (record { leaf = l; value = computed_of x; next = leaf_next x } ∷ [])
+
+-- a step by what becomes of the leaf
+abbrev pub StepsOne : {U : Type 0} → ℕ → List LeafState → List LeafState → List (Option ℕ) → List (Option ℕ) → List SRecord → List SRecord → ℕ → Moved → Result U Halt → Type 0
+StepsOne t old new w w' s s' l stayed (Ok u) = ⊥
+StepsOne t old new w w' s s' l (moved x) (Ok u) = StepsTo t old new w w' s s' l x
+StepsOne t old new w w' s s' l (stopped why) (Ok u) = ⊥
+StepsOne t old new w w' s s' l stayed (Err (Stopped k stop)) = ⊥
+StepsOne t old new w w' s s' l (moved x) (Err (Stopped k stop)) = ⊥
+StepsOne t old new w w' s s' l (stopped why) (Err (Stopped k stop)) = (k ≡ l) × (stop ≡ why)
+StepsOne t old new w w' s s' l m (Err Memory) = ⊤
+
+-- the end of a walk that a leaf's stop brings
+abbrev pub halt_of : ℕ → LeafStop → Halt
+halt_of l (leaf.Rule stop) = Stopped l stop
+halt_of l leaf.Memory = Memory

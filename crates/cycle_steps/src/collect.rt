@@ -1,0 +1,147 @@
+// The loop over the due leaves.
+ghost use Rattle.std.specs.Prelude.{◌≡◌, ◌≤◌, ◌+◌, ◌++◌, ◌∷◌, [], ℕ, Some, List, OnOk, map, length, slice_set};
+ghost use Rattle.run_model.specs.Cycle.{LeafState, leaf_next, leaf_emitted, collected_of};
+ghost use Rattle.run_model.specs.Run.{port_records};
+ghost use Rattle.record_text.specs.Held.{y_at};
+ghost use Rattle.sparse_cycle.specs.Sparse.{leaf_of};
+ghost use Rattle.sparse_cycle.specs.Collect.{CanCollect, collect_each, giver_in, y_of, n_of};
+ghost use Rattle.cycle_steps.specs.Gathering.{Collects, values_in};
+
+use atomic_face::PortNo;
+use quantity::{OutOfMemory, Time, Value};
+use record_text::YRecord;
+
+/// Leaves of which one can be asked for its output. `C` counts visits.
+pub trait Givers<C> {
+    ghost use Rattle.std.specs.Prelude.{ℕ, List};
+    ghost use Rattle.run_model.specs.Cycle.{LeafState};
+
+    /// How all leaves stand.
+    ghost states: { Self → List LeafState };
+
+    /// How many visits are counted.
+    ghost visits: { C → ℕ };
+
+    /// A due leaf gives its output, and every other leaf stays. It takes no more visits than values are given. Without
+    /// memory nothing more is known.
+    fn emit(
+        &mut self,
+        leaf: u32,
+        t: Time,
+        into: &mut Vec<(PortNo, Value)>,
+        counter: &mut C,
+    ) -> Result<(), OutOfMemory>
+        requires empty { into.old.items ≡ [] }
+        requires due { leaf_next (leaf_of (states self.old) leaf) ≡ Some t }
+        ensures given { OnOk result (into.new.items ≡ collected_of t (leaf_of (states self.old) leaf)) }
+        ensures leaves { OnOk result (states self.new
+            ≡ slice_set (states self.old) leaf (leaf_emitted t (leaf_of (states self.old) leaf))) }
+        ensures visits { visits counter.new
+            ≤ visits counter.old + length (collected_of t (leaf_of (states self.old) leaf)) };
+}
+
+/// Asks each due leaf: what they gave as Y and N records, the leaves that gave something, and how all leaves stand then.
+/// No more visits are counted than values are given, also where memory ends.
+pub fn collect<C, G: Givers<C>>(
+    leaves: &mut G,
+    due: &[u32],
+    t: Time,
+    bag: &mut Vec<(PortNo, Value)>,
+    y: &mut Vec<YRecord>,
+    n: &mut Vec<YRecord>,
+    givers: &mut Vec<u32>,
+    counter: &mut C,
+) -> Result<(), OutOfMemory>
+    requires due { CanCollect t due.now (G.states leaves.old) }
+    requires y { y.old.items ≡ [] }
+    requires n { n.old.items ≡ [] }
+    requires givers { givers.old.items ≡ [] }
+    ensures collected { OnOk result (Collects t (collect_each t due.now (G.states leaves.old))
+        y.new.items n.new.items givers.new.items (G.states leaves.new)) }
+    ensures visits { G.visits counter.new
+        ≤ G.visits counter.old + values_in (collect_each t due.now (G.states leaves.old)) }
+{
+    for leaf in due {
+        bag.clear();
+        leaves.emit(*leaf, t, bag, counter)?;
+        append_given(*leaf, t, bag, y, n)?;
+        append_giver(*leaf, bag, givers)?;
+    }
+    Ok(())
+}
+
+/// Appends what a leaf gave to the Y and the N records.
+fn append_given(
+    leaf: u32,
+    t: Time,
+    bag: &[(PortNo, Value)],
+    y: &mut Vec<YRecord>,
+    n: &mut Vec<YRecord>,
+) -> Result<(), OutOfMemory>
+    ensures y { OnOk result (y.new.items ≡ y.old.items ++ map (y_at t) (y_of (port_records (leaf, bag.now)))) }
+    ensures n { OnOk result (n.new.items ≡ n.old.items ++ map (y_at t) (n_of (port_records (leaf, bag.now)))) }
+{
+    for given in bag {
+        append_one(leaf, t, given.0, given.1, y, n)?;
+    }
+    Ok(())
+}
+
+/// Appends a value to the Y records where it stands at the port out, else to the N records.
+fn append_one(
+    leaf: u32,
+    t: Time,
+    port: PortNo,
+    value: Value,
+    y: &mut Vec<YRecord>,
+    n: &mut Vec<YRecord>,
+) -> Result<(), OutOfMemory>
+    ensures y { OnOk result (y.new.items
+        ≡ y.old.items ++ map (y_at t) (y_of (port_records (leaf, (port, value) ∷ [])))) }
+    ensures n { OnOk result (n.new.items
+        ≡ n.old.items ++ map (y_at t) (n_of (port_records (leaf, (port, value) ∷ [])))) }
+{
+    if port.0 == 0 {
+        return append_at(leaf, t, port, value, y);
+    }
+    append_at(leaf, t, port, value, n)
+}
+
+/// Appends a record, which is made here, where its parts are named.
+fn append_at(
+    leaf: u32,
+    time: Time,
+    port: PortNo,
+    value: Value,
+    into: &mut Vec<YRecord>,
+) -> Result<(), OutOfMemory>
+    ensures { OnOk result (into.new.items
+        ≡ into.old.items ++ record { time = time; leaf = leaf; port = port; value = value } ∷ []) }
+{
+    let Ok(()) = into.push(YRecord {
+        time,
+        leaf,
+        port,
+        value,
+    }) else {
+        return Err(OutOfMemory);
+    };
+    Ok(())
+}
+
+/// Appends the leaf where it gave something.
+fn append_giver(
+    leaf: u32,
+    bag: &[(PortNo, Value)],
+    givers: &mut Vec<u32>,
+) -> Result<(), OutOfMemory>
+    ensures { OnOk result (givers.new.items ≡ givers.old.items ++ giver_in leaf bag.now) }
+{
+    if bag.is_empty() {
+        return Ok(());
+    }
+    let Ok(()) = givers.push(leaf) else {
+        return Err(OutOfMemory);
+    };
+    Ok(())
+}

@@ -1,0 +1,211 @@
+// What reaches the leaves and the outputs of top.
+ghost use Rattle.std.specs.Prelude.{◌≡◌, ◌<◌, ◌≤◌, ◌++◌, ◌∷◌, [], ℕ, List, OnOk, length, map, slice_index_or};
+ghost use Rattle.std.specs.List.{All};
+ghost use Rattle.std.specs.List.Sorted.{IsNonDecreasingBy};
+ghost use Rattle.record_text.specs.declared.records.YRecord.{YRecord as AnyYRecord};
+ghost use Rattle.record_text.specs.Held.{x_at, out_at};
+ghost use Rattle.sparse_cycle.specs.Feed.{values_of_leaf};
+ghost use Rattle.cycle_steps.specs.Untimed.{y_records};
+ghost use Rattle.cycle_steps.specs.Routed.{values_at, values_of_input, fed_to, out_to, fed_in, out_in};
+
+use crate::reach::Routing;
+use atomic_face::PortNo;
+use quantity::{OutOfMemory, Time, Value};
+use record_text::{OutRecord, XRecord, YRecord};
+use route_flat::{Path, Source, TargetPort};
+
+/// Appends what these Y records, which stand by rising leaf, and these inputs bring by the paths of these numbers.
+pub fn feed<R: Routing>(
+    routes: &R,
+    numbers: &[u32],
+    t: Time,
+    y: &[YRecord],
+    inputs: &[(u16, Value)],
+    x: &mut Vec<XRecord>,
+    out: &mut Vec<OutRecord>,
+) -> Result<(), OutOfMemory>
+    requires within { All (λ k. k < length (R.paths routes.now)) numbers.now }
+    requires rise { IsNonDecreasingBy (λ (r : AnyYRecord). r.leaf) y.now }
+    ensures x { OnOk result (x.new.items ≡ x.old.items
+        ++ map (x_at t) (fed_in (values_at (y_records y.now) inputs.now) (R.paths routes.now) numbers.now)) }
+    ensures out { OnOk result (out.new.items ≡ out.old.items
+        ++ map (out_at t) (out_in (values_at (y_records y.now) inputs.now) (R.paths routes.now) numbers.now)) }
+{
+    for k in numbers {
+        let path = routes.path(*k);
+        append_path(path, t, y, inputs, x, out)?;
+    }
+    Ok(())
+}
+
+/// Appends what one path brings.
+fn append_path(
+    path: Path,
+    t: Time,
+    y: &[YRecord],
+    inputs: &[(u16, Value)],
+    x: &mut Vec<XRecord>,
+    out: &mut Vec<OutRecord>,
+) -> Result<(), OutOfMemory>
+    requires { IsNonDecreasingBy (λ (r : AnyYRecord). r.leaf) y.now }
+    ensures x { OnOk result (x.new.items
+        ≡ x.old.items ++ map (x_at t) (fed_to path.to (values_at (y_records y.now) inputs.now path.from))) }
+    ensures out { OnOk result (out.new.items
+        ≡ out.old.items ++ map (out_at t) (out_to path.to (values_at (y_records y.now) inputs.now path.from))) }
+{
+    match path.from {
+        Source::Leaf(leaf) => append_from_leaf(leaf, path.to, t, y, x, out),
+        Source::TopIn(input) => append_from_input(input, path.to, t, inputs, x, out),
+    }
+}
+
+/// Appends what a leaf's Y records bring to a port.
+fn append_from_leaf(
+    leaf: u32,
+    to: TargetPort,
+    t: Time,
+    y: &[YRecord],
+    x: &mut Vec<XRecord>,
+    out: &mut Vec<OutRecord>,
+) -> Result<(), OutOfMemory>
+    requires { IsNonDecreasingBy (λ (r : AnyYRecord). r.leaf) y.now }
+    ensures x { OnOk result (x.new.items
+        ≡ x.old.items ++ map (x_at t) (fed_to to (values_of_leaf (y_records y.now) leaf))) }
+    ensures out { OnOk result (out.new.items
+        ≡ out.old.items ++ map (out_at t) (out_to to (values_of_leaf (y_records y.now) leaf))) }
+{
+    let first = first_of(y, leaf);
+    append_run(leaf, to, t, &y[first..], x, out)
+}
+
+/// The number of Y records before those of a leaf.
+fn first_of(y: &[YRecord], leaf: u32) -> usize
+    requires { IsNonDecreasingBy (λ (r : AnyYRecord). r.leaf) y.now }
+    ensures within { result ≤ length y.now }
+    ensures before { (k : ℕ) (d : AnyYRecord) → k < result → (slice_index_or y.now k d).leaf < leaf }
+    ensures above { (k : ℕ) (d : AnyYRecord) → result ≤ k → k < length y.now
+        → leaf ≤ (slice_index_or y.now k d).leaf }
+{
+    y.partition_point(|r| r.leaf < leaf)
+}
+
+/// Appends what a leaf's Y records bring, which stand in front.
+fn append_run(
+    leaf: u32,
+    to: TargetPort,
+    t: Time,
+    rest: &[YRecord],
+    x: &mut Vec<XRecord>,
+    out: &mut Vec<OutRecord>,
+) -> Result<(), OutOfMemory>
+    requires rise { IsNonDecreasingBy (λ (r : AnyYRecord). r.leaf) rest.now }
+    requires above { All (λ (r : AnyYRecord). leaf ≤ r.leaf) rest.now }
+    ensures x { OnOk result (x.new.items
+        ≡ x.old.items ++ map (x_at t) (fed_to to (values_of_leaf (y_records rest.now) leaf))) }
+    ensures out { OnOk result (out.new.items
+        ≡ out.old.items ++ map (out_at t) (out_to to (values_of_leaf (y_records rest.now) leaf))) }
+{
+    for r in rest {
+        if r.leaf != leaf {
+            return Ok(());
+        }
+        append_value(to, t, r.value, x, out)?;
+    }
+    Ok(())
+}
+
+/// Appends what an input of top brings to a port.
+fn append_from_input(
+    input: u16,
+    to: TargetPort,
+    t: Time,
+    inputs: &[(u16, Value)],
+    x: &mut Vec<XRecord>,
+    out: &mut Vec<OutRecord>,
+) -> Result<(), OutOfMemory>
+    ensures x { OnOk result (x.new.items
+        ≡ x.old.items ++ map (x_at t) (fed_to to (values_of_input inputs.now input))) }
+    ensures out { OnOk result (out.new.items
+        ≡ out.old.items ++ map (out_at t) (out_to to (values_of_input inputs.now input))) }
+{
+    for e in inputs {
+        append_if_from(input, to, t, e.0, e.1, x, out)?;
+    }
+    Ok(())
+}
+
+/// Appends a value where it stands at this input.
+fn append_if_from(
+    input: u16,
+    to: TargetPort,
+    t: Time,
+    at: u16,
+    value: Value,
+    x: &mut Vec<XRecord>,
+    out: &mut Vec<OutRecord>,
+) -> Result<(), OutOfMemory>
+    ensures x { OnOk result (x.new.items
+        ≡ x.old.items ++ map (x_at t) (fed_to to (values_of_input ((at, value) ∷ []) input))) }
+    ensures out { OnOk result (out.new.items
+        ≡ out.old.items ++ map (out_at t) (out_to to (values_of_input ((at, value) ∷ []) input))) }
+{
+    if at == input {
+        return append_value(to, t, value, x, out);
+    }
+    Ok(())
+}
+
+/// Appends one value to the X records or to the outputs.
+fn append_value(
+    to: TargetPort,
+    t: Time,
+    value: Value,
+    x: &mut Vec<XRecord>,
+    out: &mut Vec<OutRecord>,
+) -> Result<(), OutOfMemory>
+    ensures x { OnOk result (x.new.items ≡ x.old.items ++ map (x_at t) (fed_to to (value ∷ []))) }
+    ensures out { OnOk result (out.new.items ≡ out.old.items ++ map (out_at t) (out_to to (value ∷ []))) }
+{
+    match to {
+        TargetPort::Leaf(leaf, port) => append_x(t, leaf, port, value, x),
+        TargetPort::TopOut(port) => append_out(t, port, value, out),
+    }
+}
+
+/// Appends an X record.
+fn append_x(
+    time: Time,
+    leaf: u32,
+    port: PortNo,
+    value: Value,
+    x: &mut Vec<XRecord>,
+) -> Result<(), OutOfMemory>
+    ensures { OnOk result (x.new.items
+        ≡ x.old.items ++ record { time = time; leaf = leaf; port = port; value = value } ∷ []) }
+{
+    let Ok(()) = x.push(XRecord {
+        time,
+        leaf,
+        port,
+        value,
+    }) else {
+        return Err(OutOfMemory);
+    };
+    Ok(())
+}
+
+/// Appends a record of an output of top.
+fn append_out(
+    time: Time,
+    port: u16,
+    value: Value,
+    out: &mut Vec<OutRecord>,
+) -> Result<(), OutOfMemory>
+    ensures { OnOk result (out.new.items
+        ≡ out.old.items ++ record { time = time; port = port; value = value } ∷ []) }
+{
+    let Ok(()) = out.push(OutRecord { time, port, value }) else {
+        return Err(OutOfMemory);
+    };
+    Ok(())
+}

@@ -1,0 +1,28 @@
+// What a leaf tells when it moves, and why a walk ends early.
+use quantity::{Time, Value};
+use rule_tree::RuleStop;
+
+/// What is told of a leaf that moved: its computed value, where it is a cell, and its next time.
+#[derive(Clone, Copy, PartialEq, Eq, Debug)]
+pub struct Told {
+    pub value: Option<Value>,
+    pub next: Option<Time>,
+}
+
+/// Why a leaf doesn't move.
+#[derive(Clone, Copy, PartialEq, Eq, Debug)]
+pub enum LeafStop {
+    /// A rule of a cell, or a box, has no value.
+    Rule(RuleStop),
+    /// There is no memory.
+    Memory,
+}
+
+/// Why a walk ended early.
+#[derive(Clone, Copy, PartialEq, Eq, Debug)]
+pub enum Halt {
+    /// The leaf of this number doesn't move.
+    Stopped(u32, RuleStop),
+    /// There is no memory.
+    Memory,
+}

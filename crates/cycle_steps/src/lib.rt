@@ -1,0 +1,12 @@
+//! The loops of one cycle, over any leaves of which one at a time can be asked.
+#![tactic(auto)]
+
+pub mod bag;
+pub mod collect;
+pub mod feed;
+pub mod half;
+pub mod halt;
+pub mod reach;
+pub mod room;
+pub mod wake;
+pub mod walk;

@@ -1,0 +1,85 @@
+// Which paths bring something.
+ghost use Rattle.std.specs.Prelude.{◌≡◌, ◌<◌, ◌||◌, [], ℕ, Bool, List, OnOk, length};
+ghost use Rattle.std.specs.List.{list_any};
+ghost use Rattle.quantity.specs.declared.value.Value.{Value as AnyValue};
+ghost use Rattle.run_model.specs.Run.{PortRecord};
+ghost use Rattle.sparse_cycle.specs.Collect.{is_among};
+ghost use Rattle.route_flat.specs.declared.source.Source.TheVariants.{Leaf, TopIn};
+ghost use Rattle.cycle_steps.specs.Untimed.{y_records};
+ghost use Rattle.cycle_steps.specs.Routed.{is_from, numbers, reaches};
+ghost use Rattle.cycle_steps.specs.Leading.{leads_from_leaf, leads_from_top};
+
+use quantity::{OutOfMemory, Value};
+use record_text::YRecord;
+use route_flat::Path;
+
+/// Numbered paths, which are found by their sources.
+pub trait Routing {
+    ghost use Rattle.std.specs.Prelude.{List};
+    ghost use Rattle.route_flat.specs.declared.source.Path.{Path as AnyPath};
+    ghost use Rattle.route_flat.specs.declared.source.Source.TheVariants.{Leaf, TopIn};
+    ghost use Rattle.cycle_steps.specs.Routed.{is_from, numbers, path_at};
+
+    /// The paths by their numbers.
+    ghost paths: { Self → List AnyPath };
+
+    /// The path of a number.
+    fn path(&self, number: u32) -> Path
+        requires { number < length (paths self.now) }
+        ensures { result ≡ path_at (paths self.now) number };
+
+    /// The numbers of the paths that begin at a leaf, rising.
+    fn from_leaf(&self, leaf: u32) -> &[u32]
+        ensures { result.now ≡ numbers (is_from (Leaf leaf)) (paths self.now) };
+
+    /// The numbers of the paths that begin at an input of top, rising.
+    fn from_top(&self, input: u16) -> &[u32]
+        ensures { result.now ≡ numbers (is_from (TopIn input)) (paths self.now) };
+}
+
+/// Puts the rising numbers of the paths at whose source a Y record or an input stands into an empty list.
+pub fn reach<R: Routing>(
+    routes: &R,
+    y: &[YRecord],
+    inputs: &[(u16, Value)],
+    into: &mut Vec<u32>,
+) -> Result<(), OutOfMemory>
+    requires { into.old.items ≡ [] }
+    ensures { OnOk result (into.new.items ≡ numbers (reaches (y_records y.now) inputs.now) (R.paths routes.now)) }
+{
+    reach_from_leaves(routes, y, into)?;
+    reach_from_tops(routes, inputs, into)?;
+    into.sort_unstable();
+    into.dedup();
+    Ok(())
+}
+
+/// Appends the numbers of the paths that begin where a Y record stands.
+fn reach_from_leaves<R: Routing>(
+    routes: &R,
+    y: &[YRecord],
+    into: &mut Vec<u32>,
+) -> Result<(), OutOfMemory>
+    ensures { OnOk result ((k : ℕ) → is_among into.new.items k
+        ≡ (is_among into.old.items k || list_any (leads_from_leaf (R.paths routes.now) k) (y_records y.now))) }
+{
+    for r in y {
+        into.extend_from_slice(routes.from_leaf(r.leaf))?;
+    }
+    Ok(())
+}
+
+/// Appends the numbers of the paths that begin where an input stands.
+fn reach_from_tops<R: Routing>(
+    routes: &R,
+    inputs: &[(u16, Value)],
+    into: &mut Vec<u32>,
+) -> Result<(), OutOfMemory>
+    ensures { OnOk result ((k : ℕ) → is_among into.new.items k
+        ≡ (is_among into.old.items k || list_any (leads_from_top (R.paths routes.now) k) inputs.now)) }
+{
+    for e in inputs {
+        into.extend_from_slice(routes.from_top(e.0))?;
+    }
+    Ok(())
+}

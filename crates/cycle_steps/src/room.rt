@@ -1,0 +1,44 @@
+// Lists that each cycle uses again.
+ghost use Rattle.std.specs.Prelude.{◌≡◌, []};
+
+use atomic_face::PortNo;
+use quantity::Value;
+use std::alloc::Global;
+
+/// Lists that each cycle uses again, so that it takes no memory where an earlier one has had as much.
+#[derive(Drop)]
+pub struct Room {
+    /// What one leaf gave, or what reaches it.
+    pub bag: Vec<(PortNo, Value)>,
+    /// The leaves that gave something.
+    pub givers: Vec<u32>,
+    /// The leaves that watch one leaf.
+    pub near: Vec<u32>,
+    /// The numbers of the paths that bring something.
+    pub numbers: Vec<u32>,
+}
+
+impl Room {
+    /// Empty lists.
+    pub fn none(alloc: Global) -> Room {
+        Room {
+            bag: Vec::new(alloc),
+            givers: Vec::new(alloc),
+            near: Vec::new(alloc),
+            numbers: Vec::new(alloc),
+        }
+    }
+
+    /// Empties all lists.
+    pub fn clear(&mut self)
+        ensures bag { self.new.bag.items ≡ [] }
+        ensures givers { self.new.givers.items ≡ [] }
+        ensures near { self.new.near.items ≡ [] }
+        ensures numbers { self.new.numbers.items ≡ [] }
+    {
+        self.bag.clear();
+        self.givers.clear();
+        self.near.clear();
+        self.numbers.clear();
+    }
+}

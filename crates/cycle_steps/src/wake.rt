@@ -1,0 +1,96 @@
+// Who is woken by those that gave, and who is touched.
+ghost use Rattle.std.specs.Prelude.{◌≡◌, ◌<◌, ◌≤◌, [], ℕ, Bool, false, List, OnOk, length, replicate};
+ghost use Rattle.std.specs.List.{All};
+ghost use Rattle.std.specs.Vec.{vec_capacity};
+ghost use Rattle.record_text.specs.declared.records.XRecord.{XRecord as AnyXRecord};
+ghost use Rattle.leaf_set.specs.Members.{is_in};
+ghost use Rattle.sparse_cycle.specs.Collect.{is_among};
+ghost use Rattle.sparse_cycle.specs.Wake.{is_fed, reached};
+ghost use Rattle.cycle_steps.specs.Untimed.{x_records};
+ghost use Rattle.cycle_steps.specs.Marking.{Marks};
+ghost use Rattle.cycle_steps.specs.Watching.{watches_any};
+
+use leaf_set::LeafSet;
+use quantity::OutOfMemory;
+use record_text::XRecord;
+
+/// Leaves of which each knows who watches it.
+pub trait Watched {
+    ghost use Rattle.std.specs.Prelude.{ℕ, Bool};
+
+    /// How many leaves there are.
+    ghost count: { Self → ℕ };
+
+    /// Whether the first leaf watches the second.
+    ghost watches: { Self → ℕ → ℕ → Bool };
+
+    /// Puts the leaves that watch a leaf into an empty list, in any order.
+    fn watchers_of(&self, leaf: u32, into: &mut Vec<u32>) -> Result<(), OutOfMemory>
+        requires empty { into.old.items ≡ [] }
+        ensures within { OnOk result (All (λ k. k < count self.now) into.new.items) }
+        ensures watch { OnOk result ((k : ℕ) → is_among into.new.items k ≡ watches self.now k leaf) };
+}
+
+/// All of these leaves are in as well.
+pub fn mark_all<S: LeafSet>(set: &mut S, leaves: &[u32])
+    requires within { All (λ l. l < length (S.members set.old)) leaves.now }
+    ensures long { length (S.members set.new) ≡ length (S.members set.old) }
+    ensures marked { Marks (is_among leaves.now) (S.members set.old) (S.members set.new) }
+{
+    for leaf in leaves {
+        set.insert(*leaf);
+    }
+}
+
+/// Marks the leaves that watch a giver, in both sets.
+pub fn wake<W: Watched, S: LeafSet>(
+    watched: &W,
+    givers: &[u32],
+    near: &mut Vec<u32>,
+    woken: &mut S,
+    touched: &mut S,
+) -> Result<(), OutOfMemory>
+    requires woken { length (S.members woken.old) ≡ W.count watched.now }
+    requires touched { length (S.members touched.old) ≡ W.count watched.now }
+    ensures long { OnOk result (length (S.members woken.new) ≡ length (S.members woken.old)) }
+    ensures touched_long { OnOk result (length (S.members touched.new) ≡ length (S.members touched.old)) }
+    ensures woken { OnOk result (Marks (watches_any (W.watches watched.now) givers.now)
+        (S.members woken.old) (S.members woken.new)) }
+    ensures touched { OnOk result (Marks (watches_any (W.watches watched.now) givers.now)
+        (S.members touched.old) (S.members touched.new)) }
+{
+    for leaf in givers {
+        near.clear();
+        watched.watchers_of(*leaf, near)?;
+        mark_all(woken, near);
+        mark_all(touched, near);
+    }
+    Ok(())
+}
+
+/// Takes the leaves that are marked, due or fed, rising. None is marked then.
+pub fn touch<S: LeafSet>(touched: &mut S, due: &[u32], fed: &[XRecord], into: &mut Vec<u32>)
+    requires due { All (λ l. l < length (S.members touched.old)) due.now }
+    requires fed { All (λ (r : AnyXRecord). r.leaf < length (S.members touched.old)) fed.now }
+    requires empty { into.old.items ≡ [] }
+    requires room { length (S.members touched.old) ≤ vec_capacity into.old }
+    ensures taken { into.new.items ≡ reached (is_in (S.members touched.old)) (length (S.members touched.old))
+        due.now (x_records fed.now) }
+    ensures left { S.members touched.new ≡ replicate (length (S.members touched.old)) false }
+    ensures capacity { vec_capacity into.new ≡ vec_capacity into.old }
+{
+    mark_all(touched, due);
+    mark_fed(touched, fed);
+    touched.take_all(into);
+}
+
+/// The leaves of these records are in as well.
+fn mark_fed<S: LeafSet>(set: &mut S, fed: &[XRecord])
+    requires within { All (λ (r : AnyXRecord). r.leaf < length (S.members set.old)) fed.now }
+    ensures long { length (S.members set.new) ≡ length (S.members set.old) }
+    ensures marked { Marks (is_fed (x_records fed.now)) (S.members set.old) (S.members set.new) }
+{
+    for r in fed {
+        set.insert(r.leaf);
+    }
+}

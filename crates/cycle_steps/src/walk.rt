@@ -1,0 +1,212 @@
+// The loop over the touched leaves.
+ghost use Rattle.std.specs.Prelude.{◌≡◌, ◌<◌, ◌≤◌, ◌+◌, ◌++◌, ◌∷◌, ℕ, List, [], OnOk, length, slice_get, slice_set};
+ghost use Rattle.std.specs.List.{All, sum_by};
+ghost use Rattle.std.specs.List.Sorted.{IsNonDecreasingBy};
+ghost use Rattle.model_tree.specs.Tree.{Tree as AnyTree, leaves};
+ghost use Rattle.run_model.specs.Run.{PortRecord};
+ghost use Rattle.record_text.specs.declared.records.XRecord.{XRecord as AnyXRecord};
+ghost use Rattle.leaf_set.specs.Members.{is_in};
+ghost use Rattle.sparse_cycle.specs.Sparse.{is_woken_at, move_at};
+ghost use Rattle.sparse_cycle.specs.Walk as reference;
+ghost use Rattle.cycle_steps.specs.Untimed.{x_records};
+ghost use Rattle.cycle_steps.specs.Moving.{stand_of, WalksTo};
+ghost use Rattle.cycle_steps.specs.Stepping.{StepsOne, halt_of};
+
+use crate::bag::bag_at;
+use crate::halt::{Halt, LeafStop, Told};
+use atomic_face::PortNo;
+use leaf_set::LeafSet;
+use quantity::{OutOfMemory, Time, Value};
+use record_text::{SRecord, XRecord};
+use time_queue::TimeQueue;
+
+/// Leaves of which one can be moved. `C` counts visits.
+pub trait Movers<C> {
+    ghost use Rattle.std.specs.Prelude.{◌≡◌, ◌<◌, ◌≤◌, ◌+◌, ℕ, List, OnOk, length, slice_get};
+    ghost use Rattle.std.specs.List.{All};
+    ghost use Rattle.quantity.specs.declared.value.Value.{Value as AnyValue};
+    ghost use Rattle.atomic_face.specs.declared.class.PortNo.{PortNo as AnyPort};
+    ghost use Rattle.model_tree.specs.Tree.{Tree, leaves};
+    ghost use Rattle.run_model.specs.Cycle.{LeafState};
+    ghost use Rattle.sparse_cycle.specs.Sparse.{leaf_of, move_to};
+    ghost use Rattle.cycle_steps.specs.Moving.{Moves};
+
+    /// How all leaves stand.
+    ghost states: { Self → List LeafState };
+
+    /// Whether they are the leaves of a model.
+    ghost stands_for: { Self → Tree → Type 0 };
+
+    /// How many input ports a leaf has.
+    ghost ports: { Self → ℕ → ℕ };
+
+    /// How many visits a leaf's move takes at most.
+    ghost most: { Self → ℕ → ℕ };
+
+    /// How many visits are counted.
+    ghost visits: { C → ℕ };
+
+    /// A leaf after its emission moves over the states as they stand. Without memory, and after a stop, nothing more is
+    /// known of the leaves.
+    fn advance(
+        &mut self,
+        leaf: u32,
+        t: Time,
+        woken: bool,
+        bag: &[(PortNo, Value)],
+        counter: &mut C,
+    ) -> Result<Told, LeafStop>
+        requires within { leaf < length (states self.old) }
+        requires time { t ≤ 359999999 }
+        requires ports { All (λ (o : AnyPort × AnyValue). o.0.0 < ports self.old leaf) bag.now }
+        ensures moves { (tree : Tree) → stands_for self.old tree → Moves (states self.old) (states self.new) leaf
+            (move_to t (states self.old) woken bag.now (slice_get (leaves tree) leaf) (leaf_of (states self.old) leaf))
+            result }
+        ensures stands { (tree : Tree) → stands_for self.old tree → OnOk result (stands_for self.new tree) }
+        ensures long { OnOk result (length (states self.new) ≡ length (states self.old)) }
+        ensures ports { OnOk result (ports self.new ≡ ports self.old) }
+        ensures most { OnOk result (most self.new ≡ most self.old) }
+        ensures visits { visits counter.new ≤ visits counter.old + most self.old leaf };
+}
+
+/// Moves all touched leaves, each by its bag of the X records, which stand by rising leaf, and with its next time in the
+/// queue: the S records. It takes no more visits than the moves of these leaves, also where one stops or memory ends.
+pub fn walk<C, Q: TimeQueue, S: LeafSet, M: Movers<C>>(
+    movers: &mut M,
+    queue: &mut Q,
+    woken: &S,
+    x: &[XRecord],
+    touched: &[u32],
+    t: Time,
+    bag: &mut Vec<(PortNo, Value)>,
+    s: &mut Vec<SRecord>,
+    counter: &mut C,
+) -> Result<(), Halt>
+    requires time { t ≤ 359999999 }
+    requires touched { All (λ l. l < length (M.states movers.old)) touched.now }
+    requires waiting { length (Q.waiting queue.old) ≡ length (M.states movers.old) }
+    requires woken { length (S.members woken.now) ≡ length (M.states movers.old) }
+    requires rise { IsNonDecreasingBy (λ (r : AnyXRecord). r.leaf) x.now }
+    requires ports { All (λ (r : AnyXRecord). r.port.0 < M.ports movers.old r.leaf) x.now }
+    requires empty { s.old.items ≡ [] }
+    // For every model whose leaves these are, and all that was given in the cycle.
+    ensures walks { (tree : AnyTree) (given : List PortRecord) → M.stands_for movers.old tree
+        → ((k : ℕ) → is_in (S.members woken.now) k ≡ is_woken_at given (slice_get (leaves tree) k))
+        → WalksTo t (reference.walk tree t given (x_records x.now) touched.now
+        (stand_of (M.states movers.old) (Q.waiting queue.old)))
+        (M.states movers.new) (Q.waiting queue.new) s.new.items result }
+    ensures stands { (tree : AnyTree) → M.stands_for movers.old tree → OnOk result (M.stands_for movers.new tree) }
+    ensures visits { M.visits counter.new ≤ M.visits counter.old + sum_by (M.most movers.old) touched.now }
+{
+    for leaf in touched {
+        match step(movers, queue, woken, x, *leaf, t, bag, s, counter) {
+            Ok(()) => {}
+            Err(halt) => return Err(halt),
+        }
+    }
+    Ok(())
+}
+
+/// Moves one leaf.
+fn step<C, Q: TimeQueue, S: LeafSet, M: Movers<C>>(
+    movers: &mut M,
+    queue: &mut Q,
+    woken: &S,
+    x: &[XRecord],
+    leaf: u32,
+    t: Time,
+    bag: &mut Vec<(PortNo, Value)>,
+    s: &mut Vec<SRecord>,
+    counter: &mut C,
+) -> Result<(), Halt>
+    requires time { t ≤ 359999999 }
+    requires within { leaf < length (M.states movers.old) }
+    requires waiting { leaf < length (Q.waiting queue.old) }
+    requires woken { leaf < length (S.members woken.now) }
+    requires rise { IsNonDecreasingBy (λ (r : AnyXRecord). r.leaf) x.now }
+    requires ports { All (λ (r : AnyXRecord). r.port.0 < M.ports movers.old r.leaf) x.now }
+    ensures steps { (tree : AnyTree) (given : List PortRecord) → M.stands_for movers.old tree
+        → is_in (S.members woken.now) leaf ≡ is_woken_at given (slice_get (leaves tree) leaf)
+        → StepsOne t (M.states movers.old) (M.states movers.new) (Q.waiting queue.old) (Q.waiting queue.new)
+        s.old.items s.new.items leaf (move_at tree t (M.states movers.old) given (x_records x.now) leaf) result }
+    ensures stands { (tree : AnyTree) → M.stands_for movers.old tree → OnOk result (M.stands_for movers.new tree) }
+    ensures long { OnOk result (length (M.states movers.new) ≡ length (M.states movers.old)) }
+    ensures waiting { OnOk result (length (Q.waiting queue.new) ≡ length (Q.waiting queue.old)) }
+    ensures ports { OnOk result (M.ports movers.new ≡ M.ports movers.old) }
+    ensures most { OnOk result (M.most movers.new ≡ M.most movers.old) }
+    ensures visits { M.visits counter.new ≤ M.visits counter.old + M.most movers.old leaf }
+{
+    bag.clear();
+    let Ok(()) = bag_at(x, leaf, bag) else {
+        return Err(Halt::Memory);
+    };
+    match movers.advance(leaf, t, woken.has(leaf), bag, counter) {
+        Ok(told) => {
+            let Ok(()) = note(queue, leaf, t, told, s) else {
+                return Err(Halt::Memory);
+            };
+            Ok(())
+        }
+        Err(why) => Err(halt_at(leaf, why)),
+    }
+}
+
+/// Sets a leaf's next time, and appends its S record.
+fn note<Q: TimeQueue>(
+    queue: &mut Q,
+    leaf: u32,
+    t: Time,
+    told: Told,
+    s: &mut Vec<SRecord>,
+) -> Result<(), OutOfMemory>
+    requires { leaf < length (Q.waiting queue.old) }
+    ensures waiting { Q.waiting queue.new ≡ slice_set (Q.waiting queue.old) leaf told.next }
+    ensures record { OnOk result (s.new.items ≡ s.old.items
+        ++ record { time = t; leaf = leaf; value = told.value; next = told.next } ∷ []) }
+{
+    set_next(queue, leaf, told.next);
+    append_s(t, leaf, told.value, told.next, s)
+}
+
+/// A leaf waits for its next time, or for none.
+fn set_next<Q: TimeQueue>(queue: &mut Q, leaf: u32, next: Option<Time>)
+    requires { leaf < length (Q.waiting queue.old) }
+    ensures { Q.waiting queue.new ≡ slice_set (Q.waiting queue.old) leaf next }
+{
+    match next {
+        Some(at) => queue.set(leaf, at),
+        None => queue.clear(leaf),
+    }
+}
+
+/// Appends an S record.
+fn append_s(
+    time: Time,
+    leaf: u32,
+    value: Option<Value>,
+    next: Option<Time>,
+    s: &mut Vec<SRecord>,
+) -> Result<(), OutOfMemory>
+    ensures { OnOk result (s.new.items ≡ s.old.items
+        ++ record { time = time; leaf = leaf; value = value; next = next } ∷ []) }
+{
+    let Ok(()) = s.push(SRecord {
+        time,
+        leaf,
+        value,
+        next,
+    }) else {
+        return Err(OutOfMemory);
+    };
+    Ok(())
+}
+
+/// The end of the walk that a leaf's stop brings.
+fn halt_at(leaf: u32, why: LeafStop) -> Halt
+    ensures { result ≡ halt_of leaf why }
+{
+    match why {
+        LeafStop::Rule(stop) => Halt::Stopped(leaf, stop),
+        LeafStop::Memory => Halt::Memory,
+    }
+}
