@@ -1,48 +1,21 @@
 // The loop over the due leaves.
 ghost use Rattle.std.specs.Prelude.{◌≡◌, ◌≤◌, ◌+◌, ◌++◌, ◌∷◌, [], ℕ, Some, List, OnOk, map, length, slice_set};
 ghost use Rattle.run_model.specs.Cycle.{LeafState, leaf_next, leaf_emitted, collected_of};
+ghost use Rattle.model_tree.specs.Tree.{Tree as AnyTree};
 ghost use Rattle.run_model.specs.Run.{port_records};
 ghost use Rattle.record_text.specs.Held.{y_at};
 ghost use Rattle.sparse_cycle.specs.Sparse.{leaf_of};
 ghost use Rattle.sparse_cycle.specs.Collect.{CanCollect, collect_each, giver_in, y_of, n_of};
 ghost use Rattle.cycle_steps.specs.Gathering.{Collects, values_in};
 
+use crate::leaves::Leaves;
 use atomic_face::PortNo;
 use quantity::{OutOfMemory, Time, Value};
 use record_text::YRecord;
 
-/// Leaves of which one can be asked for its output. `C` counts visits.
-pub trait Givers<C> {
-    ghost use Rattle.std.specs.Prelude.{ℕ, List};
-    ghost use Rattle.run_model.specs.Cycle.{LeafState};
-
-    /// How all leaves stand.
-    ghost states: { Self → List LeafState };
-
-    /// How many visits are counted.
-    ghost visits: { C → ℕ };
-
-    /// A due leaf gives its output, and every other leaf stays. It takes no more visits than values are given. Without
-    /// memory nothing more is known.
-    fn emit(
-        &mut self,
-        leaf: u32,
-        t: Time,
-        into: &mut Vec<(PortNo, Value)>,
-        counter: &mut C,
-    ) -> Result<(), OutOfMemory>
-        requires empty { into.old.items ≡ [] }
-        requires due { leaf_next (leaf_of (states self.old) leaf) ≡ Some t }
-        ensures given { OnOk result (into.new.items ≡ collected_of t (leaf_of (states self.old) leaf)) }
-        ensures leaves { OnOk result (states self.new
-            ≡ slice_set (states self.old) leaf (leaf_emitted t (leaf_of (states self.old) leaf))) }
-        ensures visits { visits counter.new
-            ≤ visits counter.old + length (collected_of t (leaf_of (states self.old) leaf)) };
-}
-
 /// Asks each due leaf: what they gave as Y and N records, the leaves that gave something, and how all leaves stand then.
 /// No more visits are counted than values are given, also where memory ends.
-pub fn collect<C, G: Givers<C>>(
+pub fn collect<C, G: Leaves<C>>(
     leaves: &mut G,
     due: &[u32],
     t: Time,
@@ -58,6 +31,9 @@ pub fn collect<C, G: Givers<C>>(
     requires givers { givers.old.items ≡ [] }
     ensures collected { OnOk result (Collects t (collect_each t due.now (G.states leaves.old))
         y.new.items n.new.items givers.new.items (G.states leaves.new)) }
+    ensures stands { (tree : AnyTree) → G.stands_for leaves.old tree → OnOk result (G.stands_for leaves.new tree) }
+    ensures ports { OnOk result (G.ports leaves.new ≡ G.ports leaves.old) }
+    ensures most { OnOk result (G.most leaves.new ≡ G.most leaves.old) }
     ensures visits { G.visits counter.new
         ≤ G.visits counter.old + values_in (collect_each t due.now (G.states leaves.old)) }
 {

@@ -18,8 +18,9 @@ ghost use Rattle.cycle_steps.specs.Routed.{numbers, reaches, values_at, fed_in, 
 ghost use Rattle.cycle_steps.specs.Paths.{IsWithin};
 ghost use Rattle.cycle_steps.specs.Half.{due_give, IsRunOf, HalfOf};
 
-use crate::collect::{Givers, collect};
+use crate::collect::collect;
 use crate::feed::feed;
+use crate::leaves::Leaves;
 use crate::reach::{Routing, reach};
 use crate::room::Room;
 use crate::wake::{Watched, touch, wake};
@@ -30,7 +31,7 @@ use record_text::{OutRecord, Records, XRecord, YRecord};
 
 /// All that comes before the leaves move: for each model and state of a run that stands so, the parts of its cycle. The
 /// woken leaves are marked then. It takes no more visits than values are given, also where memory ends.
-pub fn first_half<C, G: Givers<C>, W: Watched, R: Routing, S: LeafSet>(
+pub fn first_half<C, G: Leaves<C>, W: Watched, R: Routing, S: LeafSet>(
     givers: &mut G,
     watched: &W,
     routes: &R,
@@ -62,6 +63,9 @@ pub fn first_half<C, G: Givers<C>, W: Watched, R: Routing, S: LeafSet>(
     ensures at_rest { OnOk result (S.members touched.new ≡ replicate (W.count watched.now) false) }
     ensures s { records.new.s.items ≡ [] }
     ensures capacity { vec_capacity moving.new ≡ vec_capacity moving.old }
+    ensures stands { (tree : Tree) → G.stands_for givers.old tree → OnOk result (G.stands_for givers.new tree) }
+    ensures ports { OnOk result (G.ports givers.new ≡ G.ports givers.old) }
+    ensures most { OnOk result (G.most givers.new ≡ G.most givers.old) }
     ensures visits { G.visits counter.new ≤ G.visits counter.old + values_in (due_give t (G.states givers.old)) }
 {
     sparse_cycle::laws::leaves_give_one_after_another();
@@ -97,7 +101,7 @@ pub fn first_half<C, G: Givers<C>, W: Watched, R: Routing, S: LeafSet>(
 }
 
 /// The due leaves give, and those that watch one that gave something are marked in both sets.
-fn give_and_wake<C, G: Givers<C>, W: Watched, S: LeafSet>(
+fn give_and_wake<C, G: Leaves<C>, W: Watched, S: LeafSet>(
     givers: &mut G,
     watched: &W,
     woken: &mut S,
@@ -125,6 +129,9 @@ fn give_and_wake<C, G: Givers<C>, W: Watched, S: LeafSet>(
         ≡ watches_any (W.watches watched.now) (due_give t (G.states givers.old)).givers k) }
     ensures long { OnOk result (length (S.members woken.new) ≡ W.count watched.now) }
     ensures touched_long { OnOk result (length (S.members touched.new) ≡ W.count watched.now) }
+    ensures stands { (tree : Tree) → G.stands_for givers.old tree → OnOk result (G.stands_for givers.new tree) }
+    ensures ports { OnOk result (G.ports givers.new ≡ G.ports givers.old) }
+    ensures most { OnOk result (G.most givers.new ≡ G.most givers.old) }
     ensures visits { G.visits counter.new ≤ G.visits counter.old + values_in (due_give t (G.states givers.old)) }
 {
     sparse_cycle::laws::leaves_give_one_after_another();

@@ -6,6 +6,7 @@ pub mod collect;
 pub mod feed;
 pub mod half;
 pub mod halt;
+pub mod leaves;
 pub mod reach;
 pub mod room;
 pub mod wake;

@@ -14,64 +14,16 @@ ghost use Rattle.cycle_steps.specs.Stepping.{StepsOne, halt_of};
 
 use crate::bag::bag_at;
 use crate::halt::{Halt, LeafStop, Told};
+use crate::leaves::Leaves;
 use atomic_face::PortNo;
 use leaf_set::LeafSet;
 use quantity::{OutOfMemory, Time, Value};
 use record_text::{SRecord, XRecord};
 use time_queue::TimeQueue;
 
-/// Leaves of which one can be moved. `C` counts visits.
-pub trait Movers<C> {
-    ghost use Rattle.std.specs.Prelude.{◌≡◌, ◌<◌, ◌≤◌, ◌+◌, ℕ, List, OnOk, length, slice_get};
-    ghost use Rattle.std.specs.List.{All};
-    ghost use Rattle.quantity.specs.declared.value.Value.{Value as AnyValue};
-    ghost use Rattle.atomic_face.specs.declared.class.PortNo.{PortNo as AnyPort};
-    ghost use Rattle.model_tree.specs.Tree.{Tree, leaves};
-    ghost use Rattle.run_model.specs.Cycle.{LeafState};
-    ghost use Rattle.sparse_cycle.specs.Sparse.{leaf_of, move_to};
-    ghost use Rattle.cycle_steps.specs.Moving.{Moves};
-
-    /// How all leaves stand.
-    ghost states: { Self → List LeafState };
-
-    /// Whether they are the leaves of a model.
-    ghost stands_for: { Self → Tree → Type 0 };
-
-    /// How many input ports a leaf has.
-    ghost ports: { Self → ℕ → ℕ };
-
-    /// How many visits a leaf's move takes at most.
-    ghost most: { Self → ℕ → ℕ };
-
-    /// How many visits are counted.
-    ghost visits: { C → ℕ };
-
-    /// A leaf after its emission moves over the states as they stand. Without memory, and after a stop, nothing more is
-    /// known of the leaves.
-    fn advance(
-        &mut self,
-        leaf: u32,
-        t: Time,
-        woken: bool,
-        bag: &[(PortNo, Value)],
-        counter: &mut C,
-    ) -> Result<Told, LeafStop>
-        requires within { leaf < length (states self.old) }
-        requires time { t ≤ 359999999 }
-        requires ports { All (λ (o : AnyPort × AnyValue). o.0.0 < ports self.old leaf) bag.now }
-        ensures moves { (tree : Tree) → stands_for self.old tree → Moves (states self.old) (states self.new) leaf
-            (move_to t (states self.old) woken bag.now (slice_get (leaves tree) leaf) (leaf_of (states self.old) leaf))
-            result }
-        ensures stands { (tree : Tree) → stands_for self.old tree → OnOk result (stands_for self.new tree) }
-        ensures long { OnOk result (length (states self.new) ≡ length (states self.old)) }
-        ensures ports { OnOk result (ports self.new ≡ ports self.old) }
-        ensures most { OnOk result (most self.new ≡ most self.old) }
-        ensures visits { visits counter.new ≤ visits counter.old + most self.old leaf };
-}
-
 /// Moves all touched leaves, each by its bag of the X records, which stand by rising leaf, and with its next time in the
 /// queue: the S records. It takes no more visits than the moves of these leaves, also where one stops or memory ends.
-pub fn walk<C, Q: TimeQueue, S: LeafSet, M: Movers<C>>(
+pub fn walk<C, Q: TimeQueue, S: LeafSet, M: Leaves<C>>(
     movers: &mut M,
     queue: &mut Q,
     woken: &S,
@@ -108,7 +60,7 @@ pub fn walk<C, Q: TimeQueue, S: LeafSet, M: Movers<C>>(
 }
 
 /// Moves one leaf.
-fn step<C, Q: TimeQueue, S: LeafSet, M: Movers<C>>(
+fn step<C, Q: TimeQueue, S: LeafSet, M: Leaves<C>>(
     movers: &mut M,
     queue: &mut Q,
     woken: &S,

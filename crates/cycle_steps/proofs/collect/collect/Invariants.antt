@@ -1,3 +1,4 @@
+use Rattle.model_tree.specs.Tree.{Tree}
 use Rattle.std.proofs.Common.{◌≡◌, ◌≤◌, ◌+◌, drop}
 use Rattle.sparse_cycle.specs.Collect.{CanCollect, collect_each}
 use Rattle.cycle_steps.specs.Gathering.{values_in}
@@ -6,7 +7,10 @@ use Rattle.cycle_steps.proofs.collect.collect.Given as goal
 
 abbrev pub invariant-loop-leaf : goal.invariant-loop-leaf
 invariant-loop-leaf g l = record {
-  can : CanCollect l.t (drop l.leaf-index l.due) (g.G.Givers.states l.leaves);
-  gathers : Gathers l.t (collect_each l.t l.due (g.G.Givers.states l.fn.leaves)) (collect_each l.t (drop l.leaf-index l.due) (g.G.Givers.states l.leaves)) l.y.items l.n.items l.givers.items;
-  visits : g.G.Givers.visits l.counter + values_in (collect_each l.t (drop l.leaf-index l.due) (g.G.Givers.states l.leaves)) ≤ g.G.Givers.visits l.fn.counter + values_in (collect_each l.t l.due (g.G.Givers.states l.fn.leaves));
+  can : CanCollect l.t (drop l.leaf-index l.due) (g.G.Leaves.states l.leaves);
+  gathers : Gathers l.t (collect_each l.t l.due (g.G.Leaves.states l.fn.leaves)) (collect_each l.t (drop l.leaf-index l.due) (g.G.Leaves.states l.leaves)) l.y.items l.n.items l.givers.items;
+  stands : (tree : Tree) → g.G.Leaves.stands_for l.fn.leaves tree → g.G.Leaves.stands_for l.leaves tree;
+  ports : g.G.Leaves.ports l.leaves ≡ g.G.Leaves.ports l.fn.leaves;
+  most : g.G.Leaves.most l.leaves ≡ g.G.Leaves.most l.fn.leaves;
+  visits : g.G.Leaves.visits l.counter + values_in (collect_each l.t (drop l.leaf-index l.due) (g.G.Leaves.states l.leaves)) ≤ g.G.Leaves.visits l.fn.counter + values_in (collect_each l.t l.due (g.G.Leaves.states l.fn.leaves));
 }

@@ -16,13 +16,13 @@ use Rattle.cycle_steps.proofs.half.first_half.Goals as goal
 
 pub route-requires-clause-rise : goal.route-requires-clause-rise
 route-requires-clause-rise g c =
-    let states = g.G.Givers.states c.args.givers.now in
+    let states = g.G.Leaves.states c.args.givers.now in
     subst (IsNonDecreasingBy (λ (r : YRecord). r.leaf)) (sym (c.deref.ensures.value ∙ c.in_ok-give_and_wake.ensures.collected.y_is))
     (timed-rise c.args.t (y_of (given_among c.args.t states (due_leaves c.args.t states))) (c.records_show_what_is_given.ensures.y_rises c.args.t states))
 
 pub touch-requires-clause-due : goal.touch-requires-clause-due
 touch-requires-clause-due g c =
-    let states = g.G.Givers.states c.args.givers.now in
+    let states = g.G.Leaves.states c.args.givers.now in
     let marked = g.S.LeafSet.members c.give_and_wake.new.touched in
     subst (λ (ls : List ℕ). All (λ l. l < length marked) ls) (sym c.requires.due)
     (subst (λ (m : ℕ). All (λ l. l < m) (due_leaves c.args.t states)) (sym (c.in_ok-give_and_wake.ensures.touched_long ∙ c.requires.count)) (filtered-within (is_due c.args.t states) (length states)))
@@ -40,14 +40,14 @@ touch-requires-clause-fed g c =
 
 pub returns-clause-parts : goal.returns-clause-parts
 returns-clause-parts g c = λ tree s run.
-    let states = g.G.Givers.states c.args.givers.now in
+    let states = g.G.Leaves.states c.args.givers.now in
     let marked = g.S.LeafSet.members c.give_and_wake.new.touched in
     let ps = g.R.Routing.paths c.args.routes.now in
     let t = c.args.t in
     let inputs = c.args.inputs.now in
     let records : Records = record { y = c.give_and_wake.new.y; n = c.give_and_wake.new.n; x = c.route.new.x; s = c.args.records.now.s; out = c.route.new.out } in
     half-is c.cells_are_woken_by_givers.ensures.woken c.leaves_give_one_after_another.ensures.givers c.cells_are_woken_by_givers.ensures.touched c.records_show_what_is_given.ensures.shows c.events_stand_by_number.ensures.inputs
-    tree t s states (g.G.Givers.states c.give_and_wake.new.givers) inputs ps (g.W.Watched.watches c.args.watched.now)
+    tree t s states (g.G.Leaves.states c.give_and_wake.new.givers) inputs ps (g.W.Watched.watches c.args.watched.now)
     records c.give_and_wake.new.who.items c.args.due.now c.touch.new.into.items marked
     run c.requires.due c.in_ok-give_and_wake.ensures.collected
     (c.in_ok-route.ensures.x ∙ ap (λ ys. map (x_at t) (fed_in (values_at (y_records ys) inputs) ps (numbers (reaches (y_records ys) inputs) ps))) c.deref.ensures.value)
@@ -57,6 +57,6 @@ returns-clause-parts g c = λ tree s run.
 
 pub returns-clause-woken : goal.returns-clause-woken
 returns-clause-woken g c = λ tree s run k.
-    let states = g.G.Givers.states c.args.givers.now in
+    let states = g.G.Leaves.states c.args.givers.now in
     c.in_ok-give_and_wake.ensures.woken k
     ∙ woken-is c.cells_are_woken_by_givers.ensures.woken c.leaves_give_one_after_another.ensures.givers tree c.args.t s states (g.W.Watched.watches c.args.watched.now) run.states_are run.watch k

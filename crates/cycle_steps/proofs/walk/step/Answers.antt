@@ -8,6 +8,6 @@ use Rattle.cycle_steps.proofs.walk.step.Goals as goal
 
 pub advance-requires-clause-ports : goal.advance-requires-clause-ports
 advance-requires-clause-ports g c =
-    let ports = g.M.Movers.ports c.args.movers.now in
+    let ports = g.M.Leaves.ports c.args.movers.now in
     subst (λ (bag : Bag). All (λ (o : PortNo × Value). o.0.0 < ports c.args.leaf) bag) (sym (c.deref.ensures.value ∙ c.in-Ok.ensures))
     (bag-ports ports c.args.leaf c.args.x.now c.requires.ports)

@@ -13,7 +13,7 @@ loop-leaf-preserved g c =
     let old = c.loop-leaf.movers in
     let new = c.step.new.movers in
     let waiting = g.Q.TimeQueue.waiting in
-    let states = g.M.Movers.states in
+    let states = g.M.Leaves.states in
     let inv = c.loop-leaf.invariant in
     record {
       long = c.in-Ok.ensures.long ∙ inv.long;
@@ -24,8 +24,8 @@ loop-leaf-preserved g c =
       walks = λ tree given st woken.
           walks-more tree c.args.t given fed (Unit {0}) i ls (walk_from tree c.args.t given fed ls (states start) (waiting c.args.queue.now)) (states old) (states new) (waiting c.loop-leaf.queue) (waiting c.step.new.queue)
           c.loop-leaf.s.items c.step.new.s.items _ c.loop-leaf-test.true (inv.walks tree given st woken) (c.in-Ok.ensures.steps tree given (inv.stands tree st) (woken l));
-      visits = visits-more (g.M.Movers.most start) i ls (g.M.Movers.visits c.loop-leaf.counter) (g.M.Movers.visits c.step.new.counter) _ c.loop-leaf-test.true inv.visits
-          (subst (λ (m : ℕ → ℕ). g.M.Movers.visits c.step.new.counter ≤ g.M.Movers.visits c.loop-leaf.counter + m l) inv.most c.step.ensures.visits);
+      visits = visits-more (g.M.Leaves.most start) i ls (g.M.Leaves.visits c.loop-leaf.counter) (g.M.Leaves.visits c.step.new.counter) _ c.loop-leaf-test.true inv.visits
+          (subst (λ (m : ℕ → ℕ). g.M.Leaves.visits c.step.new.counter ≤ g.M.Leaves.visits c.loop-leaf.counter + m l) inv.most c.step.ensures.visits);
     }
 
 pub returns-in-Err-clause-walks : goal.returns-in-Err-clause-walks
@@ -35,7 +35,7 @@ returns-in-Err-clause-walks g c =
     let l = slice_index_or ls i 0 in
     let fed = x_records c.args.x.now in
     let waiting = g.Q.TimeQueue.waiting in
-    let states = g.M.Movers.states in
+    let states = g.M.Leaves.states in
     let inv = c.loop-leaf.invariant in
     λ tree given st woken.
     halts-here tree c.args.t given fed (Unit {0}) i ls (walk_from tree c.args.t given fed ls (states c.args.movers.now) (waiting c.args.queue.now)) (states c.loop-leaf.movers) (states c.step.new.movers) (waiting c.loop-leaf.queue) (waiting c.step.new.queue)

@@ -11,13 +11,13 @@ use Rattle.cycle_steps.proofs.walk.walk.Given as goal
 
 abbrev pub invariant-loop-leaf : goal.invariant-loop-leaf
 invariant-loop-leaf g l = record {
-  long : length (g.M.Movers.states l.movers) ≡ length (g.M.Movers.states l.fn.movers);
-  waiting : length (g.Q.TimeQueue.waiting l.queue) ≡ length (g.M.Movers.states l.fn.movers);
-  ports : g.M.Movers.ports l.movers ≡ g.M.Movers.ports l.fn.movers;
-  most : g.M.Movers.most l.movers ≡ g.M.Movers.most l.fn.movers;
-  stands : (tree : Tree) → g.M.Movers.stands_for l.fn.movers tree → g.M.Movers.stands_for l.movers tree;
-  walks : (tree : Tree) (given : List PortRecord) → g.M.Movers.stands_for l.fn.movers tree
+  long : length (g.M.Leaves.states l.movers) ≡ length (g.M.Leaves.states l.fn.movers);
+  waiting : length (g.Q.TimeQueue.waiting l.queue) ≡ length (g.M.Leaves.states l.fn.movers);
+  ports : g.M.Leaves.ports l.movers ≡ g.M.Leaves.ports l.fn.movers;
+  most : g.M.Leaves.most l.movers ≡ g.M.Leaves.most l.fn.movers;
+  stands : (tree : Tree) → g.M.Leaves.stands_for l.fn.movers tree → g.M.Leaves.stands_for l.movers tree;
+  walks : (tree : Tree) (given : List PortRecord) → g.M.Leaves.stands_for l.fn.movers tree
       → ((k : ℕ) → is_in (g.S.LeafSet.members l.woken) k ≡ is_woken_at given (slice_get (leaves tree) k))
-      → WalksOn l.t (walk_from tree l.t given (x_records l.x) l.touched (g.M.Movers.states l.fn.movers) (g.Q.TimeQueue.waiting l.fn.queue)) (walk_from tree l.t given (x_records l.x) (drop l.leaf-index l.touched) (g.M.Movers.states l.movers) (g.Q.TimeQueue.waiting l.queue)) l.s.items;
-  visits : g.M.Movers.visits l.counter + sum_by (g.M.Movers.most l.fn.movers) (drop l.leaf-index l.touched) ≤ g.M.Movers.visits l.fn.counter + sum_by (g.M.Movers.most l.fn.movers) l.touched;
+      → WalksOn l.t (walk_from tree l.t given (x_records l.x) l.touched (g.M.Leaves.states l.fn.movers) (g.Q.TimeQueue.waiting l.fn.queue)) (walk_from tree l.t given (x_records l.x) (drop l.leaf-index l.touched) (g.M.Leaves.states l.movers) (g.Q.TimeQueue.waiting l.queue)) l.s.items;
+  visits : g.M.Leaves.visits l.counter + sum_by (g.M.Leaves.most l.fn.movers) (drop l.leaf-index l.touched) ≤ g.M.Leaves.visits l.fn.counter + sum_by (g.M.Leaves.most l.fn.movers) l.touched;
 }

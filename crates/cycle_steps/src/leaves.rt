@@ -1,0 +1,75 @@
+// Leaves that are asked one at a time.
+use crate::halt::{LeafStop, Told};
+use atomic_face::PortNo;
+use quantity::{OutOfMemory, Time, Value};
+
+/// Leaves of which one at a time can be asked for its output, and then to move. `C` counts visits.
+pub trait Leaves<C> {
+    ghost use Rattle.std.specs.Prelude.{◌≡◌, ◌<◌, ◌≤◌, ◌+◌, [], ℕ, Some, List, OnOk, length, slice_get, slice_set};
+    ghost use Rattle.std.specs.List.{All};
+    ghost use Rattle.quantity.specs.declared.value.Value.{Value as AnyValue};
+    ghost use Rattle.atomic_face.specs.declared.class.PortNo.{PortNo as AnyPort};
+    ghost use Rattle.model_tree.specs.Tree.{Tree, leaves};
+    ghost use Rattle.run_model.specs.Cycle.{LeafState, leaf_next, leaf_emitted, collected_of};
+    ghost use Rattle.sparse_cycle.specs.Sparse.{leaf_of, move_to};
+    ghost use Rattle.cycle_steps.specs.Moving.{Moves};
+
+    /// How all leaves stand.
+    ghost states: { Self → List LeafState };
+
+    /// Whether they are the leaves of a model.
+    ghost stands_for: { Self → Tree → Type 0 };
+
+    /// How many input ports a leaf has.
+    ghost ports: { Self → ℕ → ℕ };
+
+    /// How many visits a leaf's move takes at most.
+    ghost most: { Self → ℕ → ℕ };
+
+    /// How many visits are counted.
+    ghost visits: { C → ℕ };
+
+    /// A due leaf gives its output, and every other leaf stays. It takes no more visits than values
+    /// are given. Without memory nothing more is known.
+    fn emit(
+        &mut self,
+        leaf: u32,
+        t: Time,
+        into: &mut Vec<(PortNo, Value)>,
+        counter: &mut C,
+    ) -> Result<(), OutOfMemory>
+        requires empty { into.old.items ≡ [] }
+        requires due { leaf_next (leaf_of (states self.old) leaf) ≡ Some t }
+        ensures given { OnOk result (into.new.items ≡ collected_of t (leaf_of (states self.old) leaf)) }
+        ensures leaves { OnOk result (states self.new
+            ≡ slice_set (states self.old) leaf (leaf_emitted t (leaf_of (states self.old) leaf))) }
+        ensures stands { (tree : Tree) → stands_for self.old tree → OnOk result (stands_for self.new tree) }
+        ensures ports { OnOk result (ports self.new ≡ ports self.old) }
+        ensures most { OnOk result (most self.new ≡ most self.old) }
+        ensures visits { visits counter.new
+            ≤ visits counter.old + length (collected_of t (leaf_of (states self.old) leaf)) };
+
+    /// A leaf after its emission moves over the states as they stand. Without memory, and after a
+    /// stop, nothing more is known of the leaves.
+    fn advance(
+        &mut self,
+        leaf: u32,
+        t: Time,
+        woken: bool,
+        bag: &[(PortNo, Value)],
+        counter: &mut C,
+    ) -> Result<Told, LeafStop>
+        requires within { leaf < length (states self.old) }
+        requires time { t ≤ 359999999 }
+        requires ports { All (λ (o : AnyPort × AnyValue). o.0.0 < ports self.old leaf) bag.now }
+        ensures moves { (tree : Tree) → stands_for self.old tree
+            → Moves (states self.old) (states self.new) leaf
+            (move_to t (states self.old) woken bag.now (slice_get (leaves tree) leaf)
+            (leaf_of (states self.old) leaf))
+            result }
+        ensures stands { (tree : Tree) → stands_for self.old tree → OnOk result (stands_for self.new tree) }
+        ensures long { OnOk result (length (states self.new) ≡ length (states self.old)) }
+        ensures ports { OnOk result (ports self.new ≡ ports self.old) }
+        ensures most { OnOk result (most self.new ≡ most self.old) }
+        ensures visits { visits counter.new ≤ visits counter.old + most self.old leaf };
+}
