@@ -33,7 +33,7 @@ at_start a old new status ends = ends old (steps_lead.start a old)
 
 -- ---- a file is read
 
-last_pushed : (o : Option Word) (names : List Word) (name : Word) → last_or o (names ++ name ∷ []) ≡ Some name
+pub last_pushed : (o : Option Word) (names : List Word) (name : Word) → last_or o (names ++ name ∷ []) ≡ Some name
 last_pushed o [] name = refl
 last_pushed o (n ∷ ns) name = last_pushed (Some n) ns name
 
@@ -98,7 +98,7 @@ was_unmade a did old mid made created only keeps = λ start way.
     }
 
 -- a file is among those made
-made_there : (files : Files) (name : Word) (bytes : Bytes) → Contains {X = Word × Bytes} files (name, bytes) → is_made name files ≡ true
+pub made_there : (files : Files) (name : Word) (bytes : Bytes) → Contains {X = Word × Bytes} files (name, bytes) → is_made name files ≡ true
 made_there files name bytes (k, lt, is) =
     let here : bytes_eq name name ≡ true = (bytes_eq-Decides name name).1 refl in
     list_any_at (λ (f : Word × Bytes). bytes_eq f.0 name) files k (name, bytes) lt (ap (λ (f : Word × Bytes). bytes_eq f.0 name) is ∙ here)
