@@ -3,7 +3,11 @@
 
 mod frame;
 pub mod frames;
+pub mod laws;
 mod plane;
 mod rows;
 
 pub use frames::Frames;
+
+#[cfg(test)]
+mod tests;
