@@ -3,3 +3,4 @@ pub mod Appended
 pub mod StrictLemmas
 pub mod StrictLeaves
 pub mod StrictLines
+pub mod NamedLeaves

@@ -6,3 +6,4 @@ pub mod LeafRead
 pub mod LineRead
 pub mod PartsRead
 pub mod Strict
+pub mod CycleNames

@@ -2,6 +2,7 @@
 #![tactic(auto)]
 
 mod given;
+pub mod laws;
 pub mod leaf_name;
 pub mod line;
 mod moved;
