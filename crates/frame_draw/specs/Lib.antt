@@ -1,3 +1,4 @@
 pub mod Drawing
 pub mod Pictures
 pub mod Instants
+pub mod Turns
