@@ -8,3 +8,6 @@ pub mod sizes;
 pub mod tuples;
 
 pub use port_rule::PortRuleText;
+
+#[cfg(test)]
+mod tests;
