@@ -1,2 +1,3 @@
 pub mod FormOf
+pub mod LeastOf
 pub mod Wanted

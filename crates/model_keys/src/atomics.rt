@@ -1,13 +1,12 @@
 // What is refused of the parameters of atomic components.
 ghost use Rattle.std.specs.Prelude.{◌≡◌, ◌∷◌, [], map, IfOk};
 ghost use Rattle.std.specs.List.{filter, flat_map};
-ghost use Rattle.std.specs.Option.{option_map};
 ghost use Rattle.atomic_face.specs.Settings.{once_keys};
 ghost use Rattle.source_text.specs.Shown.{texts};
-ghost use Rattle.model_text.specs.Keyed as L;
 ghost use Rattle.model_text.specs.Keys as K;
 ghost use Rattle.model_text.specs.Walk as W;
-ghost use Rattle.model_walk.specs.Shown.{item_of, refusal_of};
+ghost use Rattle.model_walk.specs.Shown.{item_of};
+ghost use Rattle.model_keys.specs.LeastOf.{IsLeastOf};
 
 use crate::again::again;
 use atomic_face::Class;
@@ -25,7 +24,7 @@ pub(crate) fn of_atomics(
     sections: &Sections,
     items: &[Item<'_>],
 ) -> Result<Option<Refused>, OutOfMemory>
-    ensures { IfOk result (λ why. option_map refusal_of why ≡ L.least (flat_map (K.of_atomic sections.now) (filter W.is_atomic (map item_of items.now)))) }
+    ensures { IfOk result (IsLeastOf (flat_map (K.of_atomic sections.now) (filter W.is_atomic (map item_of items.now)))) }
 {
     let mut first = None;
     for item in items {
@@ -40,7 +39,7 @@ fn of_item(
     sections: &Sections,
     item: &Item<'_>,
 ) -> Result<Option<Refused>, OutOfMemory>
-    ensures { IfOk result (λ why. option_map refusal_of why ≡ L.least (flat_map (K.of_atomic sections.now) (filter W.is_atomic (item_of item.now ∷ [])))) }
+    ensures { IfOk result (IsLeastOf (flat_map (K.of_atomic sections.now) (filter W.is_atomic (item_of item.now ∷ [])))) }
 {
     if !is_atomic(item) {
         return Ok(None);
@@ -54,7 +53,7 @@ fn of_atomic(
     sections: &Sections,
     item: &Item<'_>,
 ) -> Result<Option<Refused>, OutOfMemory>
-    ensures { IfOk result (λ why. option_map refusal_of why ≡ L.least (K.of_atomic sections.now (item_of item.now))) }
+    ensures { IfOk result (IsLeastOf (K.of_atomic sections.now (item_of item.now))) }
 {
     let Some(class) = Class::of_name(class_of(item)) else {
         return Ok(None);

@@ -1,14 +1,13 @@
 // The forms of the values of keys.
 ghost use Rattle.std.specs.Prelude.{◌≡◌, ◌∷◌, [], IfOk};
 ghost use Rattle.std.specs.List.{find};
-ghost use Rattle.std.specs.Option.{is_some, option_map};
+ghost use Rattle.std.specs.Option.{is_some};
 ghost use Rattle.std.specs.Str.{bytes_eq};
 ghost use Rattle.ma_lines.specs.Sections.{section_of};
 ghost use Rattle.rule_tree.specs.Phrases.{looked_up};
 ghost use Rattle.model_text.specs.Forms as F;
-ghost use Rattle.model_text.specs.Keyed as L;
 ghost use Rattle.model_text.specs.Keys as K;
-ghost use Rattle.model_walk.specs.Shown.{refusal_of};
+ghost use Rattle.model_keys.specs.LeastOf.{IsLeastOf};
 ghost use Rattle.model_keys.specs.FormOf.{key_of, test_of, table_of};
 ghost use Rattle.model_keys.specs.Wanted.{AreWanted};
 
@@ -82,7 +81,7 @@ pub(crate) fn off_forms(
     forms: &[Form],
     section: &Section,
 ) -> Result<Option<Refused>, OutOfMemory>
-    ensures { IfOk result (λ why. option_map refusal_of why ≡ L.least (K.off_form (table_of (section_of section.now) forms.now) section.now.entries.items)) }
+    ensures { IfOk result (IsLeastOf (K.off_form (table_of (section_of section.now) forms.now) section.now.entries.items)) }
 {
     let values = wanted_values(alloc, section)?;
     let mut first = None;
@@ -101,7 +100,7 @@ fn off_form(
     entry: &Entry,
 ) -> Result<Option<Refused>, OutOfMemory>
     requires { AreWanted (section_of section.now) values.now }
-    ensures { IfOk result (λ why. option_map refusal_of why ≡ L.least (K.off_form (table_of (section_of section.now) forms.now) (entry.now ∷ []))) }
+    ensures { IfOk result (IsLeastOf (K.off_form (table_of (section_of section.now) forms.now) (entry.now ∷ []))) }
 {
     if !is_off(alloc, forms, section, values, entry)? {
         return Ok(None);

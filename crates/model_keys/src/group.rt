@@ -1,10 +1,8 @@
 // What is refused of the keys of a group.
 ghost use Rattle.std.specs.Prelude.{◌≡◌, ◌&&◌, ◌||◌, codes, IfOk};
-ghost use Rattle.std.specs.Option.{option_map};
 ghost use Rattle.ma_lines.specs.Sections.{section_of};
-ghost use Rattle.model_text.specs.Keyed as L;
 ghost use Rattle.model_text.specs.Keys as K;
-ghost use Rattle.model_walk.specs.Shown.{refusal_of};
+ghost use Rattle.model_keys.specs.LeastOf.{IsLeastOf};
 
 use crate::form::{GROUP_FORMS, off_forms};
 use ma_lines::Section;
@@ -17,7 +15,7 @@ use std::alloc::Global;
 
 /// The least refusal of missing keys, of values off their form, and of a size that is given twice.
 pub(crate) fn of_group(alloc: Global, section: &Section) -> Result<Option<Refused>, OutOfMemory>
-    ensures { IfOk result (λ why. option_map refusal_of why ≡ L.least (K.of_group (section_of section.now))) }
+    ensures { IfOk result (IsLeastOf (K.of_group (section_of section.now))) }
 {
     let missing = missing(section);
     let off = off_forms(alloc, &GROUP_FORMS, section)?;
@@ -27,7 +25,7 @@ pub(crate) fn of_group(alloc: Global, section: &Section) -> Result<Option<Refuse
 
 /// The refusal of a group without a space or without rules.
 fn missing(section: &Section) -> Option<Refused>
-    ensures { option_map refusal_of result ≡ L.least (K.missing (section_of section.now)) }
+    ensures { IsLeastOf (K.missing (section_of section.now)) result }
 {
     if has_space(section) & has_key(section, b"localtransition") {
         return None;
@@ -58,7 +56,7 @@ fn has_key(section: &Section, key: &[u8]) -> bool
 
 /// The refusal of `dim` beside `height` or `width`.
 fn double_space(section: &Section) -> Option<Refused>
-    ensures { option_map refusal_of result ≡ L.least (K.double_space (section_of section.now)) }
+    ensures { IsLeastOf (K.double_space (section_of section.now)) result }
 {
     if !has_side(section) {
         return None;

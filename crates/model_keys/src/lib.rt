@@ -36,3 +36,6 @@ pub fn keys_refused(
     let second = of_atomics(alloc, sections, &walked.items)?;
     Ok(least(first, second))
 }
+
+#[cfg(test)]
+mod tests;

@@ -1,12 +1,12 @@
 // Ports that are declared again.
 ghost use Rattle.std.specs.Prelude.{◌≡◌, ◌∷◌, [], map, not, IfOk, if◌then◌else◌};
-ghost use Rattle.std.specs.Option.{option_map};
 ghost use Rattle.ma_lines.specs.Sections.{section_of};
 ghost use Rattle.model_text.specs.declared.kind.Kind.TheVariants.{BadValue};
 ghost use Rattle.model_text.specs.Refusals.{refusal};
 ghost use Rattle.model_text.specs.Keyed as L;
 ghost use Rattle.model_text.specs.Keys as K;
-ghost use Rattle.model_walk.specs.Shown.{item_of, refusal_of};
+ghost use Rattle.model_walk.specs.Shown.{item_of};
+ghost use Rattle.model_keys.specs.LeastOf.{IsLeastOf};
 
 use ma_lines::Section;
 use model_text::Kind;
@@ -23,14 +23,14 @@ pub(crate) fn repeated(
     section: &Section,
     key: &[u8],
 ) -> Result<Option<Refused>, OutOfMemory>
-    ensures { IfOk result (λ why. option_map refusal_of why ≡ L.least (K.repeated [] (L.items_of key.now (section_of section.now)))) }
+    ensures { IfOk result (IsLeastOf (K.repeated [] (L.items_of key.now (section_of section.now)))) }
 {
     let items = items(alloc, section, key)?;
     repeated_among(alloc, &items)
 }
 
 fn repeated_among(alloc: Global, items: &[Item<'_>]) -> Result<Option<Refused>, OutOfMemory>
-    ensures { IfOk result (λ why. option_map refusal_of why ≡ L.least (K.repeated [] (map item_of items.now))) }
+    ensures { IfOk result (IsLeastOf (K.repeated [] (map item_of items.now))) }
 {
     let mut seen = TextSet::new(alloc);
     let mut first = None;
@@ -42,7 +42,7 @@ fn repeated_among(alloc: Global, items: &[Item<'_>]) -> Result<Option<Refused>, 
 }
 
 fn unless_new(is_new: bool, item: &Item<'_>) -> Option<Refused>
-    ensures { option_map refusal_of result ≡ L.least (if not is_new then refusal item.now.line BadValue ∷ [] else []) }
+    ensures { IsLeastOf (if not is_new then refusal item.now.line BadValue ∷ [] else []) result }
 {
     if is_new {
         return None;

@@ -1,12 +1,10 @@
 // What is refused of section after section.
 ghost use Rattle.std.specs.Prelude.{◌≡◌, [], map, IfOk, if◌then◌else◌};
 ghost use Rattle.std.specs.List.{flat_map};
-ghost use Rattle.std.specs.Option.{option_map};
 ghost use Rattle.ma_lines.specs.Sections.{section_of};
-ghost use Rattle.model_text.specs.Keyed as L;
 ghost use Rattle.model_text.specs.Keys as K;
 ghost use Rattle.model_text.specs.Walk as W;
-ghost use Rattle.model_walk.specs.Shown.{refusal_of};
+ghost use Rattle.model_keys.specs.LeastOf.{IsLeastOf};
 
 use crate::again::again;
 use crate::form::{PLAIN_FORMS, off_forms};
@@ -46,7 +44,7 @@ pub(crate) fn of_sections(
     alloc: Global,
     sections: &[&Section],
 ) -> Result<Option<Refused>, OutOfMemory>
-    ensures { IfOk result (λ why. option_map refusal_of why ≡ L.least (flat_map K.of_section (map (λ r. section_of r.now) sections.now))) }
+    ensures { IfOk result (IsLeastOf (flat_map K.of_section (map (λ r. section_of r.now) sections.now))) }
 {
     let mut first = None;
     for section in sections {
@@ -57,7 +55,7 @@ pub(crate) fn of_sections(
 
 /// The least refusal of the keys of one section.
 fn of_section(alloc: Global, section: &Section) -> Result<Option<Refused>, OutOfMemory>
-    ensures { IfOk result (λ why. option_map refusal_of why ≡ L.least (K.of_section (section_of section.now))) }
+    ensures { IfOk result (IsLeastOf (K.of_section (section_of section.now))) }
 {
     let keys = keys_again(alloc, section)?;
     let inputs = repeated(alloc, section, b"in")?;
@@ -68,7 +66,7 @@ fn of_section(alloc: Global, section: &Section) -> Result<Option<Refused>, OutOf
 
 /// The least key that stands again and may not.
 fn keys_again(alloc: Global, section: &Section) -> Result<Option<Refused>, OutOfMemory>
-    ensures { IfOk result (λ why. option_map refusal_of why ≡ L.least (K.again (K.section_keys (section_of section.now)) [] section.now.entries.items)) }
+    ensures { IfOk result (IsLeastOf (K.again (K.section_keys (section_of section.now)) [] section.now.entries.items)) }
 {
     if is_group(section) {
         again(alloc, &GROUP_KEYS, &section.entries)
@@ -79,7 +77,7 @@ fn keys_again(alloc: Global, section: &Section) -> Result<Option<Refused>, OutOf
 
 /// The least refusal of the values.
 fn of_values(alloc: Global, section: &Section) -> Result<Option<Refused>, OutOfMemory>
-    ensures { IfOk result (λ why. option_map refusal_of why ≡ L.least (if W.is_group (section_of section.now) then K.of_group (section_of section.now) else K.off_form (K.forms (section_of section.now)) section.now.entries.items)) }
+    ensures { let s = section_of section.now in IfOk result (IsLeastOf (if W.is_group s then K.of_group s else K.off_form (K.forms s) s.entries)) }
 {
     if is_group(section) {
         of_group(alloc, section)
