@@ -1,5 +1,5 @@
 -- What the first half of a cycle comes to, in the words of the sparse cycle.
-use Rattle.std.proofs.Common.{◌≡◌, ℕ, zero, suc, ◌+◌, ◌<◌, ◌≤◌, Bool, true, false, cond, ◌||◌, eqb, Some, None, List, [], ◌∷◌, ◌++◌, map, length, replicate, get_or, refl, sym, ◌∙◌, ap, subst, arith}
+use Rattle.std.proofs.Common.{◌≡◌, ℕ, zero, suc, ◌+◌, ◌<◌, ◌≤◌, Bool, true, false, cond, ◌||◌, eqb, Some, None, List, [], ◌∷◌, ◌++◌, map, length, replicate, get_or, set, length-set, refl, sym, ◌∙◌, ap, subst, arith}
 use Rattle.std.specs.Prelude.{⊤, slice_get, unwrap_or}
 use Rattle.std.specs.List.{All, AllByRecursion, filter, filter_map, cons_option, flat_map, list_any, range_with_len}
 use Rattle.std.specs.List.Sorted.{IsNonDecreasingBy}
@@ -10,7 +10,7 @@ use Rattle.std.proofs.lemmas.List.{map-append}
 use Rattle.quantity.specs.declared.value.Value.{Value}
 use Rattle.model_tree.specs.Tree.{Word, Tree, ins_of, leaves}
 use Rattle.model_tree.specs.Pull as pull
-use Rattle.run_model.specs.Cycle.{LeafState}
+use Rattle.run_model.specs.Cycle.{LeafState, leaf_emitted}
 use Rattle.run_model.specs.Run.{PortRecord, OutRecord, RunState, Event, at_top}
 use Rattle.record_text.specs.declared.records.YRecord.{YRecord}
 use Rattle.record_text.specs.declared.records.XRecord.{XRecord}
@@ -24,7 +24,7 @@ use Rattle.route_flat.specs.declared.source.TargetPort.{TargetPort}
 use Rattle.route_flat.specs.declared.source.TargetPort.TheVariants as target
 use Rattle.route_flat.specs.Nets.{named}
 use Rattle.sparse_cycle.specs.Sparse as sparse
-use Rattle.sparse_cycle.specs.Sparse.{due_leaves, given_among, emitted_among, gave_there, is_woken_at, touched_leaves, from_source, has_some, brings, fed_by, fed_among, out_by, out_among, parts_of}
+use Rattle.sparse_cycle.specs.Sparse.{leaf_of, over, due_leaves, given_among, emitted_among, gave_there, is_woken_at, touched_leaves, from_source, has_some, brings, fed_by, fed_among, out_by, out_among, parts_of}
 use Rattle.sparse_cycle.specs.Collect.{y_of, n_of, is_among, GiversGave}
 use Rattle.sparse_cycle.specs.Wake.{reached, watches_at, woken_from, GiversWake, ReachedAreTouched}
 use Rattle.sparse_cycle.specs.Feed.{name_at, values_of_name, inputs_at, AreDistinct, AreAtInputs, TopByNumber, YShowsGiven}
@@ -32,7 +32,7 @@ use Rattle.cycle_steps.specs.Untimed.{y_records, x_records, y_record}
 use Rattle.cycle_steps.specs.Gathering.{Collects}
 use Rattle.cycle_steps.specs.Watching.{watches_any}
 use Rattle.cycle_steps.specs.Routed.{path_at, numbers, reaches, values_at, values_of_input, fed_to, out_to, fed_in, out_in}
-use Rattle.cycle_steps.specs.Paths.{to_leaf, to_top, leaf_paths, top_paths, IsThere, ArePathsOf, IsWithin}
+use Rattle.cycle_steps.specs.Paths.{to_leaf, to_top, leaf_paths, top_paths, IsThere, ArePathsOf, IsPortOf}
 use Rattle.cycle_steps.specs.Half.{due_give, IsRunOf, HalfOf}
 
 -- ---- records without their times
@@ -251,22 +251,39 @@ all-at P [] h k d lt = absurd (omega (arith, lt))
 all-at P (x ∷ xs) h zero d lt = h.0
 all-at P (x ∷ xs) h (suc k) d lt = all-at P xs h.1 k d (omega (arith, lt))
 
-values-within : (t n l port : ℕ) (vs : List Value) → l < n → AllByRecursion (λ (r : XRecord). r.leaf < n) (map (x_at t) (map (λ v. let r : PortRecord = record { leaf = l; port = port; value = v } in r) vs))
-values-within t n l port [] lt = tt
-values-within t n l port (v ∷ vs) lt = (lt, values-within t n l port vs lt)
+Lands : ℕ → (ℕ → ℕ) → XRecord → Type 0
+Lands n ports r = (r.leaf < n) × (r.port.0 < ports r.leaf)
 
-target-within : (t n : ℕ) (to : TargetPort) (vs : List Value) → IsWithin n to → AllByRecursion (λ (r : XRecord). r.leaf < n) (map (x_at t) (fed_to to vs))
-target-within t n (target.Leaf l port) vs lt = values-within t n l port.0 vs lt
-target-within t n (target.TopOut k) vs lt = tt
+values-within : (t n : ℕ) (ports : ℕ → ℕ) (l port : ℕ) (vs : List Value) → (l < n) × (port < ports l) → AllByRecursion (Lands n ports) (map (x_at t) (map (λ v. let r : PortRecord = record { leaf = l; port = port; value = v } in r) vs))
+unfolding Lands
+values-within t n ports l port [] lt = tt
+values-within t n ports l port (v ∷ vs) lt = (lt, values-within t n ports l port vs lt)
 
-each-within : (t n : ℕ) (from : Source → List Value) (ps : List Path) (ks : List ℕ) → All (λ (p : Path). IsWithin n p.to) ps → All (λ k. k < length ps) ks → AllByRecursion (λ (r : XRecord). r.leaf < n) (map (x_at t) (fed_in from ps ks))
-each-within t n from ps [] targets within = tt
-each-within t n from ps (k ∷ ks) targets within =
+target-within : (t n : ℕ) (ports : ℕ → ℕ) (to : TargetPort) (vs : List Value) → IsPortOf n ports to → AllByRecursion (Lands n ports) (map (x_at t) (fed_to to vs))
+target-within t n ports (target.Leaf l port) vs lt = values-within t n ports l port.0 vs lt
+target-within t n ports (target.TopOut k) vs lt = tt
+
+each-within : (t n : ℕ) (ports : ℕ → ℕ) (from : Source → List Value) (ps : List Path) (ks : List ℕ) → All (λ (p : Path). IsPortOf n ports p.to) ps → All (λ k. k < length ps) ks → AllByRecursion (Lands n ports) (map (x_at t) (fed_in from ps ks))
+each-within t n ports from ps [] targets within = tt
+each-within t n ports from ps (k ∷ ks) targets within =
     let here = path_at ps k in
-    subst (AllByRecursion (λ (r : XRecord). r.leaf < n)) (sym (map-append (x_at t) (fed_to here.to (from here.from)) (fed_in from ps ks)))
-    (all-append (λ (r : XRecord). r.leaf < n) (map (x_at t) (fed_to here.to (from here.from))) (map (x_at t) (fed_in from ps ks))
-    (target-within t n here.to (from here.from) (targets k (record { from = Leaf 0; to = target.TopOut 0 }) (within 0 k (omega arith))))
-    (each-within t n from ps ks targets (λ j d lt. within (suc j) d (omega (arith, lt)))))
+    subst (AllByRecursion (Lands n ports)) (sym (map-append (x_at t) (fed_to here.to (from here.from)) (fed_in from ps ks)))
+    (all-append (Lands n ports) (map (x_at t) (fed_to here.to (from here.from))) (map (x_at t) (fed_in from ps ks))
+    (target-within t n ports here.to (from here.from) (targets k (record { from = Leaf 0; to = target.TopOut 0 }) (within 0 k (omega arith))))
+    (each-within t n ports from ps ks targets (λ j d lt. within (suc j) d (omega (arith, lt)))))
 
-pub fed-within : (t n : ℕ) (from : Source → List Value) (ps : List Path) (ks : List ℕ) → All (λ (p : Path). IsWithin n p.to) ps → All (λ k. k < length ps) ks → All (λ (r : XRecord). r.leaf < n) (map (x_at t) (fed_in from ps ks))
-fed-within t n from ps ks targets within = all-at (λ (r : XRecord). r.leaf < n) (map (x_at t) (fed_in from ps ks)) (each-within t n from ps ks targets within)
+pub fed-within : (t n : ℕ) (ports : ℕ → ℕ) (from : Source → List Value) (ps : List Path) (ks : List ℕ) → All (λ (p : Path). IsPortOf n ports p.to) ps → All (λ k. k < length ps) ks
+    → All (λ (r : XRecord). r.leaf < n) (map (x_at t) (fed_in from ps ks)) × All (λ (r : XRecord). r.port.0 < ports r.leaf) (map (x_at t) (fed_in from ps ks))
+unfolding Lands
+fed-within t n ports from ps ks targets within =
+    let all = all-at (Lands n ports) (map (x_at t) (fed_in from ps ks)) (each-within t n ports from ps ks targets within) in
+    (λ k d lt. (all k d lt).0, λ k d lt. (all k d lt).1)
+
+-- ---- as many leaves as before
+
+over-long : (change : ℕ → LeafState → LeafState) (ls : List ℕ) (states : List LeafState) → length (over change ls states) ≡ length states
+over-long change [] states = refl
+over-long change (l ∷ ls) states = over-long change ls (set states l (change l (leaf_of states l))) ∙ length-set states l (change l (leaf_of states l))
+
+pub emitted-long : (t : ℕ) (ls : List ℕ) (states : List LeafState) → length (emitted_among t states ls) ≡ length states
+emitted-long t ls states = over-long (λ l s. leaf_emitted t s) ls states

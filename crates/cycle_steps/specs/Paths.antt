@@ -40,7 +40,7 @@ pub record ArePathsOf (tree : Tree) (ps : List Path) : Type 0 where
   pub outputs : top_paths (ins_of tree) ps ≡ sparse.out_paths tree
   pub inputs : All (λ (p : Path). IsThere (ins_of tree) p.from) ps
 
--- a leaf of so many, or an output of top
-abbrev pub IsWithin : ℕ → TargetPort → Type 0
-IsWithin n (target.Leaf l port) = l < n
-IsWithin n (target.TopOut k) = ⊤
+-- a port that one of so many leaves has, or an output of top
+abbrev pub IsPortOf : ℕ → (ℕ → ℕ) → TargetPort → Type 0
+IsPortOf n ports (target.Leaf l port) = (l < n) × (port.0 < ports l)
+IsPortOf n ports (target.TopOut k) = ⊤

@@ -6,6 +6,7 @@ ghost use Rattle.std.specs.Vec.{vec_capacity};
 ghost use Rattle.model_tree.specs.Tree.{Tree, leaves};
 ghost use Rattle.run_model.specs.Run.{RunState};
 ghost use Rattle.record_text.specs.declared.records.YRecord.{YRecord as AnyYRecord};
+ghost use Rattle.record_text.specs.declared.records.XRecord.{XRecord as AnyXRecord};
 ghost use Rattle.record_text.specs.Held.{AreEmpty, x_at, out_at};
 ghost use Rattle.leaf_set.specs.Members.{is_in};
 ghost use Rattle.route_flat.specs.declared.source.Path.{Path as AnyPath};
@@ -15,7 +16,7 @@ ghost use Rattle.cycle_steps.specs.Untimed.{y_records};
 ghost use Rattle.cycle_steps.specs.Gathering.{Collects, values_in};
 ghost use Rattle.cycle_steps.specs.Watching.{watches_any};
 ghost use Rattle.cycle_steps.specs.Routed.{numbers, reaches, values_at, fed_in, out_in};
-ghost use Rattle.cycle_steps.specs.Paths.{IsWithin};
+ghost use Rattle.cycle_steps.specs.Paths.{IsPortOf};
 ghost use Rattle.cycle_steps.specs.Half.{due_give, IsRunOf, HalfOf};
 
 use crate::collect::collect;
@@ -47,7 +48,8 @@ pub fn first_half<C, G: Leaves<C>, W: Watched, R: Routing, S: LeafSet>(
 ) -> Result<(), OutOfMemory>
     requires due { due.now ≡ due_leaves t (G.states givers.old) }
     requires count { W.count watched.now ≡ length (G.states givers.old) }
-    requires paths { All (λ (p : AnyPath). IsWithin (W.count watched.now) p.to) (R.paths routes.now) }
+    requires paths { All (λ (p : AnyPath). IsPortOf (W.count watched.now) (G.ports givers.old) p.to)
+        (R.paths routes.now) }
     requires calm { S.members woken.old ≡ replicate (W.count watched.now) false }
     requires at_rest { S.members touched.old ≡ replicate (W.count watched.now) false }
     requires records { AreEmpty records.old }
@@ -63,6 +65,10 @@ pub fn first_half<C, G: Leaves<C>, W: Watched, R: Routing, S: LeafSet>(
     ensures at_rest { OnOk result (S.members touched.new ≡ replicate (W.count watched.now) false) }
     ensures s { records.new.s.items ≡ [] }
     ensures capacity { vec_capacity moving.new ≡ vec_capacity moving.old }
+    ensures count { OnOk result (length (G.states givers.new) ≡ length (G.states givers.old)) }
+    ensures within { OnOk result (All (λ l. l < W.count watched.now) moving.new.items) }
+    ensures x_ports { OnOk result
+        (All (λ (r : AnyXRecord). r.port.0 < G.ports givers.old r.leaf) records.new.x.items) }
     ensures stands { (tree : Tree) → G.stands_for givers.old tree → OnOk result (G.stands_for givers.new tree) }
     ensures ports { OnOk result (G.ports givers.new ≡ G.ports givers.old) }
     ensures most { OnOk result (G.most givers.new ≡ G.most givers.old) }

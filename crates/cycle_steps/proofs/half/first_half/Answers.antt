@@ -1,4 +1,4 @@
-use Rattle.std.proofs.Common.{◌∙◌, ◌<◌, List, ℕ, map, length, ap, sym, subst}
+use Rattle.std.proofs.Common.{◌∙◌, ◌<◌, ◌||◌, List, ℕ, map, length, ap, sym, subst}
 use Rattle.std.specs.List.{All}
 use Rattle.std.specs.List.Sorted.{IsNonDecreasingBy}
 use Rattle.record_text.specs.declared.records.XRecord.{XRecord}
@@ -7,11 +7,11 @@ use Rattle.record_text.specs.declared.records.Records.{Records}
 use Rattle.record_text.specs.Held.{x_at, out_at}
 use Rattle.leaf_set.specs.Members.{is_in}
 use Rattle.sparse_cycle.specs.Sparse.{is_due, due_leaves, given_among}
-use Rattle.sparse_cycle.specs.Collect.{y_of}
-use Rattle.sparse_cycle.specs.Wake.{reached}
+use Rattle.sparse_cycle.specs.Collect.{y_of, is_among}
+use Rattle.sparse_cycle.specs.Wake.{is_fed, reached}
 use Rattle.cycle_steps.specs.Untimed.{y_records, x_records}
 use Rattle.cycle_steps.specs.Routed.{path_at, numbers, reaches, values_at, fed_in, out_in}
-use Rattle.cycle_steps.proofs.Halves.{timed-rise, filtered-within, fed-within, woken-is, half-is}
+use Rattle.cycle_steps.proofs.Halves.{timed-rise, filtered-within, fed-within, emitted-long, woken-is, half-is}
 use Rattle.cycle_steps.proofs.half.first_half.Goals as goal
 
 pub route-requires-clause-rise : goal.route-requires-clause-rise
@@ -36,7 +36,31 @@ touch-requires-clause-fed g c =
     let ks = numbers (reaches y c.args.inputs.now) ps in
     subst (λ (rs : List XRecord). All (λ (r : XRecord). r.leaf < length marked) rs) (sym (c.deref-2.ensures.value ∙ c.in_ok-route.ensures.x))
     (subst (λ (m : ℕ). All (λ (r : XRecord). r.leaf < m) (map (x_at c.args.t) (fed_in from ps ks))) (sym c.in_ok-give_and_wake.ensures.touched_long)
-    (fed-within c.args.t (g.W.Watched.count c.args.watched.now) from ps ks c.requires.paths (filtered-within (λ k. reaches y c.args.inputs.now (path_at ps k)) (length ps))))
+    (fed-within c.args.t (g.W.Watched.count c.args.watched.now) (g.G.Leaves.ports c.args.givers.now) from ps ks c.requires.paths (filtered-within (λ k. reaches y c.args.inputs.now (path_at ps k)) (length ps))).0)
+
+pub returns-clause-x_ports : goal.returns-clause-x_ports
+returns-clause-x_ports g c =
+    let ps = g.R.Routing.paths c.args.routes.now in
+    let y = y_records c.deref.result.now in
+    let from = values_at y c.args.inputs.now in
+    let ks = numbers (reaches y c.args.inputs.now) ps in
+    let ports = g.G.Leaves.ports c.args.givers.now in
+    subst (λ (rs : List XRecord). All (λ (r : XRecord). r.port.0 < ports r.leaf) rs) (sym c.in_ok-route.ensures.x)
+    (fed-within c.args.t (g.W.Watched.count c.args.watched.now) ports from ps ks c.requires.paths (filtered-within (λ k. reaches y c.args.inputs.now (path_at ps k)) (length ps))).1
+
+pub returns-clause-within : goal.returns-clause-within
+returns-clause-within g c =
+    let marked = g.S.LeafSet.members c.give_and_wake.new.touched in
+    let fed = x_records c.deref-2.result.now in
+    let due = c.args.due.now in
+    subst (λ (ls : List ℕ). All (λ l. l < g.W.Watched.count c.args.watched.now) ls) (sym c.touch.ensures.taken)
+    (subst (λ (m : ℕ). All (λ l. l < m) (reached (is_in marked) (length marked) due fed)) c.in_ok-give_and_wake.ensures.touched_long
+    (filtered-within (λ k. is_in marked k || is_among due k || is_fed fed k) (length marked)))
+
+pub returns-clause-count : goal.returns-clause-count
+returns-clause-count g c =
+    let states = g.G.Leaves.states c.args.givers.now in
+    ap length c.in_ok-give_and_wake.ensures.collected.states_is ∙ emitted-long c.args.t (due_leaves c.args.t states) states
 
 pub returns-clause-parts : goal.returns-clause-parts
 returns-clause-parts g c = λ tree s run.
