@@ -65,7 +65,7 @@ timed-rise t rs h i j d le lt =
 
 -- ---- paths by their numbers
 
-flat-first : {A B : Type 0} (f : A → List B) (b : Bool) (x : A) (xs : List A) → flat_map f (cond b (x ∷ xs) xs) ≡ cond b (f x) [] ++ flat_map f xs
+pub flat-first : {A B : Type 0} (f : A → List B) (b : Bool) (x : A) (xs : List A) → flat_map f (cond b (x ∷ xs) xs) ≡ cond b (f x) [] ++ flat_map f xs
 flat-first f true x xs = refl
 flat-first f false x xs = refl
 

@@ -6,3 +6,4 @@ mod Reached
 mod Bags
 mod Steps
 mod Halves
+mod Rising

@@ -44,3 +44,12 @@ pub record ArePathsOf (tree : Tree) (ps : List Path) : Type 0 where
 abbrev pub IsPortOf : ℕ → (ℕ → ℕ) → TargetPort → Type 0
 IsPortOf n ports (target.Leaf l port) = (l < n) × (port.0 < ports l)
 IsPortOf n ports (target.TopOut k) = ⊤
+
+-- the leaf at a port, where it is one of a leaf
+abbrev pub leaf_in : TargetPort → Option ℕ
+leaf_in (target.Leaf l port) = Some l
+leaf_in (target.TopOut k) = None
+
+-- the leaves to which paths lead, path by path
+abbrev pub target_leaves : List Path → List ℕ
+target_leaves ps = filter_map (λ (p : Path). leaf_in p.to) ps

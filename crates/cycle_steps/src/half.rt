@@ -16,7 +16,7 @@ ghost use Rattle.cycle_steps.specs.Untimed.{y_records};
 ghost use Rattle.cycle_steps.specs.Gathering.{Collects, values_in};
 ghost use Rattle.cycle_steps.specs.Watching.{watches_any};
 ghost use Rattle.cycle_steps.specs.Routed.{numbers, reaches, values_at, fed_in, out_in};
-ghost use Rattle.cycle_steps.specs.Paths.{IsPortOf};
+ghost use Rattle.cycle_steps.specs.Paths.{IsPortOf, target_leaves};
 ghost use Rattle.cycle_steps.specs.Half.{due_give, IsRunOf, HalfOf};
 
 use crate::collect::collect;
@@ -50,6 +50,7 @@ pub fn first_half<C, G: Leaves<C>, W: Watched, R: Routing, S: LeafSet>(
     requires count { W.count watched.now ≡ length (G.states givers.old) }
     requires paths { All (λ (p : AnyPath). IsPortOf (W.count watched.now) (G.ports givers.old) p.to)
         (R.paths routes.now) }
+    requires order { IsNonDecreasingBy (λ (k : ℕ). k) (target_leaves (R.paths routes.now)) }
     requires calm { S.members woken.old ≡ replicate (W.count watched.now) false }
     requires at_rest { S.members touched.old ≡ replicate (W.count watched.now) false }
     requires records { AreEmpty records.old }
@@ -67,6 +68,7 @@ pub fn first_half<C, G: Leaves<C>, W: Watched, R: Routing, S: LeafSet>(
     ensures capacity { vec_capacity moving.new ≡ vec_capacity moving.old }
     ensures count { OnOk result (length (G.states givers.new) ≡ length (G.states givers.old)) }
     ensures within { OnOk result (All (λ l. l < W.count watched.now) moving.new.items) }
+    ensures x_rise { OnOk result (IsNonDecreasingBy (λ (r : AnyXRecord). r.leaf) records.new.x.items) }
     ensures x_ports { OnOk result
         (All (λ (r : AnyXRecord). r.port.0 < G.ports givers.old r.leaf) records.new.x.items) }
     ensures stands { (tree : Tree) → G.stands_for givers.old tree → OnOk result (G.stands_for givers.new tree) }

@@ -12,6 +12,7 @@ use Rattle.sparse_cycle.specs.Wake.{is_fed, reached}
 use Rattle.cycle_steps.specs.Untimed.{y_records, x_records}
 use Rattle.cycle_steps.specs.Routed.{path_at, numbers, reaches, values_at, fed_in, out_in}
 use Rattle.cycle_steps.proofs.Halves.{timed-rise, filtered-within, fed-within, emitted-long, woken-is, half-is}
+use Rattle.cycle_steps.proofs.Rising.{fed-rises}
 use Rattle.cycle_steps.proofs.half.first_half.Goals as goal
 
 pub route-requires-clause-rise : goal.route-requires-clause-rise
@@ -37,6 +38,13 @@ touch-requires-clause-fed g c =
     subst (λ (rs : List XRecord). All (λ (r : XRecord). r.leaf < length marked) rs) (sym (c.deref-2.ensures.value ∙ c.in_ok-route.ensures.x))
     (subst (λ (m : ℕ). All (λ (r : XRecord). r.leaf < m) (map (x_at c.args.t) (fed_in from ps ks))) (sym c.in_ok-give_and_wake.ensures.touched_long)
     (fed-within c.args.t (g.W.Watched.count c.args.watched.now) (g.G.Leaves.ports c.args.givers.now) from ps ks c.requires.paths (filtered-within (λ k. reaches y c.args.inputs.now (path_at ps k)) (length ps))).0)
+
+pub returns-clause-x_rise : goal.returns-clause-x_rise
+returns-clause-x_rise g c =
+    let ps = g.R.Routing.paths c.args.routes.now in
+    let y = y_records c.deref.result.now in
+    subst (IsNonDecreasingBy (λ (r : XRecord). r.leaf)) (sym c.in_ok-route.ensures.x)
+    (fed-rises c.args.t (values_at y c.args.inputs.now) (reaches y c.args.inputs.now) ps c.requires.order)
 
 pub returns-clause-x_ports : goal.returns-clause-x_ports
 returns-clause-x_ports g c =
