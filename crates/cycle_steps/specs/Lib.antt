@@ -8,3 +8,4 @@ pub mod Moving
 pub mod Stepping
 pub mod Paths
 pub mod Half
+pub mod Whole

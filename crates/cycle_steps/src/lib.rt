@@ -3,6 +3,7 @@
 
 pub mod bag;
 pub mod collect;
+pub mod cycle;
 pub mod feed;
 pub mod half;
 pub mod halt;
