@@ -1,7 +1,7 @@
 -- What the first half of a cycle comes to, in the words of the sparse cycle.
-use Rattle.std.proofs.Common.{◌≡◌, ℕ, zero, suc, ◌+◌, ◌<◌, ◌≤◌, Bool, true, false, cond, ◌||◌, eqb, Some, None, List, [], ◌∷◌, ◌++◌, map, length, replicate, get_or, set, length-set, refl, sym, ◌∙◌, ap, subst, arith}
-use Rattle.std.specs.Prelude.{⊤, slice_get, unwrap_or}
-use Rattle.std.specs.List.{All, AllByRecursion, filter, filter_map, cons_option, flat_map, list_any, range_with_len}
+use Rattle.std.proofs.Common.{◌≡◌, ℕ, zero, suc, ◌+◌, ◌<◌, Bool, true, false, cond, ◌||◌, eqb, List, [], ◌∷◌, ◌++◌, map, length, replicate, get_or, set, length-set, refl, sym, ◌∙◌, ap, subst, arith}
+use Rattle.std.specs.Prelude.{slice_get, unwrap_or}
+use Rattle.std.specs.List.{All, AllByRecursion, filter, cons_option, flat_map, list_any, range_with_len}
 use Rattle.std.specs.List.Sorted.{IsNonDecreasingBy}
 use Rattle.std.specs.Str.{bytes_eq}
 use Rattle.std.proofs.lemmas.List.FromFn.{length-range_with_len, get_or-range_with_len}
@@ -25,14 +25,14 @@ use Rattle.route_flat.specs.declared.source.TargetPort.TheVariants as target
 use Rattle.route_flat.specs.Nets.{named}
 use Rattle.sparse_cycle.specs.Sparse as sparse
 use Rattle.sparse_cycle.specs.Sparse.{leaf_of, over, due_leaves, given_among, emitted_among, gave_there, is_woken_at, touched_leaves, from_source, has_some, brings, fed_by, fed_among, out_by, out_among, parts_of}
-use Rattle.sparse_cycle.specs.Collect.{y_of, n_of, is_among, GiversGave}
-use Rattle.sparse_cycle.specs.Wake.{reached, watches_at, woken_from, GiversWake, ReachedAreTouched}
-use Rattle.sparse_cycle.specs.Feed.{name_at, values_of_name, inputs_at, AreDistinct, AreAtInputs, TopByNumber, YShowsGiven}
+use Rattle.sparse_cycle.specs.Collect.{y_of, n_of, GiversGave}
+use Rattle.sparse_cycle.specs.Wake.{reached, watches_at, GiversWake, ReachedAreTouched}
+use Rattle.sparse_cycle.specs.Feed.{name_at, inputs_at, AreDistinct, AreAtInputs, TopByNumber, YShowsGiven}
 use Rattle.cycle_steps.specs.Untimed.{y_records, x_records, y_record}
 use Rattle.cycle_steps.specs.Gathering.{Collects}
 use Rattle.cycle_steps.specs.Watching.{watches_any}
-use Rattle.cycle_steps.specs.Routed.{path_at, numbers, reaches, values_at, values_of_input, fed_to, out_to, fed_in, out_in}
-use Rattle.cycle_steps.specs.Paths.{to_leaf, to_top, leaf_paths, top_paths, IsThere, ArePathsOf, IsPortOf}
+use Rattle.cycle_steps.specs.Routed.{path_at, numbers, reaches, values_at, fed_to, out_to, fed_in, out_in}
+use Rattle.cycle_steps.specs.Paths.{to_leaf, to_top, leaf_paths, top_paths, IsThere, IsPortOf}
 use Rattle.cycle_steps.specs.Half.{due_give, IsRunOf, HalfOf}
 
 -- ---- records without their times

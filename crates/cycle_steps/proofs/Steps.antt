@@ -1,24 +1,24 @@
 -- One step of a walk more.
-use Rattle.std.proofs.Common.{◌≡◌, ℕ, ◌+◌, ◌<◌, ◌≤◌, Option, Some, None, List, [], ◌∷◌, ◌++◌, map, length, drop, set, get_or, refl, sym, ◌∙◌, ap, subst, append_assoc, append-nil, arith}
-use Rattle.std.specs.Prelude.{Ok, Err, ⊤}
+use Rattle.std.proofs.Common.{◌≡◌, ℕ, ◌+◌, ◌<◌, ◌≤◌, Option, List, [], ◌∷◌, ◌++◌, map, length, drop, set, get_or, refl, sym, ◌∙◌, ap, subst, append_assoc, append-nil, arith}
+use Rattle.std.specs.Prelude.{Ok, Err}
 use Rattle.std.specs.List.{sum_by}
 use Rattle.std.specs.declared.result.Result.{Result}
 use Rattle.std.proofs.lemmas.List.{map-append, drop_more}
 use Rattle.std.proofs.lemmas.List.Sums.{sum_by-cons}
 use Rattle.model_tree.specs.Tree.{Tree}
 use Rattle.run_model.specs.Cycle.{LeafState, leaf_next, Moved, stayed, moved, stopped, after}
-use Rattle.run_model.specs.Run.{PortRecord, StateRecord, computed_of, record_of_move}
+use Rattle.run_model.specs.Run.{PortRecord, StateRecord, computed_of}
 use Rattle.record_text.specs.declared.records.SRecord.{SRecord}
 use Rattle.record_text.specs.Held.{s_at}
 use Rattle.sparse_cycle.specs.Sparse.{leaf_of, move_at}
-use Rattle.sparse_cycle.specs.Walk.{Stand, with_leaf, Walked, halted, walked, unless_halted, and_record, walk}
+use Rattle.sparse_cycle.specs.Walk.{with_leaf, Walked, halted, walked, unless_halted, and_record, walk}
 use Rattle.cycle_steps.specs.declared.halt.Told.{Told}
 use Rattle.cycle_steps.specs.declared.halt.Halt.TheVariants.{Stopped, Memory}
 use Rattle.cycle_steps.specs.declared.halt.Halt.{Halt}
 use Rattle.cycle_steps.specs.declared.halt.LeafStop.TheVariants as leaf
 use Rattle.cycle_steps.specs.declared.halt.LeafStop.{LeafStop}
-use Rattle.cycle_steps.specs.Moving.{HasMoved, Moves, stand_of, WalksTo}
-use Rattle.cycle_steps.specs.Stepping.{StepsTo, StepsOne, halt_of}
+use Rattle.cycle_steps.specs.Moving.{Moves, stand_of, WalksTo}
+use Rattle.cycle_steps.specs.Stepping.{StepsOne, halt_of}
 
 -- ---- one step
 

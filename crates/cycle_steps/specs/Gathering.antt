@@ -1,7 +1,6 @@
 -- What leaves give, as records with the time of their cycle.
-use Rattle.std.specs.Prelude.{◌≡◌, ℕ, ◌+◌, List, ◌++◌, map, length}
+use Rattle.std.specs.Prelude.{◌≡◌, ℕ, ◌+◌, List, map, length}
 use Rattle.run_model.specs.Cycle.{LeafState}
-use Rattle.run_model.specs.Run.{PortRecord}
 use Rattle.record_text.specs.declared.records.YRecord.{YRecord}
 use Rattle.record_text.specs.Held.{y_at}
 use Rattle.sparse_cycle.specs.Collect.{Collected}

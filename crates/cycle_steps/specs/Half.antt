@@ -1,13 +1,13 @@
 -- What stands when the leaves of a cycle begin to move.
-use Rattle.std.specs.Prelude.{◌≡◌, ℕ, Bool, List, map, length}
+use Rattle.std.specs.Prelude.{◌≡◌, ℕ, Bool, List, map}
 use Rattle.quantity.specs.declared.value.Value.{Value}
-use Rattle.model_tree.specs.Tree.{Tree, ins_of, leaves}
+use Rattle.model_tree.specs.Tree.{Tree, ins_of}
 use Rattle.run_model.specs.Cycle.{LeafState}
 use Rattle.run_model.specs.Run.{RunState}
 use Rattle.record_text.specs.declared.records.Records.{Records}
 use Rattle.record_text.specs.Held.{y_at, x_at, out_at}
 use Rattle.route_flat.specs.declared.source.Path.{Path}
-use Rattle.sparse_cycle.specs.Sparse.{Parts, due_leaves, given_among}
+use Rattle.sparse_cycle.specs.Sparse.{Parts, due_leaves}
 use Rattle.sparse_cycle.specs.Collect.{Collected, collected_at_once, y_of, n_of}
 use Rattle.sparse_cycle.specs.Wake.{watches_at}
 use Rattle.sparse_cycle.specs.Feed.{AreDistinct, AreAtInputs, inputs_at}

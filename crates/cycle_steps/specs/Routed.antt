@@ -1,5 +1,5 @@
 -- Paths by their numbers: which of them bring something, and what they bring to leaves and to outputs of top.
-use Rattle.std.specs.Prelude.{◌≡◌, ℕ, ◌==◌, Bool, false, ◌||◌, List, [], map, length, slice_index_or}
+use Rattle.std.specs.Prelude.{ℕ, ◌==◌, Bool, false, ◌||◌, List, [], map, length, slice_index_or}
 use Rattle.std.specs.List.{list_any, filter, flat_map, range_with_len}
 use Rattle.quantity.specs.declared.value.Value.{Value}
 use Rattle.run_model.specs.Run.{PortRecord, OutRecord}

@@ -24,7 +24,8 @@ pub fn bag_at(x: &[XRecord], leaf: u32, into: &mut Vec<(PortNo, Value)>) -> Resu
 fn first_fed(x: &[XRecord], leaf: u32) -> usize
     requires { IsNonDecreasingBy (λ (r : AnyXRecord). r.leaf) x.now }
     ensures within { result ≤ length x.now }
-    ensures before { (k : ℕ) (d : AnyXRecord) → k < result → (slice_index_or x.now k d).leaf < leaf }
+    ensures before { (k : ℕ) (d : AnyXRecord) → k < result
+        → (slice_index_or x.now k d).leaf < leaf }
     ensures above { (k : ℕ) (d : AnyXRecord) → result ≤ k → k < length x.now
         → leaf ≤ (slice_index_or x.now k d).leaf }
 {

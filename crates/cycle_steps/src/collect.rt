@@ -13,7 +13,8 @@ use atomic_face::PortNo;
 use quantity::{OutOfMemory, Time, Value};
 use record_text::YRecord;
 
-/// Asks each due leaf: what they gave as Y and N records, the leaves that gave something, and how all leaves stand then.
+/// Asks each due leaf: what they gave as Y and N records, the leaves that gave something, and how
+/// all leaves stand then.
 /// No more visits are counted than values are given, also where memory ends.
 pub fn collect<C, G: Leaves<C>>(
     leaves: &mut G,
@@ -31,7 +32,8 @@ pub fn collect<C, G: Leaves<C>>(
     requires givers { givers.old.items ≡ [] }
     ensures collected { OnOk result (Collects t (collect_each t due.now (G.states leaves.old))
         y.new.items n.new.items givers.new.items (G.states leaves.new)) }
-    ensures stands { (tree : AnyTree) → G.stands_for leaves.old tree → OnOk result (G.stands_for leaves.new tree) }
+    ensures stands { (tree : AnyTree) → G.stands_for leaves.old tree
+        → OnOk result (G.stands_for leaves.new tree) }
     ensures ports { OnOk result (G.ports leaves.new ≡ G.ports leaves.old) }
     ensures most { OnOk result (G.most leaves.new ≡ G.most leaves.old) }
     ensures visits { G.visits counter.new
@@ -54,8 +56,10 @@ fn append_given(
     y: &mut Vec<YRecord>,
     n: &mut Vec<YRecord>,
 ) -> Result<(), OutOfMemory>
-    ensures y { OnOk result (y.new.items ≡ y.old.items ++ map (y_at t) (y_of (port_records (leaf, bag.now)))) }
-    ensures n { OnOk result (n.new.items ≡ n.old.items ++ map (y_at t) (n_of (port_records (leaf, bag.now)))) }
+    ensures y { OnOk result (y.new.items
+        ≡ y.old.items ++ map (y_at t) (y_of (port_records (leaf, bag.now)))) }
+    ensures n { OnOk result (n.new.items
+        ≡ n.old.items ++ map (y_at t) (n_of (port_records (leaf, bag.now)))) }
 {
     for given in bag {
         append_one(leaf, t, given.0, given.1, y, n)?;

@@ -57,7 +57,8 @@ pub fn cycle_at<C, L: Leaves<C>, W: Watched, R: Routing, S: LeafSet, Q: TimeQueu
     requires moving { moving.old.items ≡ [] }
     requires capacity { W.count watched.now ≤ vec_capacity moving.old }
     ensures cycles { (tree : AnyTree) (s : RunState) → L.stands_for leaves.old tree
-        → IsRunOf tree t s (L.states leaves.old) inputs.now (R.paths routes.now) (W.watches watched.now)
+        → IsRunOf tree t s (L.states leaves.old) inputs.now
+        (R.paths routes.now) (W.watches watched.now)
         → CyclesTo tree t (parts_of tree t s) (Q.waiting queue.old)
         (L.states leaves.new) (Q.waiting queue.new) records.new result }
     ensures stands { (tree : AnyTree) → L.stands_for leaves.old tree
@@ -65,7 +66,8 @@ pub fn cycle_at<C, L: Leaves<C>, W: Watched, R: Routing, S: LeafSet, Q: TimeQueu
     ensures long { OnOk result (length (S.members woken.new) ≡ W.count watched.now) }
     ensures at_rest { OnOk result (S.members touched.new ≡ replicate (W.count watched.now) false) }
     ensures visits { L.visits counter.new ≤ L.visits counter.old
-        + values_in (due_give t (L.states leaves.old)) + sum_by (L.most leaves.old) moving.new.items }
+        + values_in (due_give t (L.states leaves.old))
+        + sum_by (L.most leaves.old) moving.new.items }
 {
     let Ok(()) = first_half(
         leaves, watched, routes, woken, touched, due, inputs, t, room, records, moving, counter,

@@ -14,7 +14,8 @@ use quantity::{OutOfMemory, Time, Value};
 use record_text::{OutRecord, XRecord, YRecord};
 use route_flat::{Path, Source, TargetPort};
 
-/// Appends what these Y records, which stand by rising leaf, and these inputs bring by the paths of these numbers.
+/// Appends what these Y records, which stand by rising leaf, and these inputs bring by the paths of
+/// these numbers.
 pub fn feed<R: Routing>(
     routes: &R,
     numbers: &[u32],
@@ -27,9 +28,11 @@ pub fn feed<R: Routing>(
     requires within { All (λ k. k < length (R.paths routes.now)) numbers.now }
     requires rise { IsNonDecreasingBy (λ (r : AnyYRecord). r.leaf) y.now }
     ensures x { OnOk result (x.new.items ≡ x.old.items
-        ++ map (x_at t) (fed_in (values_at (y_records y.now) inputs.now) (R.paths routes.now) numbers.now)) }
+        ++ map (x_at t) (fed_in (values_at (y_records y.now) inputs.now)
+        (R.paths routes.now) numbers.now)) }
     ensures out { OnOk result (out.new.items ≡ out.old.items
-        ++ map (out_at t) (out_in (values_at (y_records y.now) inputs.now) (R.paths routes.now) numbers.now)) }
+        ++ map (out_at t) (out_in (values_at (y_records y.now) inputs.now)
+        (R.paths routes.now) numbers.now)) }
 {
     for k in numbers {
         let path = routes.path(*k);
@@ -49,9 +52,11 @@ fn append_path(
 ) -> Result<(), OutOfMemory>
     requires { IsNonDecreasingBy (λ (r : AnyYRecord). r.leaf) y.now }
     ensures x { OnOk result (x.new.items
-        ≡ x.old.items ++ map (x_at t) (fed_to path.to (values_at (y_records y.now) inputs.now path.from))) }
+        ≡ x.old.items
+        ++ map (x_at t) (fed_to path.to (values_at (y_records y.now) inputs.now path.from))) }
     ensures out { OnOk result (out.new.items
-        ≡ out.old.items ++ map (out_at t) (out_to path.to (values_at (y_records y.now) inputs.now path.from))) }
+        ≡ out.old.items
+        ++ map (out_at t) (out_to path.to (values_at (y_records y.now) inputs.now path.from))) }
 {
     match path.from {
         Source::Leaf(leaf) => append_from_leaf(leaf, path.to, t, y, x, out),
@@ -82,7 +87,8 @@ fn append_from_leaf(
 fn first_of(y: &[YRecord], leaf: u32) -> usize
     requires { IsNonDecreasingBy (λ (r : AnyYRecord). r.leaf) y.now }
     ensures within { result ≤ length y.now }
-    ensures before { (k : ℕ) (d : AnyYRecord) → k < result → (slice_index_or y.now k d).leaf < leaf }
+    ensures before { (k : ℕ) (d : AnyYRecord) → k < result
+        → (slice_index_or y.now k d).leaf < leaf }
     ensures above { (k : ℕ) (d : AnyYRecord) → result ≤ k → k < length y.now
         → leaf ≤ (slice_index_or y.now k d).leaf }
 {
@@ -164,7 +170,8 @@ fn append_value(
     out: &mut Vec<OutRecord>,
 ) -> Result<(), OutOfMemory>
     ensures x { OnOk result (x.new.items ≡ x.old.items ++ map (x_at t) (fed_to to (value ∷ []))) }
-    ensures out { OnOk result (out.new.items ≡ out.old.items ++ map (out_at t) (out_to to (value ∷ []))) }
+    ensures out { OnOk result (out.new.items
+        ≡ out.old.items ++ map (out_at t) (out_to to (value ∷ []))) }
 {
     match to {
         TargetPort::Leaf(leaf, port) => append_x(t, leaf, port, value, x),

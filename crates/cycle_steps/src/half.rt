@@ -30,8 +30,10 @@ use leaf_set::LeafSet;
 use quantity::{OutOfMemory, Time, Value};
 use record_text::{OutRecord, Records, XRecord, YRecord};
 
-/// All that comes before the leaves move: for each model and state of a run that stands so, the parts of its cycle. The
-/// woken leaves are marked then. It takes no more visits than values are given, also where memory ends.
+/// All that comes before the leaves move: for each model and state of a run that stands so, the
+/// parts of its cycle. The
+/// woken leaves are marked then. It takes no more visits than values are given, also where memory
+/// ends.
 pub fn first_half<C, G: Leaves<C>, W: Watched, R: Routing, S: LeafSet>(
     givers: &mut G,
     watched: &W,
@@ -57,24 +59,30 @@ pub fn first_half<C, G: Leaves<C>, W: Watched, R: Routing, S: LeafSet>(
     requires moving { moving.old.items ≡ [] }
     requires capacity { W.count watched.now ≤ vec_capacity moving.old }
     ensures parts { OnOk result ((tree : Tree) (s : RunState)
-        → IsRunOf tree t s (G.states givers.old) inputs.now (R.paths routes.now) (W.watches watched.now)
+        → IsRunOf tree t s (G.states givers.old) inputs.now
+        (R.paths routes.now) (W.watches watched.now)
         → HalfOf (parts_of tree t s) t (G.states givers.new) records.new moving.new.items) }
     ensures woken { OnOk result ((tree : Tree) (s : RunState)
-        → IsRunOf tree t s (G.states givers.old) inputs.now (R.paths routes.now) (W.watches watched.now)
-        → (k : ℕ) → is_in (S.members woken.new) k ≡ is_woken_at (parts_of tree t s).given (slice_get (leaves tree) k)) }
+        → IsRunOf tree t s (G.states givers.old) inputs.now
+        (R.paths routes.now) (W.watches watched.now)
+        → (k : ℕ) → is_in (S.members woken.new) k
+        ≡ is_woken_at (parts_of tree t s).given (slice_get (leaves tree) k)) }
     ensures long { OnOk result (length (S.members woken.new) ≡ W.count watched.now) }
     ensures at_rest { OnOk result (S.members touched.new ≡ replicate (W.count watched.now) false) }
     ensures s { records.new.s.items ≡ [] }
     ensures capacity { vec_capacity moving.new ≡ vec_capacity moving.old }
     ensures count { OnOk result (length (G.states givers.new) ≡ length (G.states givers.old)) }
     ensures within { OnOk result (All (λ l. l < W.count watched.now) moving.new.items) }
-    ensures x_rise { OnOk result (IsNonDecreasingBy (λ (r : AnyXRecord). r.leaf) records.new.x.items) }
+    ensures x_rise { OnOk result
+        (IsNonDecreasingBy (λ (r : AnyXRecord). r.leaf) records.new.x.items) }
     ensures x_ports { OnOk result
         (All (λ (r : AnyXRecord). r.port.0 < G.ports givers.old r.leaf) records.new.x.items) }
-    ensures stands { (tree : Tree) → G.stands_for givers.old tree → OnOk result (G.stands_for givers.new tree) }
+    ensures stands { (tree : Tree) → G.stands_for givers.old tree
+        → OnOk result (G.stands_for givers.new tree) }
     ensures ports { OnOk result (G.ports givers.new ≡ G.ports givers.old) }
     ensures most { OnOk result (G.most givers.new ≡ G.most givers.old) }
-    ensures visits { G.visits counter.new ≤ G.visits counter.old + values_in (due_give t (G.states givers.old)) }
+    ensures visits { G.visits counter.new
+        ≤ G.visits counter.old + values_in (due_give t (G.states givers.old)) }
 {
     sparse_cycle::laws::leaves_give_one_after_another();
     sparse_cycle::laws::cells_are_woken_by_givers();
@@ -137,10 +145,12 @@ fn give_and_wake<C, G: Leaves<C>, W: Watched, S: LeafSet>(
         ≡ watches_any (W.watches watched.now) (due_give t (G.states givers.old)).givers k) }
     ensures long { OnOk result (length (S.members woken.new) ≡ W.count watched.now) }
     ensures touched_long { OnOk result (length (S.members touched.new) ≡ W.count watched.now) }
-    ensures stands { (tree : Tree) → G.stands_for givers.old tree → OnOk result (G.stands_for givers.new tree) }
+    ensures stands { (tree : Tree) → G.stands_for givers.old tree
+        → OnOk result (G.stands_for givers.new tree) }
     ensures ports { OnOk result (G.ports givers.new ≡ G.ports givers.old) }
     ensures most { OnOk result (G.most givers.new ≡ G.most givers.old) }
-    ensures visits { G.visits counter.new ≤ G.visits counter.old + values_in (due_give t (G.states givers.old)) }
+    ensures visits { G.visits counter.new
+        ≤ G.visits counter.old + values_in (due_give t (G.states givers.old)) }
 {
     sparse_cycle::laws::leaves_give_one_after_another();
     collect(givers, due, t, bag, y, n, who, counter)?;
@@ -162,10 +172,14 @@ fn route<R: Routing>(
     requires found { found.old.items ≡ [] }
     requires x { x.old.items ≡ [] }
     requires out { out.old.items ≡ [] }
-    ensures x { OnOk result (x.new.items ≡ map (x_at t) (fed_in (values_at (y_records y.now) inputs.now)
-        (R.paths routes.now) (numbers (reaches (y_records y.now) inputs.now) (R.paths routes.now)))) }
-    ensures out { OnOk result (out.new.items ≡ map (out_at t) (out_in (values_at (y_records y.now) inputs.now)
-        (R.paths routes.now) (numbers (reaches (y_records y.now) inputs.now) (R.paths routes.now)))) }
+    ensures x { OnOk result (x.new.items
+        ≡ map (x_at t) (fed_in (values_at (y_records y.now) inputs.now)
+        (R.paths routes.now)
+        (numbers (reaches (y_records y.now) inputs.now) (R.paths routes.now)))) }
+    ensures out { OnOk result (out.new.items
+        ≡ map (out_at t) (out_in (values_at (y_records y.now) inputs.now)
+        (R.paths routes.now)
+        (numbers (reaches (y_records y.now) inputs.now) (R.paths routes.now)))) }
 {
     reach(routes, y, inputs, found)?;
     feed(routes, found, t, y, inputs, x, out)?;

@@ -40,10 +40,12 @@ pub trait Leaves<C> {
     ) -> Result<(), OutOfMemory>
         requires empty { into.old.items ≡ [] }
         requires due { leaf_next (leaf_of (states self.old) leaf) ≡ Some t }
-        ensures given { OnOk result (into.new.items ≡ collected_of t (leaf_of (states self.old) leaf)) }
+        ensures given { OnOk result (into.new.items
+            ≡ collected_of t (leaf_of (states self.old) leaf)) }
         ensures leaves { OnOk result (states self.new
             ≡ slice_set (states self.old) leaf (leaf_emitted t (leaf_of (states self.old) leaf))) }
-        ensures stands { (tree : Tree) → stands_for self.old tree → OnOk result (stands_for self.new tree) }
+        ensures stands { (tree : Tree) → stands_for self.old tree
+            → OnOk result (stands_for self.new tree) }
         ensures ports { OnOk result (ports self.new ≡ ports self.old) }
         ensures most { OnOk result (most self.new ≡ most self.old) }
         ensures visits { visits counter.new
@@ -67,7 +69,8 @@ pub trait Leaves<C> {
             (move_to t (states self.old) woken bag.now (slice_get (leaves tree) leaf)
             (leaf_of (states self.old) leaf))
             result }
-        ensures stands { (tree : Tree) → stands_for self.old tree → OnOk result (stands_for self.new tree) }
+        ensures stands { (tree : Tree) → stands_for self.old tree
+            → OnOk result (stands_for self.new tree) }
         ensures long { OnOk result (length (states self.new) ≡ length (states self.old)) }
         ensures ports { OnOk result (ports self.new ≡ ports self.old) }
         ensures most { OnOk result (most self.new ≡ most self.old) }

@@ -37,7 +37,8 @@ pub trait Routing {
         ensures { result.now ≡ numbers (is_from (TopIn input)) (paths self.now) };
 }
 
-/// Puts the rising numbers of the paths at whose source a Y record or an input stands into an empty list.
+/// Puts the rising numbers of the paths at whose source a Y record or an input stands into an empty
+/// list.
 pub fn reach<R: Routing>(
     routes: &R,
     y: &[YRecord],
@@ -45,7 +46,8 @@ pub fn reach<R: Routing>(
     into: &mut Vec<u32>,
 ) -> Result<(), OutOfMemory>
     requires { into.old.items ≡ [] }
-    ensures { OnOk result (into.new.items ≡ numbers (reaches (y_records y.now) inputs.now) (R.paths routes.now)) }
+    ensures { OnOk result (into.new.items
+        ≡ numbers (reaches (y_records y.now) inputs.now) (R.paths routes.now)) }
 {
     reach_from_leaves(routes, y, into)?;
     reach_from_tops(routes, inputs, into)?;
@@ -61,7 +63,8 @@ fn reach_from_leaves<R: Routing>(
     into: &mut Vec<u32>,
 ) -> Result<(), OutOfMemory>
     ensures { OnOk result ((k : ℕ) → is_among into.new.items k
-        ≡ (is_among into.old.items k || list_any (leads_from_leaf (R.paths routes.now) k) (y_records y.now))) }
+        ≡ (is_among into.old.items k
+        || list_any (leads_from_leaf (R.paths routes.now) k) (y_records y.now))) }
 {
     for r in y {
         into.extend_from_slice(routes.from_leaf(r.leaf))?;
@@ -76,7 +79,8 @@ fn reach_from_tops<R: Routing>(
     into: &mut Vec<u32>,
 ) -> Result<(), OutOfMemory>
     ensures { OnOk result ((k : ℕ) → is_among into.new.items k
-        ≡ (is_among into.old.items k || list_any (leads_from_top (R.paths routes.now) k) inputs.now)) }
+        ≡ (is_among into.old.items k
+        || list_any (leads_from_top (R.paths routes.now) k) inputs.now)) }
 {
     for e in inputs {
         into.extend_from_slice(routes.from_top(e.0))?;

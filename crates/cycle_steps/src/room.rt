@@ -5,7 +5,8 @@ use atomic_face::PortNo;
 use quantity::Value;
 use std::alloc::Global;
 
-/// Lists that each cycle uses again, so that it takes no memory where an earlier one has had as much.
+/// Lists that each cycle uses again, so that it takes no memory where an earlier one has had as
+/// much.
 #[derive(Drop)]
 pub struct Room {
     /// What one leaf gave, or what reaches it.

@@ -28,7 +28,8 @@ pub trait Watched {
     fn watchers_of(&self, leaf: u32, into: &mut Vec<u32>) -> Result<(), OutOfMemory>
         requires empty { into.old.items ≡ [] }
         ensures within { OnOk result (All (λ k. k < count self.now) into.new.items) }
-        ensures watch { OnOk result ((k : ℕ) → is_among into.new.items k ≡ watches self.now k leaf) };
+        ensures watch { OnOk result ((k : ℕ) → is_among into.new.items k
+            ≡ watches self.now k leaf) };
 }
 
 /// All of these leaves are in as well.
@@ -53,7 +54,8 @@ pub fn wake<W: Watched, S: LeafSet>(
     requires woken { length (S.members woken.old) ≡ W.count watched.now }
     requires touched { length (S.members touched.old) ≡ W.count watched.now }
     ensures long { OnOk result (length (S.members woken.new) ≡ length (S.members woken.old)) }
-    ensures touched_long { OnOk result (length (S.members touched.new) ≡ length (S.members touched.old)) }
+    ensures touched_long { OnOk result (length (S.members touched.new)
+        ≡ length (S.members touched.old)) }
     ensures woken { OnOk result (Marks (watches_any (W.watches watched.now) givers.now)
         (S.members woken.old) (S.members woken.new)) }
     ensures touched { OnOk result (Marks (watches_any (W.watches watched.now) givers.now)
@@ -74,7 +76,8 @@ pub fn touch<S: LeafSet>(touched: &mut S, due: &[u32], fed: &[XRecord], into: &m
     requires fed { All (λ (r : AnyXRecord). r.leaf < length (S.members touched.old)) fed.now }
     requires empty { into.old.items ≡ [] }
     requires room { length (S.members touched.old) ≤ vec_capacity into.old }
-    ensures taken { into.new.items ≡ reached (is_in (S.members touched.old)) (length (S.members touched.old))
+    ensures taken { into.new.items
+        ≡ reached (is_in (S.members touched.old)) (length (S.members touched.old))
         due.now (x_records fed.now) }
     ensures left { S.members touched.new ≡ replicate (length (S.members touched.old)) false }
     ensures capacity { vec_capacity into.new ≡ vec_capacity into.old }

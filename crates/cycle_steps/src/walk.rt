@@ -21,8 +21,10 @@ use quantity::{OutOfMemory, Time, Value};
 use record_text::{SRecord, XRecord};
 use time_queue::TimeQueue;
 
-/// Moves all touched leaves, each by its bag of the X records, which stand by rising leaf, and with its next time in the
-/// queue: the S records. It takes no more visits than the moves of these leaves, also where one stops or memory ends.
+/// Moves all touched leaves, each by its bag of the X records, which stand by rising leaf, and with
+/// its next time in the
+/// queue: the S records. It takes no more visits than the moves of these leaves, also where one
+/// stops or memory ends.
 pub fn walk<C, Q: TimeQueue, S: LeafSet, M: Leaves<C>>(
     movers: &mut M,
     queue: &mut Q,
@@ -47,7 +49,8 @@ pub fn walk<C, Q: TimeQueue, S: LeafSet, M: Leaves<C>>(
         → WalksTo t (reference.walk tree t given (x_records x.now) touched.now
         (stand_of (M.states movers.old) (Q.waiting queue.old)))
         (M.states movers.new) (Q.waiting queue.new) s.new.items result }
-    ensures stands { (tree : AnyTree) → M.stands_for movers.old tree → OnOk result (M.stands_for movers.new tree) }
+    ensures stands { (tree : AnyTree) → M.stands_for movers.old tree
+        → OnOk result (M.stands_for movers.new tree) }
     ensures visits { M.visits counter.new ≤ M.visits counter.old + sum_by (M.most movers.old) touched.now }
 {
     for leaf in touched {
@@ -81,7 +84,8 @@ fn step<C, Q: TimeQueue, S: LeafSet, M: Leaves<C>>(
         → is_in (S.members woken.now) leaf ≡ is_woken_at given (slice_get (leaves tree) leaf)
         → StepsOne t (M.states movers.old) (M.states movers.new) (Q.waiting queue.old) (Q.waiting queue.new)
         s.old.items s.new.items leaf (move_at tree t (M.states movers.old) given (x_records x.now) leaf) result }
-    ensures stands { (tree : AnyTree) → M.stands_for movers.old tree → OnOk result (M.stands_for movers.new tree) }
+    ensures stands { (tree : AnyTree) → M.stands_for movers.old tree
+        → OnOk result (M.stands_for movers.new tree) }
     ensures long { OnOk result (length (M.states movers.new) ≡ length (M.states movers.old)) }
     ensures waiting { OnOk result (length (Q.waiting queue.new) ≡ length (Q.waiting queue.old)) }
     ensures ports { OnOk result (M.ports movers.new ≡ M.ports movers.old) }

@@ -1,6 +1,5 @@
-use Rattle.std.proofs.Common.{◌+◌, ◌∙◌}
+use Rattle.std.proofs.Common.{◌∙◌}
 use Rattle.sparse_cycle.specs.Collect.{collect_each}
-use Rattle.cycle_steps.specs.Gathering.{values_in}
 use Rattle.cycle_steps.proofs.Gathered.{collects-more, visits-more, visits-end, can-more}
 use Rattle.cycle_steps.proofs.collect.collect.Goals as goal
 

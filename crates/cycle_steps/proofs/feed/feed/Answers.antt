@@ -2,7 +2,7 @@ use Rattle.std.proofs.Common.{◌++◌, ◌∙◌, map, ap}
 use Rattle.record_text.specs.Held.{x_at, out_at}
 use Rattle.route_flat.specs.declared.source.Path.{Path}
 use Rattle.cycle_steps.specs.Untimed.{y_records}
-use Rattle.cycle_steps.specs.Routed.{values_at, path_at, fed_to, out_to, fed_in, out_in}
+use Rattle.cycle_steps.specs.Routed.{values_at, path_at, fed_to, out_to}
 use Rattle.cycle_steps.proofs.Runs.{one-more}
 use Rattle.cycle_steps.proofs.feed.feed.Goals as goal
 

@@ -1,8 +1,7 @@
-use Rattle.std.proofs.Common.{◌∙◌, ◌+◌, ◌≤◌, List, ℕ, ap, sym, subst}
+use Rattle.std.proofs.Common.{◌∙◌, List, ℕ, ap, sym, subst}
 use Rattle.sparse_cycle.specs.Collect.{Collected, CanCollect, collect_each}
-use Rattle.cycle_steps.specs.Gathering.{Collects, values_in}
+use Rattle.cycle_steps.specs.Gathering.{Collects}
 use Rattle.cycle_steps.specs.Watching.{watches_any}
-use Rattle.cycle_steps.specs.Half.{due_give}
 use Rattle.cycle_steps.proofs.Halves.{only-these}
 use Rattle.cycle_steps.proofs.half.give_and_wake.Goals as goal
 

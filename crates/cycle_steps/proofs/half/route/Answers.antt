@@ -1,4 +1,4 @@
-use Rattle.std.proofs.Common.{◌∙◌, ◌++◌, ◌<◌, List, ℕ, length, map, ap, sym, subst}
+use Rattle.std.proofs.Common.{◌∙◌, ◌++◌, ◌<◌, List, ℕ, length, map, sym, subst}
 use Rattle.std.specs.List.{All}
 use Rattle.record_text.specs.Held.{x_at, out_at}
 use Rattle.cycle_steps.specs.Untimed.{y_records}

@@ -1,6 +1,6 @@
 use Rattle.std.proofs.Common.{◌∙◌, ◌≤◌, ◌+◌, ℕ, slice_index_or, subst}
 use Rattle.cycle_steps.specs.Untimed.{x_records}
-use Rattle.cycle_steps.proofs.Steps.{walk_from, walks-more, halts-here, visits-more, visits-end}
+use Rattle.cycle_steps.proofs.Steps.{walk_from, walks-more, halts-here, visits-more}
 use Rattle.cycle_steps.proofs.walk.walk.Goals as goal
 
 pub loop-leaf-preserved : goal.loop-leaf-preserved
