@@ -1,13 +1,12 @@
 -- The numbers of the targets of a source are those of the paths from it.
 use Rattle.std.proofs.Common.{◌≡◌, ◌+◌, ◌++◌, ◌∷◌, ℕ, Bool, true, false, List, [], map, get_or, length, refl, sym, ap, ◌∙◌, arith, append_assoc, length-append}
-use Rattle.std.specs.Prelude.{if◌then◌else◌}
 use Rattle.std.specs.List.{enumerate_from, filter, range_with_len}
 use Rattle.std.proofs.Math.Seq.{get_or-append_seam}
 use Rattle.route_flat.specs.declared.source.Source.{Source}
 use Rattle.route_flat.specs.declared.source.Path.{Path}
 use Rattle.route_flat.specs.declared.source.Way.{Way}
 use Rattle.route_flat.specs.declared.source.Target.{Target}
-use Rattle.route_flat.specs.Ways.{path_in, is_way_from, target_of, targets_among, is_from, nowhere, path_at, numbers}
+use Rattle.route_flat.specs.Ways.{path_in, is_way_from, target_of, targets_among, is_from, nowhere, numbers}
 
 abbrev number_in : Target → ℕ
 number_in t = t.path

@@ -1,15 +1,14 @@
 -- Lists whose items are numbered, one item more at a time; and lists by number, of which one gets an item more.
-use Rattle.std.proofs.Common.{◌≡◌, ◌≢◌, ◌<◌, ◌≤◌, ◌+◌, ◌++◌, ◌∷◌, ℕ, zero, suc, Bool, true, false, List, [], map, set, get_or, take, length, refl, sym, ap, ◌∙◌, arith, append_assoc, append-nil, get_or-set_same, get_or-set_other}
+use Rattle.std.proofs.Common.{◌≡◌, ◌≢◌, ◌<◌, ◌+◌, ◌++◌, ◌∷◌, ℕ, Bool, true, false, List, [], map, set, get_or, take, length, refl, sym, ap, ◌∙◌, arith, append_assoc, append-nil, get_or-set_same, get_or-set_other}
 use Rattle.std.specs.Prelude.{◌==◌, if◌then◌else◌}
 use Rattle.std.specs.List.{enumerate_from, filter, flat_map}
-use Rattle.std.proofs.lemmas.List.{length-map, length-take-le, map-append, map-set, map_push, take_more, take_all, get_or-map}
+use Rattle.std.proofs.lemmas.List.{length-map, length-take-le, map-set, map_push, take_more, get_or-map}
 use Rattle.std.proofs.lemmas.List.Concat.{flat_map-append}
 use Rattle.std.proofs.lemmas.List.Elements.{filter-append}
 use Rattle.std.proofs.lemmas.Bool.Decides.{nat_tests}
 use Rattle.route_flat.specs.declared.source.Source.{Source}
 use Rattle.route_flat.specs.declared.source.TargetPort.{TargetPort}
 use Rattle.route_flat.specs.declared.source.Way.{Way}
-use Rattle.route_flat.specs.declared.source.Target.{Target}
 use Rattle.route_flat.specs.Ways.{same_source, way_at, ways_at, is_way_from, target_of, targets_among}
 
 -- ---- numbered items

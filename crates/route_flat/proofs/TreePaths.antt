@@ -1,17 +1,16 @@
 -- The paths of routes, made of their sources, are those of the tree.
-use Rattle.std.proofs.Common.{◌≡◌, ◌+◌, ◌++◌, ◌∷◌, ℕ, List, [], map, refl, sym, ap, ◌∙◌}
+use Rattle.std.proofs.Common.{◌≡◌, ◌+◌, ◌++◌, ◌∷◌, ℕ, List, [], map, refl, ap, ◌∙◌}
 use Rattle.std.specs.List.{enumerate_from, flat_map}
 use Rattle.std.proofs.lemmas.List.{map-append}
 use Rattle.model_tree.specs.Tree.{Word, Tree, ins_of}
 use Rattle.model_tree.specs.Pull as P
 use Rattle.route_flat.specs.declared.source.Source.{Source}
-use Rattle.route_flat.specs.declared.source.Path.{Path}
 use Rattle.route_flat.specs.declared.source.TargetPort.{TargetPort}
 use Rattle.route_flat.specs.declared.source.TargetPort.TheVariants as target
 use Rattle.route_flat.specs.declared.source.Way.{Way}
 use Rattle.route_flat.specs.Nets.{Flat, RoutesOf, named}
-use Rattle.route_flat.specs.Ways.{path_in, way_at, ways_at, ways_to_port, ways_to_leaf, ways_to_top, paths_of, leaf_paths, top_paths, ways_of}
-use Rattle.route_flat.specs.TreePaths.{TreePath, tree_path, made_to, made_of, made_at, made_in, PathsOfTree}
+use Rattle.route_flat.specs.Ways.{path_in, way_at, ways_to_port, ways_to_leaf, ways_to_top, leaf_paths, top_paths}
+use Rattle.route_flat.specs.TreePaths.{tree_path, made_to, made_of, made_at, made_in, PathsOfTree}
 
 -- what is made of a way
 abbrev made : {X : Type 0} → (ℕ → ℕ → P.Source → X) → List Word → List Way → List X

@@ -6,7 +6,7 @@ use Rattle.model_tree.specs.Pull as P
 use Rattle.route_flat.specs.declared.source.Path.{Path}
 use Rattle.route_flat.specs.declared.source.TargetPort.{TargetPort}
 use Rattle.route_flat.specs.declared.source.TargetPort.TheVariants as target
-use Rattle.route_flat.specs.Nets.{Flat, RoutesOf, named}
+use Rattle.route_flat.specs.Nets.{Flat, named}
 use Rattle.route_flat.specs.Ways.{paths_of, leaf_paths, top_paths}
 
 -- a path of the tree: the leaf and its port, or 0 and an output of top, and the source

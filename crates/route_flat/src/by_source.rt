@@ -36,7 +36,7 @@ impl BySource {
     ) -> Result<(), OutOfMemory>
         ensures { OnOk result ((other : Source) → list_from self.new other
             ≡ (if same_source other from then list_from self.old other ++ target ∷ []
-               else list_from self.old other)) }
+            else list_from self.old other)) }
     {
         match from {
             Source::Leaf(leaf) => put_at(alloc, &mut self.leaves, leaf as usize, target),
@@ -82,11 +82,7 @@ fn put_at(
 }
 
 /// Appends lists of nothing until there is one of this number.
-fn reach(
-    alloc: Global,
-    lists: &mut Vec<Vec<Target>>,
-    number: usize,
-) -> Result<(), OutOfMemory>
+fn reach(alloc: Global, lists: &mut Vec<Vec<Target>>, number: usize) -> Result<(), OutOfMemory>
     ensures same { let old = map (λ v. v.items) lists.old.items in
         let new = map (λ v. v.items) lists.new.items in
         (k : ℕ) → slice_index_or new k [] ≡ slice_index_or old k [] }

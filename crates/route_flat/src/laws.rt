@@ -7,5 +7,4 @@ ghost use Rattle.route_flat.specs.TreePaths.{PathsOfTree};
 /// the sources of the port, and then by outputs of top.
 pub fn paths_are_those_of_the_tree()
     ensures { (t : Tree) (r : Flat) → RoutesOf t r → PathsOfTree t r }
-{
-}
+{}

@@ -1,5 +1,6 @@
 // Why there are no routes.
 ghost use Rattle.std.specs.Prelude.{◌≡◌};
+
 use quantity::OutOfMemory;
 
 /// Why there are no routes.

@@ -1,4 +1,4 @@
-use Rattle.std.proofs.Common.{◌≡◌, ◌<◌, ℕ, ap, sym, ◌∙◌, List, [], ◌∷◌, ◌++◌, get_or, length, arith, refl}
+use Rattle.std.proofs.Common.{ℕ, ap, sym, ◌∙◌, List, [], ◌∷◌, ◌++◌, get_or, arith, refl}
 use Rattle.std.specs.Prelude.{if◌then◌else◌}
 use Rattle.route_flat.specs.declared.source.Source.TheVariants.{Leaf}
 use Rattle.route_flat.specs.declared.source.TargetPort.TheVariants as target

@@ -1,4 +1,4 @@
-use Rattle.std.proofs.Common.{◌≡◌, ◌<◌, ℕ, ap, ◌∙◌, List, [], ◌++◌, get_or, length, arith, refl}
+use Rattle.std.proofs.Common.{◌≡◌, ℕ, ap, ◌∙◌, [], ◌++◌, get_or, arith, refl}
 use Rattle.route_flat.specs.Ways.{ways_to_leaf}
 use Rattle.route_flat.proofs.Steps.{ways-more}
 use Rattle.route_flat.proofs.ways.to_leaves.Goals as goal

@@ -1,4 +1,4 @@
-use Rattle.std.proofs.Common.{rules, ◌≡◌, ◌<◌, ℕ, ap, ◌∙◌, List, [], ◌∷◌, ◌++◌, get_or, length, arith, refl}
+use Rattle.std.proofs.Common.{rules, ◌≡◌, ℕ, ap, ◌∙◌, [], ◌∷◌, ◌++◌, get_or, arith, refl}
 use Rattle.route_flat.specs.declared.source.Source.{Source}
 use Rattle.route_flat.specs.declared.source.Source.TheVariants.{Leaf}
 use Rattle.route_flat.specs.Ways.{way_at}

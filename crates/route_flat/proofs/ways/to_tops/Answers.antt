@@ -1,4 +1,4 @@
-use Rattle.std.proofs.Common.{◌≡◌, ◌<◌, ℕ, ap, ◌∙◌, List, [], ◌++◌, get_or, length, arith}
+use Rattle.std.proofs.Common.{◌≡◌, ℕ, ap, ◌∙◌, [], ◌++◌, get_or, arith}
 use Rattle.route_flat.specs.declared.source.TargetPort.TheVariants as target
 use Rattle.route_flat.specs.Ways.{ways_at, ways_to_top}
 use Rattle.route_flat.proofs.Steps.{ways-more}
