@@ -1,0 +1,7 @@
+pub mod Changes
+pub mod Sees
+pub mod Laid
+pub mod Taking
+pub mod Kept
+pub mod Emitting
+pub mod Ready

@@ -1,0 +1,17 @@
+-- A store stays ready where its table keeps its numbers.
+use Rattle.std.proofs.Common.{◌≡◌, ℕ, ◌+◌, ◌*◌, ◌≤◌, ◌<◌, length, sym, ◌∙◌, ap, subst, arith}
+use Rattle.cell_engine.specs.Layout.{Layout}
+use Rattle.cell_engine.specs.Table.{Table}
+use Rattle.cell_engine.specs.Store.{IsReady}
+
+pub ready_after : (l : Layout) (t u : Table) (p r c d : ℕ) → u.width ≡ t.width → u.variables ≡ t.variables → length u.cells ≡ length t.cells → IsReady l t p r c d → IsReady l u p r c d
+ready_after l t u p r c d w v n h =
+    record {
+      width = w ∙ h.width;
+      variables = v ∙ h.variables;
+      cells = n ∙ h.cells;
+      places = h.places;
+      room = subst (λ (k : ℕ). length l.offsets * k ≤ r) (sym w) h.room;
+      changed = h.changed;
+      depth = h.depth;
+    }

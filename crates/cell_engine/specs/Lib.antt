@@ -1,0 +1,6 @@
+pub mod Layout
+pub mod Cells
+pub mod Saved
+pub mod Laws
+pub mod Table
+pub mod Store

@@ -1,0 +1,30 @@
+-- When a store is ready for each step of its cells. Only private clauses name this.
+use Rattle.std.specs.Prelude.{◌≡◌, ℕ, ◌+◌, ◌*◌, ◌≤◌, ◌<◌, Option, List, length, vec_capacity}
+use Rattle.std.specs.List.{All}
+use Rattle.rule_eval.specs.RuleCodes.{Codes, rule_depth}
+use Rattle.cell_grid.specs.Space.{cell_count}
+use Rattle.cell_grid.specs.Neighbourhoods.{Neighbourhood}
+use Rattle.model_tree.specs.declared.group.PortRule.{PortRule}
+use Rattle.cell_engine.specs.Layout.{Layout}
+use Rattle.cell_engine.specs.Table.{Table}
+
+-- each cell and each port rule has a rule set, and the numbers are those that a group may have
+pub record IsPlan (l : Layout) (n : Neighbourhood) : Type 0 where
+  pub near : n ≡ record { space = l.space; offsets = l.offsets }
+  pub cells : length l.sets ≡ cell_count l.space
+  pub sets : All (λ k. k < length l.codes) l.sets
+  pub port_rules : All (λ (r : PortRule). r.rules < length l.codes) l.port_rules
+  pub ports : l.ports ≤ 3
+  pub variables : l.variables ≤ 8
+  pub offsets : length l.offsets ≤ 128
+  pub delay : l.default_delay ≤ 359999999
+
+-- the table has the layout's cells, and there is room for what a cell sees, sets and evaluates
+pub record IsReady (l : Layout) (t : Table) (p r c d : ℕ) : Type 0 where
+  pub width : t.width ≡ l.ports + 1
+  pub variables : t.variables ≡ l.variables
+  pub cells : length t.cells ≡ cell_count l.space
+  pub places : p ≡ length l.offsets
+  pub room : length l.offsets * t.width ≤ r
+  pub changed : c ≡ l.variables
+  pub depth : All (λ rules. All (λ rule. rule_depth rule ≤ d) rules) l.codes

@@ -1,0 +1,55 @@
+// What a store keeps of its group.
+use cell_grid::{Grid, Reach};
+use model_tree::{DelayKind, PortRule};
+use quantity::Time;
+use rule_eval::RuleCode;
+use std::marker::Model;
+
+/// What a store keeps of its group: the space and the offsets, the delays, and the rules with the number of each cell's
+/// rule set. It is seen as a layout.
+#[derive(Drop)]
+pub(crate) struct Plan {
+    pub grid: Grid,
+    pub kind: DelayKind,
+    pub default_delay: Time,
+    pub reach: Reach,
+    pub codes: Vec<Vec<RuleCode>>,
+    // For each cell the number of its rule set.
+    pub sets: Vec<usize>,
+    pub port_rules: Vec<PortRule>,
+    // How many further ports and how many variables a cell has.
+    pub ports: usize,
+    pub variables: usize,
+}
+
+impl Model for Plan {
+    ghost use Rattle.std.specs.Prelude.{map};
+    ghost use Rattle.cell_engine.specs.Layout.{Layout};
+    ghost use Rattle.cell_engine.specs.Store.{IsPlan};
+
+    ghost Value = { Layout };
+
+    ghost view = { λ p. record {
+      space = p.grid;
+      kind = p.kind;
+      default_delay = p.default_delay;
+      offsets = p.reach.offsets;
+      codes = map (λ rules. rules.items) p.codes.items;
+      sets = p.sets.items;
+      port_rules = p.port_rules.items;
+      ports = p.ports;
+      variables = p.variables;
+    } };
+
+    ghost invariant = { λ p. IsPlan (record {
+      space = p.grid;
+      kind = p.kind;
+      default_delay = p.default_delay;
+      offsets = p.reach.offsets;
+      codes = map (λ rules. rules.items) p.codes.items;
+      sets = p.sets.items;
+      port_rules = p.port_rules.items;
+      ports = p.ports;
+      variables = p.variables;
+    }) p.reach };
+}

@@ -1,0 +1,155 @@
+// The cells of a group, and what one step makes of a cell.
+ghost use Rattle.std.specs.Prelude.{◌≡◌, ℕ, ◌+◌, ◌<◌, ◌≤◌, [], ◌∷◌, length, map, OnOk, OnErr, IfOk, IsTrue, Ok, Some, slice_get, slice_index_or};
+ghost use Rattle.std.specs.List.{All};
+ghost use Rattle.quantity.specs.declared.value.Value.{Value as AnyValue};
+ghost use Rattle.atomic_face.specs.declared.class.PortNo.{PortNo as Port};
+ghost use Rattle.model_tree.specs.Tree.{Group};
+ghost use Rattle.model_tree.specs.Pull.{cell_ports};
+ghost use Rattle.model_tree.specs.Sound.{is_sound_group};
+ghost use Rattle.model_tree.specs.Stands.{group_of};
+ghost use Rattle.run_model.specs.CellStep.{initial_cell, cell_next, cell_emitted, cell_output};
+ghost use Rattle.cell_engine.specs.Layout.{StandsFor};
+ghost use Rattle.cell_engine.specs.Cells.{Cells, cell_at, with_cell, Tells, bag_of_given, computed_at, Computes, OnlyCell, CanBePut};
+ghost use Rattle.cell_engine.specs.Saved.{cell_of_saved};
+
+use crate::plan::Plan;
+use crate::table::CellTable;
+use crate::{Cell, CellState, CellStop, Steps};
+use atomic_face::PortNo;
+use model_tree::CellGroup;
+use quantity::{Name, OutOfMemory, Time, Value};
+use rule_eval::{Given, Stack};
+use std::alloc::Global;
+use std::marker::Model;
+use std::sync::ledger::Ledger;
+
+/// The cells of a group. It is seen as their states, and as what it keeps of the group.
+#[derive(Drop)]
+pub struct CellStore {
+    plan: Plan,
+    table: CellTable,
+    // Room that each step uses again: who the neighbours are, what a cell sees of them, its variables after the sets, and
+    // the stack on which rules are evaluated.
+    neighbours: Vec<Option<u32>>,
+    seen: Vec<Value>,
+    changed: Vec<Value>,
+    stack: Stack,
+}
+
+impl Model for CellStore {
+    ghost use Rattle.std.specs.Prelude.{length, vec_capacity};
+    ghost use Rattle.cell_engine.specs.Cells.{Cells};
+    ghost use Rattle.cell_engine.specs.Store.{IsReady};
+
+    ghost Value = { Cells };
+
+    ghost view = { λ s. record { layout = s.plan; cells = s.table.cells } };
+
+    ghost invariant = { λ s. IsReady s.plan s.table (length s.neighbours.items) (vec_capacity s.seen) (length s.changed.items) s.stack.depth };
+}
+
+impl CellStore {
+    /// The cells of a group before the first cycle. Each waits for its initial values at 0.
+    pub fn new(alloc: Global, group: &CellGroup) -> Result<CellStore, OutOfMemory>
+        requires { IsTrue (is_sound_group (group_of group.now)) }
+        ensures layout { IfOk result (λ s. StandsFor (group_of group.now) s.layout) }
+        ensures cells { IfOk result (λ s. s.cells ≡ map (initial_cell (group_of group.now)) group.now.initial) }
+    {
+        Err(OutOfMemory)
+    }
+
+    /// How many cells there are.
+    pub fn cells(&self) -> u32
+        ensures value { result ≡ length self.now.cells }
+        ensures most { result ≤ 1048576 }
+    {
+        self.table.cells()
+    }
+
+    /// What a cell gave and computed, and its next time. It takes no memory.
+    pub fn cell<L: Ledger>(&self, i: u32, steps: &mut Steps<L>) -> Cell
+        requires { i < length self.now.cells }
+        ensures cell { Tells result (cell_at self.now.cells i) }
+        ensures steps { steps.new ≡ steps.old + 1 }
+    {
+        steps.tick();
+        self.table.tell(i)
+    }
+
+    /// The value of a variable of a cell. It takes no memory.
+    pub fn variable<L: Ledger>(&self, i: u32, k: u8, steps: &mut Steps<L>) -> Value
+        requires cell { i < length self.now.cells }
+        requires variable { k < self.now.layout.variables }
+        ensures value { slice_get (cell_at self.now.cells i).variables k ≡ Some result }
+        ensures steps { steps.new ≡ steps.old + 1 }
+    {
+        steps.tick();
+        let variables = self.table.variables_at(i);
+        variables[usize::from(k)]
+    }
+
+    /// A cell that is due gives, at each port that waits for this time, the value of its first pair, which leaves the
+    /// list. It takes no memory.
+    pub fn emit<L: Ledger>(&mut self, i: u32, t: Time, steps: &mut Steps<L>) -> Given
+        requires within { i < length self.old.cells }
+        requires due { cell_next (cell_at self.old.cells i) ≡ Some t }
+        ensures value { bag_of_given result ≡ cell_output t (cell_at self.old.cells i) }
+        ensures cells { self.new ≡ with_cell self.old i (cell_emitted t (cell_at self.old.cells i)) }
+        ensures steps { steps.new ≡ steps.old + 1 }
+    {
+        steps.tick();
+        self.table.emit(i, t)
+    }
+
+    /// A cell after its emission moves: where it is woken its rules are evaluated over what the cells gave, and then each
+    /// value of its bag is treated. `ports` are the names of the cell's input ports by number. One visit, and one for each
+    /// offset. After a stop nothing is promised of this cell but what it has emitted.
+    pub fn compute<L: Ledger>(
+        &mut self,
+        i: u32,
+        t: Time,
+        woken: bool,
+        bag: &[(PortNo, Value)],
+        ports: &[Name],
+        steps: &mut Steps<L>,
+    ) -> Result<(), CellStop>
+        requires within { i < length self.old.cells }
+        requires time { t ≤ 359999999 }
+        requires ports { All (λ (o : Port × AnyValue). o.0.0 < length ports.now) bag.now }
+        // For every group that the store stands for.
+        ensures computed { (g : Group) → StandsFor g self.old.layout → IsTrue (is_sound_group g) → ports.now ≡ cell_ports g i
+            → Computes i self.old.cells self.new.cells (computed_at t g self.old.cells i woken bag.now) result }
+        ensures layout { self.new.layout ≡ self.old.layout }
+        ensures only { OnlyCell i self.old.cells self.new.cells }
+        ensures steps { steps.new ≡ steps.old + (1 + length self.old.layout.offsets) }
+    {
+        steps.tick();
+        steps.count(self.neighbours.len());
+        Err(CellStop::Memory)
+    }
+
+    /// The state of a cell.
+    pub fn state<L: Ledger>(
+        &self,
+        alloc: Global,
+        i: u32,
+        steps: &mut Steps<L>,
+    ) -> Result<CellState, OutOfMemory>
+        requires { i < length self.now.cells }
+        ensures state { IfOk result (λ c. cell_of_saved c ≡ cell_at self.now.cells i) }
+        ensures steps { steps.new ≡ steps.old + 1 }
+    {
+        steps.tick();
+        Err(OutOfMemory)
+    }
+
+    /// The cell has this state, and every other cell stays. Without memory nothing changes. It counts no visit.
+    pub fn put(&mut self, i: u32, state: &CellState) -> Result<(), OutOfMemory>
+        requires within { i < length self.old.cells }
+        requires state { CanBePut self.old.layout (cell_of_saved state.now) }
+        ensures ok { OnOk result (self.new ≡ with_cell self.old i (cell_of_saved state.now)) }
+        ensures err { OnErr result (self.new ≡ self.old) }
+    {
+        Err(OutOfMemory)
+    }
+}
