@@ -228,12 +228,12 @@ module _ (s : Inside) (t : Table) (is : seen_as s ≡ t) (h : Laid s) (i : ℕ) 
         where
           side : (j m : ℕ) → j ≢ i → j * s.count ≤ m → m < j * s.count + s.count → (m < i * s.count) ⊎ (i * s.count + length new ≤ m)
           side j m ne low high = elim (laid.order i j) [
-              inl le ↦
-              let rows : (i + 1) * s.count ≤ j * s.count = mul-le (i + 1) s.count j s.count (omega (arith, le, ne)) (omega arith) in
-              inr (omega (arith, rows, add-mul i 1 s.count, low, long))
+            | inl le ↦
+                let rows : (i + 1) * s.count ≤ j * s.count = mul-le (i + 1) s.count j s.count (omega (arith, le, ne)) (omega arith) in
+                inr (omega (arith, rows, add-mul i 1 s.count, low, long))
             | inr lt ↦
-              let rows : (j + 1) * s.count ≤ i * s.count = mul-le (j + 1) s.count i s.count (omega (arith, lt)) (omega arith) in
-              inl (omega (arith, rows, add-mul j 1 s.count, high))
+                let rows : (j + 1) * s.count ≤ i * s.count = mul-le (j + 1) s.count i s.count (omega (arith, lt)) (omega arith) in
+                inl (omega (arith, rows, add-mul j 1 s.count, high))
           ]
 
   -- a port past the last

@@ -102,7 +102,7 @@ port_changed F G V w count n i p f lt here other =
     λ k. record { ports = same k; variables = map V (range_with_len (j * count) count) })
 
 -- a function that has a list's elements from a number on
-range_list : {A : Type 0} (d : A) (G : ℕ → A) (xs : List A) (b : ℕ) → ((k : ℕ) → k < length xs → G (b + k) ≡ get_or xs k d) → map G (range_with_len b (length xs)) ≡ xs
+pub range_list : {A : Type 0} (d : A) (G : ℕ → A) (xs : List A) (b : ℕ) → ((k : ℕ) → k < length xs → G (b + k) ≡ get_or xs k d) → map G (range_with_len b (length xs)) ≡ xs
 range_list d G [] b same = refl
 range_list d G (x ∷ xs) b same =
     let head : G b ≡ x = ap G (sym (add-zero b)) ∙ same 0 (omega arith) in

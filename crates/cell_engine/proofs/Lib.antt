@@ -5,3 +5,5 @@ pub mod Taking
 pub mod Kept
 pub mod Emitting
 pub mod Ready
+pub mod Planned
+pub mod Starting

@@ -5,7 +5,7 @@ use Rattle.quantity.specs.declared.value.Value.{Value}
 use Rattle.quantity.specs.declared.value.Value.TheVariants.{Undefined}
 use Rattle.rule_tree.specs.Ports.{changed_at}
 use Rattle.atomic_face.specs.Classes.{is_at}
-use Rattle.run_model.specs.CellStep.{PortState, CellState, first_time, port_emitted}
+use Rattle.run_model.specs.CellStep.{PortState, CellState, first_time, port_emitted, initial_port}
 use Rattle.run_model.specs.Fitting.{HasNumbers}
 use Rattle.cell_engine.specs.Cells.{cell_at}
 
@@ -76,6 +76,21 @@ pub record HasShape (old new : Table) : Type 0 where
   pub width : new.width ≡ old.width
   pub variables : new.variables ≡ old.variables
   pub cells : length new.cells ≡ length old.cells
+
+-- ---- the start
+
+-- the list in which a value waits for 0
+abbrev pub waits_at_0 : Value → List (ℕ × Value)
+waits_at_0 v = (0, v) ∷ []
+
+-- a cell at the start: its initial value, those of its further ports, and its variables
+abbrev pub started : List Value → List Value → Value → CellState
+started further variables v = record { ports = map initial_port (v ∷ further); variables = variables }
+
+-- all cells at the start
+abbrev pub starting : List Value → List Value → List Value → Table
+starting initial further xs =
+    record { width = length further + 1; variables = length xs; cells = map (started further xs) initial }
 
 -- ---- what a port tells
 

@@ -3,6 +3,7 @@
 
 pub mod cell;
 pub mod laws;
+mod make;
 mod plan;
 pub mod state;
 mod steps;

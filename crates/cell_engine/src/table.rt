@@ -1,18 +1,20 @@
 // All ports and variables of all cells, in flat lists.
-ghost use Rattle.std.specs.Prelude.{◌≡◌, [], ◌∷◌, ◌++◌, ◌+◌, ◌*◌, ◌<◌, ◌≤◌, take, drop, length, slice_index_or, None, OnOk, OnErr};
+ghost use Rattle.std.specs.Prelude.{◌≡◌, [], ◌∷◌, ◌++◌, ◌+◌, ◌*◌, ◌<◌, ◌≤◌, take, drop, length, slice_index_or, None, OnOk, OnErr, IfOk, map, replicate};
+ghost use Rattle.std.specs.List.{flat_map};
 ghost use Rattle.quantity.specs.Arithmetic.{same_value};
 ghost use Rattle.quantity.specs.declared.value.Value.{Value as AnyValue};
 ghost use Rattle.rule_tree.specs.Ports.{taken_at, taken_by_port};
 ghost use Rattle.run_model.specs.CellStep.{first_time, least, port_emitted, port_took, delayed, cell_next, cell_output, cell_emitted};
 ghost use Rattle.cell_engine.specs.Cells.{Tells, bag_of_given, cell_at, emitted_of, computed_of, OnlyCell};
 ghost use Rattle.delay_lines.specs.Lists.{list_of, ChangesList};
-ghost use Rattle.cell_engine.specs.Table.{pair_at, IsTable, HasShape, with_variables, changed_cell, changed_port, changed_ports, port_at, given_by_port};
+ghost use Rattle.cell_engine.specs.Table.{starting, waits_at_0, pair_at, IsTable, HasShape, with_variables, changed_cell, changed_port, changed_ports, port_at, given_by_port};
 
 use crate::Cell;
 use delay_lines::Delays;
 use model_tree::DelayKind;
 use quantity::{OutOfMemory, Time, Value};
 use rule_eval::Given;
+use std::alloc::{AllocError, Global};
 use std::marker::Model;
 
 /// The cells of a group in flat lists. It is seen as their states, and the numbers of their ports and variables.
@@ -45,6 +47,32 @@ impl Model for CellTable {
 }
 
 impl CellTable {
+    /// Cells that each wait at 0 for their initial value, and at each further port for the value of that port.
+    pub fn new(
+        alloc: Global,
+        outs: &[Value],
+        further: &[Value],
+        variables: &[Value],
+    ) -> Result<CellTable, OutOfMemory>
+        requires cells { length outs.now ≤ 1048576 }
+        requires ports { length further.now ≤ 3 }
+        requires variables { length variables.now ≤ 8 }
+        ensures { IfOk result (λ t. t ≡ starting outs.now further.now variables.now) }
+    {
+        let computed = port_values(alloc, outs, further)?;
+        let emitted = undefined(alloc, computed.len())?;
+        let delays = waiting(alloc, &computed)?;
+        Ok(CellTable {
+            width: further.len() + 1,
+            count: variables.len(),
+            cells: outs.len() as u32,
+            emitted,
+            computed,
+            delays,
+            variables: repeated(alloc, outs, variables)?,
+        })
+    }
+
     /// How many cells there are.
     pub fn cells(&self) -> u32
         ensures value { result ≡ length self.now.cells }
@@ -268,6 +296,69 @@ impl CellTable {
     }
 }
 
+/// The values of all ports of all cells at the start.
+#[tactic(auto, using(crate::proofs::Starting::flat_more))]
+fn port_values(alloc: Global, outs: &[Value], further: &[Value]) -> Result<Vec<Value>, OutOfMemory>
+    ensures { IfOk result (λ values. values.items ≡ flat_map (λ v. v ∷ further.now) outs.now) }
+{
+    let mut values = Vec::new(alloc);
+    for value in outs {
+        add_ports(&mut values, value, further)?;
+    }
+    Ok(values)
+}
+
+fn add_ports(values: &mut Vec<Value>, value: &Value, further: &[Value]) -> Result<(), OutOfMemory>
+    ensures { OnOk result (values.new.items ≡ values.old.items ++ value.now ∷ further.now) }
+{
+    values.push(*value).map_err(AllocError::from)?;
+    values.extend_from_slice(further)?;
+    Ok(())
+}
+
+/// The values of all variables of all cells at the start.
+#[tactic(auto, using(crate::proofs::Starting::flat_more))]
+fn repeated(alloc: Global, outs: &[Value], variables: &[Value]) -> Result<Vec<Value>, OutOfMemory>
+    ensures { IfOk result (λ values. values.items ≡ flat_map (λ _. variables.now) outs.now) }
+{
+    let mut values = Vec::new(alloc);
+    for value in outs {
+        let _out = value;
+        values.extend_from_slice(variables)?;
+    }
+    Ok(values)
+}
+
+/// So many times `?`.
+fn undefined(alloc: Global, n: usize) -> Result<Vec<Value>, OutOfMemory>
+    ensures { IfOk result (λ values. values.items ≡ replicate n AnyValue.Undefined) }
+{
+    Ok(vec![in alloc; Value::Undefined; n]?)
+}
+
+/// A list for each value, which waits there for 0.
+fn waiting(alloc: Global, values: &[Value]) -> Result<Delays, OutOfMemory>
+    requires { length values.now ≤ 4194304 }
+    ensures { IfOk result (λ delays. delays.lists ≡ map waits_at_0 values.now) }
+{
+    let mut delays = Delays::new(alloc, values.len() as u32)?;
+    delays.reserve(values.len())?;
+    for (port, value) in values.iter().enumerate() {
+        delays.transport(port as u32, start(), *value)?;
+    }
+    Ok(delays)
+}
+
+/// The time 0.
+fn start() -> Time
+    ensures { result ≡ 0 }
+{
+    match Time::new(0) {
+        Some(time) => time,
+        None => unreachable!(),
+    }
+}
+
 /// A value waits in a list for a time, in the way of this kind.
 fn put(
     delays: &mut Delays,
@@ -380,5 +471,9 @@ fn first_at(delays: &Delays, port: u32, t: Time) -> Option<(Time, Value)>
     ensures { result ≡ pair_at t (list_of delays.now port) }
 {
     let pair = delays.first(port)?;
-    if pair.0.ms() == t.ms() { Some(pair) } else { None }
+    if pair.0.ms() == t.ms() {
+        Some(pair)
+    } else {
+        None
+    }
 }

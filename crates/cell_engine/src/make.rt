@@ -1,0 +1,137 @@
+// What a store keeps of a group, made from the group.
+ghost use Rattle.std.specs.Prelude.{◌≡◌, ◌<◌, [], ◌∷◌, ◌++◌, IfOk, OnOk, IsTrue, map, slice_get};
+ghost use Rattle.std.specs.List.{range_with_len};
+ghost use Rattle.std.specs.Option.{unwrap_or};
+ghost use Rattle.rule_tree.specs.Expression.{rule_of};
+ghost use Rattle.rule_eval.specs.RuleCodes.{codes_of};
+ghost use Rattle.cell_grid.specs.Space.{cell_count};
+ghost use Rattle.model_tree.specs.Sound.{is_sound_group};
+ghost use Rattle.model_tree.specs.Stands.{group_of};
+ghost use Rattle.cell_engine.specs.Layout.{StandsFor, set_of};
+
+use crate::plan::Plan;
+use cell_grid::Reach;
+use model_tree::{CellGroup, PortRule};
+use quantity::OutOfMemory;
+use rule_eval::RuleCode;
+use rule_tree::RuleTree;
+use std::alloc::{AllocError, Global};
+
+/// What a store keeps of a sound group.
+pub(crate) fn plan_of(alloc: Global, group: &CellGroup) -> Result<Plan, OutOfMemory>
+    requires { IsTrue (is_sound_group (group_of group.now)) }
+    ensures { IfOk result (λ plan. StandsFor (group_of group.now) plan) }
+{
+    let reach = Reach::new(alloc, group.grid, &group.offsets)?;
+    let codes = codes_of_sets(alloc, &group.rule_sets)?;
+    let sets = sets_of_cells(alloc, group)?;
+    let port_rules = copies(alloc, &group.port_rules)?;
+    Ok(Plan {
+        grid: group.grid,
+        kind: group.kind,
+        default_delay: group.default_delay,
+        reach,
+        codes,
+        sets,
+        port_rules,
+        ports: group.port_values.len(),
+        variables: group.variable_values.len(),
+    })
+}
+
+/// The codes of all rule sets.
+fn codes_of_sets(alloc: Global, sets: &[Vec<RuleTree>]) -> Result<Vec<Vec<RuleCode>>, OutOfMemory>
+    ensures { IfOk result (λ codes. map (λ rules. rules.items) codes.items ≡ map (map codes_of) (map (λ rules. map rule_of rules.items) sets.now)) }
+{
+    let mut codes = Vec::new(alloc);
+    for rules in sets {
+        let made = codes_of_rules(alloc, rules)?;
+        add_set(&mut codes, made)?;
+    }
+    Ok(codes)
+}
+
+fn add_set(codes: &mut Vec<Vec<RuleCode>>, set: Vec<RuleCode>) -> Result<(), OutOfMemory>
+    ensures { OnOk result (map (λ rules. rules.items) codes.new.items ≡ map (λ rules. rules.items) codes.old.items ++ set.items ∷ []) }
+{
+    codes.push(set).map_err(AllocError::from)?;
+    Ok(())
+}
+
+/// The codes of the rules of one set.
+fn codes_of_rules(alloc: Global, rules: &[RuleTree]) -> Result<Vec<RuleCode>, OutOfMemory>
+    ensures { IfOk result (λ codes. codes.items ≡ map codes_of (map rule_of rules.now)) }
+{
+    let mut codes = Vec::new(alloc);
+    for rule in rules {
+        let code = RuleCode::make(alloc, rule)?;
+        add_code(&mut codes, code)?;
+    }
+    Ok(codes)
+}
+
+fn add_code(codes: &mut Vec<RuleCode>, code: RuleCode) -> Result<(), OutOfMemory>
+    ensures { OnOk result (codes.new.items ≡ codes.old.items ++ code ∷ []) }
+{
+    codes.push(code).map_err(AllocError::from)?;
+    Ok(())
+}
+
+/// For each cell the number of its rule set.
+#[tactic(auto, using(crate::proofs::Planned::range_more))]
+fn sets_of_cells(alloc: Global, group: &CellGroup) -> Result<Vec<usize>, OutOfMemory>
+    ensures { IfOk result (λ sets. sets.items ≡ map (set_of (group_of group.now)) (range_with_len 0 (cell_count group.now.grid))) }
+{
+    let mut sets = Vec::new(alloc);
+    for cell in 0..group.grid.cells() {
+        sets.push(set_of(group, cell)).map_err(AllocError::from)?;
+    }
+    Ok(sets)
+}
+
+/// The number of a cell's rule set.
+fn set_of(group: &CellGroup, cell: u32) -> usize
+    requires { cell < cell_count group.now.grid }
+    ensures { result ≡ set_of (group_of group.now) cell }
+{
+    match group.zones.rules_of(&group.grid, cell) {
+        None => 0,
+        Some(zone) => number_at(&group.zone_rules, zone),
+    }
+}
+
+/// The number that stands at a place, or 0.
+fn number_at(numbers: &[usize], k: usize) -> usize
+    ensures { result ≡ unwrap_or (slice_get numbers.now k) 0 }
+{
+    match numbers.get(k) {
+        Some(number) => *number,
+        None => 0,
+    }
+}
+
+/// The same rules of ports.
+fn copies(alloc: Global, rules: &[PortRule]) -> Result<Vec<PortRule>, OutOfMemory>
+    ensures { IfOk result (λ made. made.items ≡ rules.now) }
+{
+    let mut made = Vec::new(alloc);
+    for rule in rules {
+        let port = rule.port.clone()?;
+        add_port_rule(
+            &mut made,
+            PortRule {
+                port,
+                cell: rule.cell,
+                rules: rule.rules,
+            },
+        )?;
+    }
+    Ok(made)
+}
+
+fn add_port_rule(rules: &mut Vec<PortRule>, rule: PortRule) -> Result<(), OutOfMemory>
+    ensures { OnOk result (rules.new.items ≡ rules.old.items ++ rule ∷ []) }
+{
+    rules.push(rule).map_err(AllocError::from)?;
+    Ok(())
+}
