@@ -1,9 +1,9 @@
 -- What a cell gives, port by port, and when it is due next.
-use Rattle.std.proofs.Common.{◌≡◌, ℕ, ◌+◌, ◌≤◌, Bool, true, false, Option, Some, None, List, [], ◌∷◌, ◌++◌, map, length, get_or, refl, sym, ◌∙◌, ap, arith}
+use Rattle.std.proofs.Common.{◌≡◌, ℕ, ◌≤◌, Bool, true, false, Option, Some, None, List, [], ◌∷◌, ◌++◌, map, length, get_or, refl, sym, ap, arith}
 use Rattle.std.specs.Prelude.{if◌then◌else◌}
 use Rattle.std.specs.List.{flat_map, enumerate_from}
 use Rattle.rule_tree.specs.Ports.{changed_at}
-use Rattle.atomic_face.specs.Classes.{Bag, is_at}
+use Rattle.atomic_face.specs.Classes.{is_at}
 use Rattle.run_model.specs.CellStep.{PortState, first_time, least, next_of_ports, port_emitted, port_output}
 use Rattle.cell_engine.specs.Cells.{if_given}
 use Rattle.cell_engine.specs.Table.{no_port, given_by_port}

@@ -1,19 +1,19 @@
 -- Cells in flat lists: what is read at a place, and what a change there does to the cells.
-use Rattle.std.proofs.Common.{◌≡◌, ◌≢◌, ℕ, zero, suc, ◌+◌, ◌-◌, ◌*◌, ◌<◌, ◌≤◌, Option, Some, None, List, [], ◌∷◌, ◌++◌, map, length, get_or, set, take, drop, refl, sym, ◌∙◌, ap, subst, arith, zero-add, add-zero, inl, inr}
+use Rattle.std.proofs.Common.{◌≡◌, ◌≢◌, ℕ, zero, suc, ◌+◌, ◌-◌, ◌*◌, ◌<◌, ◌≤◌, List, [], ◌∷◌, ◌++◌, map, length, get_or, set, take, drop, refl, sym, ◌∙◌, ap, arith, zero-add, add-zero, inl, inr}
 use Rattle.std.specs.Prelude.{◌⊎◌}
 use Rattle.std.specs.List.{All, range_with_len}
 use Rattle.std.proofs.lemmas.List.{get_or-set_same, get_or-set_other, get_or-map, get_or_past, drop_more, length-map, length-append, length-take-le, get_or_append_left, get_or-append_right, get_or-take, get_or-drop}
-use Rattle.std.proofs.lemmas.List.FromFn.{get_or-map-range_with_len, length-map-range_with_len, length-range_with_len}
+use Rattle.std.proofs.lemmas.List.FromFn.{get_or-map-range_with_len, length-map-range_with_len}
 use Rattle.std.proofs.lemmas.List.Elements.{All-cons}
 use Rattle.std.proofs.lemmas.Nat.{mul-le}
 use Rattle.std.proofs.Math.Nat.{add-mul}
 use Rattle.quantity.specs.declared.value.Value.{Value}
 use Rattle.quantity.specs.declared.value.Value.TheVariants.{Undefined}
 use Rattle.rule_tree.specs.Ports.{changed_at}
-use Rattle.run_model.specs.CellStep.{PortState, CellState}
+use Rattle.run_model.specs.CellStep.{PortState}
 use Rattle.run_model.specs.Fitting.{HasNumbers}
-use Rattle.cell_engine.specs.Cells.{no_cell, cell_at, emitted_of, computed_of}
-use Rattle.cell_engine.specs.Table.{port_in, variable_in, cell_in, cells_in, changed_port, no_port}
+use Rattle.cell_engine.specs.Cells.{no_cell, cell_at}
+use Rattle.cell_engine.specs.Table.{port_in, cell_in, cells_in, changed_port, no_port}
 use Rattle.cell_engine.proofs.Changes.{same-range, changed-range}
 
 -- ---- pieces of a flat list

@@ -1,5 +1,5 @@
 -- A store stays ready where its table keeps its numbers.
-use Rattle.std.proofs.Common.{◌≡◌, ℕ, ◌+◌, ◌*◌, ◌≤◌, ◌<◌, length, sym, ◌∙◌, ap, subst, arith}
+use Rattle.std.proofs.Common.{◌≡◌, ℕ, ◌*◌, ◌≤◌, length, sym, ◌∙◌, subst}
 use Rattle.cell_engine.specs.Layout.{Layout}
 use Rattle.cell_engine.specs.Table.{Table}
 use Rattle.cell_engine.specs.Store.{IsReady}

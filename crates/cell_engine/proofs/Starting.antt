@@ -1,16 +1,16 @@
 -- The cells at the start, in flat lists.
-use Rattle.std.proofs.Common.{◌≡◌, ℕ, zero, suc, ◌+◌, ◌-◌, ◌*◌, ◌<◌, ◌≤◌, List, [], ◌∷◌, ◌++◌, map, length, get_or, set, take, replicate, refl, sym, ◌∙◌, ap, arith, zero-add, add-one, add_assoc}
+use Rattle.std.proofs.Common.{◌≡◌, ℕ, zero, suc, ◌+◌, ◌-◌, ◌*◌, ◌<◌, ◌≤◌, List, [], ◌∷◌, ◌++◌, map, length, get_or, set, take, replicate, refl, sym, ◌∙◌, ap, arith, zero-add}
 use Rattle.std.specs.List.{flat_map, range_with_len}
-use Rattle.std.proofs.lemmas.List.{take_more, length-append, length-map, length-replicate, get_or_append_left, get_or-append-add, get_or-map, length-take-le, get_or_at, set_at, map_more, append_assoc}
+use Rattle.std.proofs.lemmas.List.{take_more, length-append, length-map, get_or_append_left, get_or-append-add, get_or-map, length-take-le, get_or_at, set_at, map_more, append_assoc}
 use Rattle.std.proofs.lemmas.List.Concat.{flat_map-append}
 use Rattle.std.proofs.lemmas.Nat.{mul-le}
 use Rattle.std.proofs.Math.Nat.{add-mul}
 use Rattle.quantity.specs.Delay.{put_pair}
 use Rattle.quantity.specs.declared.value.Value.{Value}
 use Rattle.quantity.specs.declared.value.Value.TheVariants.{Undefined}
-use Rattle.run_model.specs.CellStep.{PortState, CellState, initial_port}
+use Rattle.run_model.specs.CellStep.{PortState, initial_port}
 use Rattle.cell_engine.specs.Cells.{no_cell}
-use Rattle.cell_engine.specs.Table.{Table, port_in, variable_in, cell_in, cells_in, no_port, waits_at_0, started, starting}
+use Rattle.cell_engine.specs.Table.{port_in, variable_in, cell_in, cells_in, no_port, waits_at_0, started}
 use Rattle.cell_engine.proofs.Laid.{range_list}
 use Rattle.cell_engine.proofs.Laid as laid
 

@@ -1,15 +1,15 @@
 -- What a cell takes at its ports.
-use Rattle.std.proofs.Common.{◌≡◌, ℕ, zero, suc, ◌+◌, ◌<◌, ◌≤◌, Option, Some, None, List, [], ◌∷◌, map, length, get_or, set, refl, sym, ◌∙◌, ap, subst, arith, Bool, true, false, Ok, Err}
+use Rattle.std.proofs.Common.{◌≡◌, ℕ, zero, suc, ◌<◌, ◌≤◌, Option, None, List, [], ◌∷◌, map, length, get_or, set, refl, sym, ◌∙◌, ap, subst, arith, Bool, true, false, Ok, Err}
 use Rattle.std.specs.Prelude.{OnOk, OnErr, if◌then◌else◌}
 use Rattle.std.specs.declared.result.Result.{Result}
-use Rattle.std.proofs.lemmas.List.{set-set, get_or-set_same, set-get_or}
+use Rattle.std.proofs.lemmas.List.{set-set, set-get_or}
 use Rattle.quantity.specs.declared.value.Value.{Value}
 use Rattle.rule_tree.specs.Ports.{changed_at, taken_at, taken_by_port}
 use Rattle.quantity.specs.Arithmetic.{same_value}
 use Rattle.model_tree.specs.declared.group.DelayKind.{DelayKind}
 use Rattle.run_model.specs.CellStep.{PortState, CellState, port_took, delayed}
 use Rattle.cell_engine.specs.Cells.{no_cell, cell_at, emitted_of, OnlyCell}
-use Rattle.cell_engine.specs.Table.{Table, HasShape, changed_cell, changed_port, changed_ports}
+use Rattle.cell_engine.specs.Table.{Table, HasShape, changed_cell, changed_port}
 use Rattle.cell_engine.proofs.Changes.{changed-alike, changed-past, changed-twice, changed-set, changed-here, length-changed}
 
 abbrev emitted_part : PortState → Value

@@ -9,7 +9,6 @@ use Rattle.rule_tree.specs.declared.outcome.RuleStop.{RuleStop}
 use Rattle.rule_tree.specs.declared.outcome.RuleStop.TheVariants as rules
 use Rattle.rule_tree.specs.Meaning.{Sight}
 use Rattle.rule_eval.specs.declared.given.Given.{Given}
-use Rattle.atomic_face.specs.declared.class.PortNo.{PortNo}
 use Rattle.atomic_face.specs.Classes.{Bag}
 use Rattle.model_tree.specs.Tree.{Group}
 use Rattle.run_model.specs.CellStep.{PortState, CellState, Stepped, cell_next, cell_moved}

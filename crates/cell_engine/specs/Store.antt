@@ -1,7 +1,7 @@
 -- When a store is ready for each step of its cells. Only private clauses name this.
-use Rattle.std.specs.Prelude.{◌≡◌, ℕ, ◌+◌, ◌*◌, ◌≤◌, ◌<◌, Option, List, length, vec_capacity}
+use Rattle.std.specs.Prelude.{◌≡◌, ℕ, ◌+◌, ◌*◌, ◌≤◌, ◌<◌, length}
 use Rattle.std.specs.List.{All}
-use Rattle.rule_eval.specs.RuleCodes.{Codes, rule_depth}
+use Rattle.rule_eval.specs.RuleCodes.{rule_depth}
 use Rattle.cell_grid.specs.Space.{cell_count}
 use Rattle.cell_grid.specs.Neighbourhoods.{Neighbourhood}
 use Rattle.model_tree.specs.declared.group.PortRule.{PortRule}

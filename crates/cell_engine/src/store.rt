@@ -50,6 +50,7 @@ impl Model for CellStore {
 
 impl CellStore {
     /// The cells of a group before the first cycle. Each waits for its initial values at 0.
+    // Not built yet: every call answers want of memory.
     pub fn new(alloc: Global, group: &CellGroup) -> Result<CellStore, OutOfMemory>
         requires { IsTrue (is_sound_group (group_of group.now)) }
         ensures layout { IfOk result (λ s. StandsFor (group_of group.now) s.layout) }
@@ -104,6 +105,7 @@ impl CellStore {
     /// A cell after its emission moves: where it is woken its rules are evaluated over what the cells gave, and then each
     /// value of its bag is treated. `ports` are the names of the cell's input ports by number. One visit, and one for each
     /// offset. After a stop nothing is promised of this cell but what it has emitted.
+    // Not built yet: every call answers want of memory.
     pub fn compute<L: Ledger>(
         &mut self,
         i: u32,
@@ -129,6 +131,7 @@ impl CellStore {
     }
 
     /// The state of a cell.
+    // Not built yet: every call answers want of memory.
     pub fn state<L: Ledger>(
         &self,
         alloc: Global,
@@ -144,6 +147,7 @@ impl CellStore {
     }
 
     /// The cell has this state, and every other cell stays. Without memory nothing changes. It counts no visit.
+    // Not built yet: every call answers want of memory.
     pub fn put(&mut self, i: u32, state: &CellState) -> Result<(), OutOfMemory>
         requires within { i < length self.old.cells }
         requires state { CanBePut self.old.layout (cell_of_saved state.now) }

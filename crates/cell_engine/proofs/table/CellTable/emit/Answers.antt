@@ -1,4 +1,4 @@
-use Rattle.std.proofs.Common.{◌≡◌, ◌≤◌, ◌∙◌, ◌++◌, ℕ, [], length, get_or, ap, arith}
+use Rattle.std.proofs.Common.{◌≤◌, ◌∙◌, ◌++◌, ℕ, [], length, get_or, ap, arith}
 use Rattle.run_model.specs.CellStep.{CellState, port_emitted, cell_emitted}
 use Rattle.cell_engine.specs.Cells.{no_cell, cell_at, if_given}
 use Rattle.cell_engine.specs.Table.{changed_port, given_by_port, no_port}

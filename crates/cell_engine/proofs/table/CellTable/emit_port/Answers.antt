@@ -1,6 +1,6 @@
-use Rattle.std.proofs.Common.{◌≡◌, ◌+◌, ◌*◌, ◌∙◌, Some, None, List, [], ℕ, get_or, ap, sym, arith}
-use Rattle.cell_engine.specs.Table.{given_by_port, changed_port, changed_cell}
-use Rattle.run_model.specs.CellStep.{PortState, port_emitted}
+use Rattle.std.proofs.Common.{◌+◌, ◌*◌, ◌∙◌, [], ℕ, get_or, ap, sym, arith}
+use Rattle.cell_engine.specs.Table.{given_by_port}
+use Rattle.run_model.specs.CellStep.{port_emitted}
 use Rattle.quantity.specs.declared.value.Value.TheVariants.{Undefined}
 use Rattle.cell_engine.proofs.Kept.{row, few, port_seen, port_none, given_is, not_given, emit_written, emitted_nothing, past}
 use Rattle.cell_engine.proofs.Taking.{taken_past}

@@ -1,4 +1,4 @@
-use Rattle.std.proofs.Common.{◌≡◌, ◌+◌, ◌∙◌, map, length, refl, ap, arith}
+use Rattle.std.proofs.Common.{◌+◌, ◌∙◌, map, length, refl, ap, arith}
 use Rattle.std.proofs.lemmas.List.{length-map, length-replicate}
 use Rattle.quantity.specs.declared.value.Value.TheVariants.{Undefined}
 use Rattle.cell_engine.specs.Table.{waits_at_0}

@@ -1,7 +1,6 @@
-use Rattle.std.proofs.Common.{◌≡◌, ◌+◌, ◌*◌, ◌<◌, ◌∙◌, true, false, List, [], ℕ, get_or, ap, sym, arith}
+use Rattle.std.proofs.Common.{◌+◌, ◌*◌, ◌<◌, ◌∙◌, get_or, ap, sym, arith}
 use Rattle.quantity.specs.declared.value.Value.TheVariants.{Undefined}
 use Rattle.quantity.specs.Arithmetic.{same_value}
-use Rattle.cell_engine.specs.Table.{Table}
 use Rattle.cell_engine.proofs.Kept.{row, few, width_seen, take_written, took_nothing}
 use Rattle.cell_engine.proofs.table.CellTable.take_port.Goals as goal
 
