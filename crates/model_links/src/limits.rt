@@ -1,0 +1,104 @@
+// The limits of links, and of the inputs and outputs of top.
+ghost use Rattle.std.specs.Prelude.{◌≡◌, ◌&&◌, ◌||◌, not, map, length, sum, nat_lt, codes, count_by, IfOk};
+ghost use Rattle.std.specs.Option.{option_map};
+ghost use Rattle.std.specs.Str.{bytes_eq};
+ghost use Rattle.quantity.specs.Bytes.{is_empty};
+ghost use Rattle.ma_lines.specs.Sections.{section_of};
+ghost use Rattle.model_text.specs.Keyed as K;
+ghost use Rattle.model_text.specs.Links as L;
+ghost use Rattle.model_text.specs.ModelOf as M;
+ghost use Rattle.model_walk.specs.Shown.{refusal_of};
+ghost use Rattle.model_walk.specs.Met.{IsWalk, met_of};
+
+use ma_lines::{Entry, Section, Sections};
+use model_text::Kind;
+use model_walk::entries::{items, section_named};
+use model_walk::{Refused, Walked};
+use quantity::OutOfMemory;
+use std::alloc::Global;
+
+/// The most links of a model.
+const MOST_LINKS: usize = 16384;
+
+/// The most inputs, and the most outputs, of top.
+const MOST_PORTS: usize = 65536;
+
+/// The refusal, at line 0, of more than 16384 links, or of more than 65536 inputs or outputs of top.
+pub fn link_limit_refused(
+    alloc: Global,
+    sections: &Sections,
+    walked: &Walked<'_>,
+) -> Result<Option<Refused>, OutOfMemory>
+    requires { IsWalk sections.now (met_of walked.now) }
+    ensures { IfOk result (λ why. option_map refusal_of why ≡ M.link_limit_refused sections.now) }
+{
+    let Some(top) = section_named(sections, b"top") else {
+        return Ok(None);
+    };
+    let has_more_links = has_more_links(&walked.sections);
+    let ins = ports(alloc, top, b"in")?;
+    let outs = ports(alloc, top, b"out")?;
+    if is_past(has_more_links, ins, outs) {
+        return Ok(Some(Refused {
+            line: 0,
+            kind: Kind::TooLarge,
+        }));
+    }
+    Ok(None)
+}
+
+fn is_past(has_more_links: bool, ins: usize, outs: usize) -> bool
+    ensures { result ≡ (has_more_links || nat_lt 65536 ins || nat_lt 65536 outs) }
+{
+    has_more_links || MOST_PORTS < ins || MOST_PORTS < outs
+}
+
+/// How many words stand under a key.
+fn ports(alloc: Global, section: &Section, key: &[u8]) -> Result<usize, OutOfMemory>
+    ensures { IfOk result (λ n. n ≡ length (K.texts_of key.now (section_of section.now))) }
+{
+    let found = items(alloc, section, key)?;
+    Ok(found.len())
+}
+
+/// Whether these sections have more than 16384 links.
+fn has_more_links(sections: &[&Section]) -> bool
+    ensures { result ≡ nat_lt 16384
+        (sum (map (λ s. length (L.link_entries (section_of s.now))) sections.now)) }
+{
+    let mut total: usize = 0;
+    for section in sections {
+        total = total.saturating_add(links_in(section));
+        if MOST_LINKS < total {
+            return true;
+        }
+    }
+    false
+}
+
+/// How many links stand in a section.
+fn links_in(section: &Section) -> usize
+    ensures { result ≡ length (L.link_entries (section_of section.now)) }
+{
+    links_among(&section.entries)
+}
+
+fn links_among(entries: &[Entry]) -> usize
+    ensures { result ≡ count_by
+        (λ e. bytes_eq e.key (codes "link") && not (is_empty e.value)) entries.now }
+{
+    entries.iter().filter(|entry| is_link(entry)).count()
+}
+
+/// Whether an entry is a link, and not an empty one.
+pub(crate) fn is_link(entry: &Entry) -> bool
+    ensures { result ≡ (bytes_eq entry.now.key (codes "link") && not (is_empty entry.now.value)) }
+{
+    is_key_of_link(entry) && !entry.value.as_bytes().is_empty()
+}
+
+fn is_key_of_link(entry: &Entry) -> bool
+    ensures { result ≡ bytes_eq entry.now.key (codes "link") }
+{
+    entry.key.as_bytes() == b"link".as_slice()
+}
