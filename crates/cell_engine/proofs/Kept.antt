@@ -8,8 +8,9 @@ use Rattle.std.proofs.Math.Nat.{add-mul}
 use Rattle.quantity.specs.declared.value.Value.{Value}
 use Rattle.quantity.specs.declared.value.Value.TheVariants.{Undefined}
 use Rattle.quantity.specs.Arithmetic.{same_value}
-use Rattle.model_tree.specs.declared.group.DelayKind.{DelayKind}
-use Rattle.run_model.specs.CellStep.{PortState, CellState, port_emitted, port_took, delayed}
+use Rattle.quantity.specs.declared.delay.DelayKind.{DelayKind}
+use Rattle.quantity.specs.Delay.{delayed}
+use Rattle.run_model.specs.CellStep.{PortState, CellState, port_emitted, port_took}
 use Rattle.cell_engine.specs.declared.table.CellTable.TheInside.{Inside}
 use Rattle.cell_engine.specs.Cells.{cell_at, emitted_of, computed_of}
 use Rattle.cell_engine.specs.Table.{Table, IsTable, IsLaid, port_in, variable_in, cell_in, cells_in, changed_cell, changed_port, with_variables, no_port, port_at, given_by_port, pair_at}

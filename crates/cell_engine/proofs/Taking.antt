@@ -6,8 +6,9 @@ use Rattle.std.proofs.lemmas.List.{set-set, set-get_or}
 use Rattle.quantity.specs.declared.value.Value.{Value}
 use Rattle.rule_tree.specs.Ports.{changed_at, taken_at, taken_by_port}
 use Rattle.quantity.specs.Arithmetic.{same_value}
-use Rattle.model_tree.specs.declared.group.DelayKind.{DelayKind}
-use Rattle.run_model.specs.CellStep.{PortState, CellState, port_took, delayed}
+use Rattle.quantity.specs.declared.delay.DelayKind.{DelayKind}
+use Rattle.quantity.specs.Delay.{delayed}
+use Rattle.run_model.specs.CellStep.{PortState, CellState, port_took}
 use Rattle.cell_engine.specs.Cells.{no_cell, cell_at, emitted_of, OnlyCell}
 use Rattle.cell_engine.specs.Table.{Table, HasShape, changed_cell, changed_port}
 use Rattle.cell_engine.proofs.Changes.{changed-alike, changed-past, changed-twice, changed-set, changed-here, length-changed}

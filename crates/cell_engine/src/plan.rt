@@ -1,7 +1,7 @@
 // What a store keeps of its group.
 use cell_grid::{Grid, Reach};
-use model_tree::{DelayKind, PortRule};
-use quantity::Time;
+use model_tree::PortRule;
+use quantity::{DelayKind, Time};
 use rule_eval::RuleCode;
 use std::marker::Model;
 

@@ -4,15 +4,16 @@ ghost use Rattle.std.specs.List.{flat_map};
 ghost use Rattle.quantity.specs.Arithmetic.{same_value};
 ghost use Rattle.quantity.specs.declared.value.Value.{Value as AnyValue};
 ghost use Rattle.rule_tree.specs.Ports.{taken_at, taken_by_port};
-ghost use Rattle.run_model.specs.CellStep.{first_time, least, port_emitted, port_took, delayed, cell_next, cell_output, cell_emitted};
+ghost use Rattle.quantity.specs.Delay.{delayed};
+ghost use Rattle.run_model.specs.CellStep.{first_time, least, port_emitted, port_took, cell_next, cell_output, cell_emitted};
 ghost use Rattle.cell_engine.specs.Cells.{Tells, bag_of_given, cell_at, emitted_of, computed_of, OnlyCell};
 ghost use Rattle.delay_lines.specs.Lists.{list_of, ChangesList};
 ghost use Rattle.cell_engine.specs.Table.{starting, waits_at_0, pair_at, IsTable, HasShape, with_variables, changed_cell, changed_port, changed_ports, port_at, given_by_port};
 
 use crate::Cell;
 use delay_lines::Delays;
-use model_tree::DelayKind;
-use quantity::{OutOfMemory, Time, Value};
+
+use quantity::{DelayKind, OutOfMemory, Time, Value};
 use rule_eval::Given;
 use std::alloc::{AllocError, Global};
 use std::marker::Model;
