@@ -12,7 +12,6 @@ ghost use Rattle.cell_engine.specs.Table.{starting, waits_at_0, pair_at, IsTable
 
 use crate::Cell;
 use delay_lines::Delays;
-
 use quantity::{DelayKind, OutOfMemory, Time, Value};
 use rule_eval::Given;
 use std::alloc::{AllocError, Global};
