@@ -7,3 +7,4 @@ pub mod Emitting
 pub mod Ready
 pub mod Planned
 pub mod Starting
+pub mod Took
