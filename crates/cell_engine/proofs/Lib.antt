@@ -8,3 +8,4 @@ pub mod Ready
 pub mod Planned
 pub mod Starting
 pub mod Took
+pub mod Pieces
