@@ -4,7 +4,7 @@ use Rattle.quantity.specs.declared.value.Value.{Value}
 use Rattle.rule_tree.specs.Scope.{differ}
 use Rattle.rule_tree.specs.Ports.{changed_at, taken_in_order, taken_by_port, by_port}
 use Rattle.rule_tree.proofs.Taken.{is_taken_by_port}
-use Rattle.model_tree.specs.declared.group.DelayKind.{DelayKind}
+use Rattle.quantity.specs.declared.delay.DelayKind.{DelayKind}
 use Rattle.run_model.specs.CellStep.{PortState, took_at, took, port_took}
 
 same_change : (p : ℕ) (f : PortState → PortState) (ps : List PortState) → took_at p f ps ≡ changed_at p f ps
