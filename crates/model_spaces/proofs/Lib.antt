@@ -3,3 +3,4 @@ pub mod Parts
 pub mod Places
 pub mod Gathered
 pub mod Laid
+pub mod Whole

@@ -1,0 +1,17 @@
+-- Private: groups that can be held, and groups whose spaces are right.
+use Rattle.std.specs.Prelude.{◌≡◌, ◌≤◌, None, Some, is_some, Bool, List}
+use Rattle.cell_grid.specs.Space.{CanHold}
+use Rattle.ma_lines.specs.Sections.{Section}
+use Rattle.model_text.specs.Keyed.{least}
+use Rattle.model_text.specs.Spaces.{space_of, of_space}
+use Rattle.model_text.specs.Trees.{default_delay_of}
+
+-- a space of its sizes can be held
+abbrev pub CanBeHeld : Section → Type 0
+CanBeHeld s = CanHold (space_of s).rows (space_of s).columns (space_of s).planes
+
+-- it can be held, its delay is a time, and nothing is refused of its space
+pub record IsRight (s : Section) : Type 0 where
+  pub held : CanBeHeld s
+  pub delay : default_delay_of s ≤ 359999999
+  pub passes : least (of_space s) ≡ None

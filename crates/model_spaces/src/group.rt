@@ -1,0 +1,68 @@
+// What is refused of the space of one group.
+ghost use Rattle.std.specs.Prelude.{◌≡◌, IfOk};
+ghost use Rattle.std.specs.Option.{option_map};
+ghost use Rattle.ma_lines.specs.Sections.{section_of};
+ghost use Rattle.model_text.specs.Keyed as K;
+ghost use Rattle.model_text.specs.Spaces as S;
+ghost use Rattle.model_walk.specs.Shown.{refusal_of};
+ghost use Rattle.model_walk.specs.Least.{merged};
+
+use crate::offsets::{MOST_OFFSETS, offsets};
+use crate::ports::ports_refused;
+use crate::tested::{Tested, entries_refused};
+use cell_grid::Grid;
+use ma_lines::Section;
+use model_text::Kind;
+use model_walk::Refused;
+use model_walk::least::least;
+use quantity::OutOfMemory;
+use std::alloc::Global;
+
+/// The least refusal of the space of a group.
+pub(crate) fn space_refused(
+    alloc: Global,
+    section: &Section,
+    grid: &Grid,
+) -> Result<Option<Refused>, OutOfMemory>
+    requires { grid.now ≡ S.space_of (section_of section.now) }
+    ensures { IfOk result (λ why. option_map refusal_of why ≡ K.least (S.of_space (section_of section.now))) }
+{
+    let neighbors = entries_refused(alloc, section, grid, Tested::Neighbors)?;
+    let ports = ports_refused(alloc, section, grid)?;
+    let zones = entries_refused(alloc, section, grid, Tested::Zones)?;
+    let digits = entries_refused(alloc, section, grid, Tested::DigitRows)?;
+    let values = entries_refused(alloc, section, grid, Tested::ValueRows)?;
+    let many = too_many_offsets(alloc, section, grid)?;
+    Ok(least_of_six(neighbors, ports, zones, digits, values, many))
+}
+
+fn least_of_six(
+    a: Option<Refused>,
+    b: Option<Refused>,
+    c: Option<Refused>,
+    d: Option<Refused>,
+    e: Option<Refused>,
+    f: Option<Refused>,
+) -> Option<Refused>
+    ensures { option_map refusal_of result ≡ merged (merged (merged (merged (merged (option_map refusal_of a) (option_map refusal_of b)) (option_map refusal_of c)) (option_map refusal_of d)) (option_map refusal_of e)) (option_map refusal_of f) }
+{
+    least(least(least(least(least(a, b), c), d), e), f)
+}
+
+fn too_many_offsets(
+    alloc: Global,
+    section: &Section,
+    grid: &Grid,
+) -> Result<Option<Refused>, OutOfMemory>
+    requires { grid.now ≡ S.space_of (section_of section.now) }
+    ensures { IfOk result (λ why. option_map refusal_of why ≡ K.least (S.too_many_offsets (section_of section.now))) }
+{
+    let offsets = offsets(alloc, section, grid)?;
+    if offsets.len() <= MOST_OFFSETS {
+        return Ok(None);
+    }
+    Ok(Some(Refused {
+        line: section.line,
+        kind: Kind::TooLarge,
+    }))
+}

@@ -1,0 +1,88 @@
+// Groups, one after another.
+ghost use Rattle.std.specs.Prelude.{◌≡◌, ◌∷◌, ◌++◌, [], map, IfOk, OnOk};
+ghost use Rattle.std.specs.List.{filter, flat_map, AllByRecursion};
+ghost use Rattle.std.specs.Option.{option_map};
+ghost use Rattle.ma_lines.specs.Sections.{section_of};
+ghost use Rattle.model_text.specs.Keyed as K;
+ghost use Rattle.model_text.specs.Spaces as S;
+ghost use Rattle.model_text.specs.Walk as W;
+ghost use Rattle.model_walk.specs.Shown.{refusal_of};
+ghost use Rattle.model_walk.specs.Met.{met_of};
+ghost use Rattle.model_spaces.specs.Placed.{values_before_files};
+ghost use Rattle.model_spaces.specs.Right.{CanBeHeld, IsRight};
+
+use crate::group::space_refused;
+use crate::rows::values;
+use crate::sizes::space;
+use cell_grid::Initial;
+use ma_lines::Section;
+use model_walk::entries::is_group;
+use model_walk::least::least;
+use model_walk::{Refused, Walked};
+use quantity::OutOfMemory;
+use std::alloc::{AllocError, Global};
+
+/// The sections of groups, in declared order.
+pub(crate) fn groups<'a>(
+    alloc: Global,
+    walked: &Walked<'a>,
+) -> Result<Vec<&'a Section>, OutOfMemory>
+    ensures { IfOk result (λ found. map (λ r. section_of r.now) found.items ≡ filter W.is_group (met_of walked.now).sections) }
+{
+    let mut found = Vec::new(alloc);
+    for section in &walked.sections {
+        add_group(section, &mut found)?;
+    }
+    Ok(found)
+}
+
+fn add_group<'a>(section: &'a Section, found: &mut Vec<&'a Section>) -> Result<(), OutOfMemory>
+    ensures { OnOk result (map (λ r. section_of r.now) found.new.items ≡ map (λ r. section_of r.now) found.old.items ++ filter W.is_group (section_of section.now ∷ [])) }
+{
+    if is_group(section) {
+        found.push(section).map_err(AllocError::from)?;
+    }
+    Ok(())
+}
+
+/// The least refusal of the spaces of these groups.
+pub(crate) fn all_refused(
+    alloc: Global,
+    groups: &[&Section],
+) -> Result<Option<Refused>, OutOfMemory>
+    requires { AllByRecursion CanBeHeld (map (λ r. section_of r.now) groups.now) }
+    ensures { IfOk result (λ why. option_map refusal_of why ≡ K.least (flat_map S.of_space (map (λ r. section_of r.now) groups.now))) }
+{
+    let mut first = None;
+    for section in groups {
+        first = least(first, group_refused(alloc, section)?);
+    }
+    Ok(first)
+}
+
+fn group_refused(alloc: Global, section: &Section) -> Result<Option<Refused>, OutOfMemory>
+    requires { CanBeHeld (section_of section.now) }
+    ensures { IfOk result (λ why. option_map refusal_of why ≡ K.least (S.of_space (section_of section.now))) }
+{
+    space_refused(alloc, section, &space(section))
+}
+
+/// The values of these groups before files are laid on.
+pub(crate) fn all_values(alloc: Global, groups: &[&Section]) -> Result<Vec<Initial>, OutOfMemory>
+    requires { AllByRecursion IsRight (map (λ r. section_of r.now) groups.now) }
+    ensures { IfOk result (λ all. all.items ≡ map values_before_files (map (λ r. section_of r.now) groups.now)) }
+{
+    let mut all = Vec::new(alloc);
+    for section in groups {
+        all.push(group_values(alloc, section)?)
+            .map_err(AllocError::from)?;
+    }
+    Ok(all)
+}
+
+fn group_values(alloc: Global, section: &Section) -> Result<Initial, OutOfMemory>
+    requires { CanBeHeld (section_of section.now) }
+    ensures { IfOk result (λ initial. initial ≡ values_before_files (section_of section.now)) }
+{
+    values(alloc, section, &space(section))
+}
