@@ -11,8 +11,8 @@ ghost use Rattle.ring_run.specs.RingCycle.{is_due, cell_lines, first_lines, move
 ghost use Rattle.ring_run.specs.RingCycle as ring;
 
 use crate::lines::push_line;
-use ring_cells::{CellStore, PlainGroup, Steps as Visits};
 use quantity::{Name, OutOfMemory, Time, Value};
+use ring_cells::{CellStore, PlainGroup, Steps as Visits};
 use std::alloc::{AllocError, Global};
 use std::marker::Model;
 use std::sync::ledger::Ledger;

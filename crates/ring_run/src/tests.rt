@@ -3,8 +3,8 @@ ghost use Rattle.std.specs.Prelude.{◌≡◌, ◌<◌, ◌≤◌, length, IfOk,
 ghost use Rattle.ring_cells.specs.Store.{are_short, ends_always};
 
 use crate::{Progress, RingRun, Steps};
-use ring_cells::{PlainGroup, PlainRule};
 use quantity::{Name, Raw, Time, Value};
+use ring_cells::{PlainGroup, PlainRule};
 use std::alloc::{AllocError, Global};
 use std::marker::Brand;
 use std::process::Abort;

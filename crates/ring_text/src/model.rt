@@ -7,8 +7,8 @@ ghost use Rattle.ring_text.specs.Shown.{ring_shown, rule_shown};
 
 use crate::check::delay_of;
 use crate::parts::{RingParts, RuleParts};
-use ring_cells::{PlainGroup, PlainRule};
 use quantity::{Name, NameRefusal, OutOfMemory, Raw, Time, Value};
+use ring_cells::{PlainGroup, PlainRule};
 use std::alloc::{AllocError, Global};
 
 /// A ring that was read: its group's name, the value of each cell at the start, and its rules.
