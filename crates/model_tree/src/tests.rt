@@ -2,7 +2,7 @@
 use super::*;
 use atomic_face::PortNo;
 use cell_grid::{Border, Grid, Initial, Zones};
-use quantity::{Name, OutOfMemory, Time, Value};
+use quantity::{DelayKind, Name, OutOfMemory, Time, Value};
 use std::alloc::{AllocError, Global};
 use std::test::Fail;
 
