@@ -4,11 +4,9 @@ use Rattle.std.specs.List.{All, filter_map}
 use Rattle.model_tree.specs.Tree.{Word, Tree, ins_of}
 use Rattle.model_tree.specs.Pull as pull
 use Rattle.route_flat.specs.declared.source.Path.{Path}
-use Rattle.route_flat.specs.declared.source.Source.{Source}
-use Rattle.route_flat.specs.declared.source.Source.TheVariants.{Leaf, TopIn}
 use Rattle.route_flat.specs.declared.source.TargetPort.{TargetPort}
 use Rattle.route_flat.specs.declared.source.TargetPort.TheVariants as target
-use Rattle.route_flat.specs.Nets.{named}
+use Rattle.route_flat.specs.Nets.{named, IsThere}
 use Rattle.sparse_cycle.specs.Sparse as sparse
 
 -- a path to a leaf
@@ -28,11 +26,6 @@ leaf_paths ins ps = filter_map (λ (p : Path). to_leaf p.to (named ins p.from)) 
 -- the paths to outputs of top among these
 abbrev pub top_paths : List Word → List Path → List sparse.Path
 top_paths ins ps = filter_map (λ (p : Path). to_top p.to (named ins p.from)) ps
-
--- an input that there is
-abbrev pub IsThere : List Word → Source → Type 0
-IsThere ins (Leaf l) = ⊤
-IsThere ins (TopIn k) = k < length ins
 
 -- all paths of a model, with the inputs of top by their numbers
 pub record ArePathsOf (tree : Tree) (ps : List Path) : Type 0 where

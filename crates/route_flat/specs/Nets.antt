@@ -1,6 +1,6 @@
 -- The net of a model: what stands at its nodes is what reaches the ports.
-use Rattle.std.specs.Prelude.{◌≡◌, ℕ, ◌+◌, ◌≤◌, List, length, map}
-use Rattle.std.specs.List.{AllByRecursion, flat_map, sum}
+use Rattle.std.specs.Prelude.{◌≡◌, ℕ, ◌+◌, ◌<◌, ◌≤◌, List, length, map, ⊤}
+use Rattle.std.specs.List.{All, AllByRecursion, flat_map, sum}
 use Rattle.model_tree.specs.Tree.{Word, Tree, ins_of}
 use Rattle.model_tree.specs.Pull as P
 use Rattle.model_tree.specs.LeafTexts.{name_at}
@@ -15,15 +15,22 @@ abbrev pub named : List Word → Source → P.Source
 named ins (Leaf n) = P.leaf_source n
 named ins (TopIn k) = P.top_source (name_at ins k)
 
+-- an input that there is
+abbrev pub IsThere : List Word → Source → Type 0
+IsThere ins (Leaf l) = ⊤
+IsThere ins (TopIn k) = k < length ins
+
 -- the sources at each port of each leaf, and at each output of top
 pub record Flat : Type 0 where
   pub ports : List (List (List Source))
   pub tops : List (List Source)
 
--- they are those of the tree
+-- they are those of the tree, and inputs of top have their numbers
 pub record RoutesOf (t : Tree) (r : Flat) : Type 0 where
   pub ports : map (map (map (named (ins_of t)))) r.ports ≡ P.sources t
   pub tops : map (map (named (ins_of t))) r.tops ≡ P.top_sources t
+  pub inputs : All (All (All (IsThere (ins_of t)))) r.ports
+  pub top_inputs : All (All (IsThere (ins_of t))) r.tops
 
 -- how many paths there are
 abbrev pub paths_in : Flat → ℕ
