@@ -19,7 +19,7 @@ use Rattle.answer_model.specs.Answer.{Answer, if_asked, missing, with_file, only
 use Rattle.answer_model.specs.Refusals.{model_refused, events_refused, state_refused}
 use Rattle.answer_model.specs.RunEnd.{said, stop_status}
 use Rattle.answer_model.specs.RunFiles.{answer_of_run}
-use Rattle.answer_model.specs.Cdpp.{run_on, with_source, if_model, drawing_of, with_events, with_state, answer}
+use Rattle.answer_model.specs.Cdpp.{run_on, with_source, if_model, drawing_of, with_events, with_state, answer, answer_by}
 use Rattle.answer_model.specs.Drawlog.{log_refused, drawn_answer, drawing_answer}
 use Rattle.answer_model.specs.Outcome.{IsOwn}
 use Rattle.answer_model.specs.AnswerLaws.{is_refusal, IsAnswer, AllAreAnswers}
@@ -94,7 +94,7 @@ state_is a files tree inputs go h = by a.state
     by (Some name) = file_is files name inputs _ (λ bytes looked. unless_is 14 state_refused looked (state_of bytes tree a.end) (λ saved. go (Some saved) looked) (λ e. omega arith, λ e. omega arith, λ e. omega arith) (λ s. h (Some s) looked))
 
 cdpp_is : (words : List Word) (files : Folder) (classes : List Class) → IsAnswer (answer words files classes)
-unfolding answer
+unfolding answer_by
 cdpp_is words files classes =
     asked_is usage (asked words) _ (λ a.
     source_is a.source files _ (λ bytes inputs.

@@ -7,10 +7,10 @@ use Rattle.text_forms.specs.Lines.{ended}
 use Rattle.run_model.specs.Run.{run, run_from, next_cycle}
 use Rattle.text_forms.specs.Rows.{line_log}
 use Rattle.quantity.specs.Bytes.{Bytes}
-use Rattle.answer_model.specs.Asked.{Asked, file, asked, cdpp_app, usage}
+use Rattle.answer_model.specs.Asked.{Asked, file, asked, usage, asked_by, command_of}
 use Rattle.answer_model.specs.AskedRows.{words, plain}
 use Rattle.answer_model.specs.Answer.{Files, Answer}
-use Rattle.answer_model.specs.Cdpp.{answer, run_on}
+use Rattle.answer_model.specs.Cdpp.{answer, run_on, answer_by}
 use Rattle.answer_model.specs.WholeFiles.{folder, boxes, model, just_model, shows}
 use Rattle.model_text.specs.Models.{line_model}
 use Rattle.model_text.specs.ModelOf.{model_of}
@@ -26,14 +26,14 @@ abbrev answered : Answer
 answered = shows (codes "end 00:00:00:100 cycles 2") ((codes "log.txt", line_log) ∷ []) just_model
 
 is_answered : answer (words asks) (folder (model line_model)) boxes ≡ answered
-unfolding sections_of tokens written_rule rule_of model_of cdpp_app digits clap_on_literals run run_from next_cycle asked answer run_on
+unfolding sections_of tokens written_rule rule_of model_of command_of digits clap_on_literals run run_from next_cycle asked_by answer_by run_on
 is_answered = refl
 
 abbrev plain_model : Asked
 plain_model = record plain { source = file (codes "m.ma") }
 
 is_asked : asked (words asks) ≡ Some plain_model
-unfolding cdpp_app clap_on_literals asked
+unfolding command_of clap_on_literals asked_by
 is_asked = refl
 
 abbrev bytes_in : Bytes × Bytes → ℕ
@@ -136,7 +136,7 @@ abbrev refused_words : Answer
 refused_words = record { made = []; shown = []; complained = usage_line; status = 2; inputs = [] }
 
 is_refused : answer (words asks_no_time) (folder (model line_model)) boxes ≡ refused_words
-unfolding cdpp_app digits clap_on_literals asked answer
+unfolding command_of digits clap_on_literals asked_by answer_by
 is_refused = refl
 
 some_line : ◌≡◌ {A = Bytes} [] usage_line → ⊥

@@ -1,5 +1,5 @@
 -- What the words of the simulator ask for.
-use Rattle.std.specs.Prelude.{ℕ, ◌+◌, Bool, true, not, ◌&&◌, ◌||◌, ◌==◌, nat_lt, nat_le, Option, Some, None, List, [], ◌∷◌, length, map, if◌then◌else◌, codes}
+use Rattle.std.specs.Prelude.{ℕ, ◌+◌, Bool, true, not, ◌&&◌, ◌||◌, ◌==◌, nat_lt, nat_le, Option, Some, None, List, [], ◌∷◌, ◌++◌, length, map, if◌then◌else◌, codes}
 use Rattle.std.specs.List.{list_all, list_any, filter_map}
 use Rattle.std.specs.Option.{is_some}
 use Rattle.std.specs.Str.{bytes_eq}
@@ -23,8 +23,19 @@ abbrev pub with_options : App → List ℕ → App
 with_options app [] = app
 with_options app (c ∷ cs) = with_options (with_rule app (option c)) cs
 
-unfoldable pub cdpp_app : App
-cdpp_app = with_options (new_app (codes "cdpp")) (codes "mGtelodgLcwpfTSR")
+-- the letters of all options, and of those that the program has by now: -T, -S and -R are still to come
+abbrev pub all_letters : List ℕ
+all_letters = codes "mGtelodgLcwpfTSR"
+
+abbrev pub built_letters : List ℕ
+built_letters = codes "mGtelodgLcwpf"
+
+-- the program's command with these options
+unfoldable pub command_of : List ℕ → App
+command_of letters = with_options (new_app (codes "cdpp")) letters
+
+abbrev pub cdpp_app : App
+cdpp_app = command_of built_letters
 
 -- the words are those of the command
 abbrev pub is_taken : App → List Word → Bool
@@ -96,6 +107,10 @@ pub record Asked : Type 0 where
   pub save : Option Word
   pub state : Option Word
 
+-- the value of an option that the command has
+abbrev pub given : List ℕ → List Row → List ℕ → Option Word
+given has rows letter = if list_all (λ c. is_among c has) letter then value_of rows letter else None
+
 -- the model is a file or is made, and not both
 abbrev pub source_in : Option Word → Option Word → Option Source
 source_in (Some name) None = Some (file name)
@@ -114,46 +129,59 @@ differ_all [] = true
 differ_all (w ∷ ws) = not (list_any (bytes_eq w) ws) && differ_all ws
 
 -- the files that are named differ
-abbrev pub named : List Row → List Word
-named rows = filter_map (value_of rows) (map (λ c. c ∷ []) (codes "melodSR"))
+abbrev pub named : List ℕ → List Row → List Word
+named has rows = filter_map (given has rows) (map (λ c. c ∷ []) (codes "melodSR"))
 
 -- a state is neither saved nor read of a made model or in a served run
-abbrev pub may_save : List Row → Bool
-may_save rows =
-    not (is_some (value_of rows (codes "S")) || is_some (value_of rows (codes "R")))
-    || not (is_some (value_of rows (codes "T")) || is_some (value_of rows (codes "G")))
+abbrev pub may_save : List ℕ → List Row → Bool
+may_save has rows =
+    not (is_some (given has rows (codes "S")) || is_some (given has rows (codes "R")))
+    || not (is_some (given has rows (codes "T")) || is_some (given has rows (codes "G")))
 
-abbrev pub asked_in : List Row → Option Asked
-asked_in rows =
-    for_some (source_in (value_of rows (codes "m")) (value_of rows (codes "G"))) (λ source.
-    for_some (needed time_in (value_of rows (codes "t"))) (λ end.
-    for_some (or_else (codes "Y") letters_in (value_of rows (codes "L"))) (λ letters.
-    for_some (or_else 10000 (number 1 1000000) (value_of rows (codes "c"))) (λ limit.
-    for_some (or_else 3 (number 1 20) (value_of rows (codes "w"))) (λ width.
-    for_some (or_else 0 (number 0 5) (value_of rows (codes "p"))) (λ decimals.
-    for_some (or_else 0 (number 0 1048575) (value_of rows (codes "f"))) (λ plane.
-    for_some (frames_in (value_of rows (codes "d")) (value_of rows (codes "g")) width decimals plane) (λ frames.
-    for_some (if_given (number_between 10 0 2147483647) (value_of rows (codes "T"))) (λ seed.
-    if differ_all (named rows) && may_save rows
+-- what the values of these options ask for
+abbrev pub asked_in : List ℕ → List Row → Option Asked
+asked_in has rows =
+    for_some (source_in (given has rows (codes "m")) (given has rows (codes "G"))) (λ source.
+    for_some (needed time_in (given has rows (codes "t"))) (λ end.
+    for_some (or_else (codes "Y") letters_in (given has rows (codes "L"))) (λ letters.
+    for_some (or_else 10000 (number 1 1000000) (given has rows (codes "c"))) (λ limit.
+    for_some (or_else 3 (number 1 20) (given has rows (codes "w"))) (λ width.
+    for_some (or_else 0 (number 0 5) (given has rows (codes "p"))) (λ decimals.
+    for_some (or_else 0 (number 0 1048575) (given has rows (codes "f"))) (λ plane.
+    for_some (frames_in (given has rows (codes "d")) (given has rows (codes "g")) width decimals plane) (λ frames.
+    for_some (if_given (number_between 10 0 2147483647) (given has rows (codes "T"))) (λ seed.
+    if differ_all (named has rows) && may_save has rows
     then Some (record {
       source = source;
       end = end;
-      events = value_of rows (codes "e");
-      log = value_of rows (codes "l");
-      out = value_of rows (codes "o");
+      events = given has rows (codes "e");
+      log = given has rows (codes "l");
+      out = given has rows (codes "o");
       frames = frames;
       letters = letters;
       limit = limit;
       seed = seed;
-      save = value_of rows (codes "S");
-      state = value_of rows (codes "R");
+      save = given has rows (codes "S");
+      state = given has rows (codes "R");
     })
     else None)))))))))
 
--- what words ask for, or none where they are refused; the first is the program's name
-unfoldable pub asked : List Word → Option Asked
-asked words = if is_taken cdpp_app words then asked_in (matches_of cdpp_app words) else None
+-- what words ask for of a command with these options, or none where they are refused; the first is the program's name
+unfoldable pub asked_by : List ℕ → List Word → Option Asked
+asked_by has words =
+    if is_taken (command_of has) words then asked_in has (matches_of (command_of has) words) else None
+
+abbrev pub asked : List Word → Option Asked
+asked words = asked_by built_letters words
+
+-- an option in the line of usage, where the command has it
+abbrev pub usage_if : List ℕ → List ℕ → Bytes → Bytes
+usage_if has letter text = if list_all (λ c. is_among c has) letter then text else []
+
+abbrev pub usage_of : List ℕ → Bytes
+usage_of has =
+    codes "cdpp (-m MODEL | -G N) -t END [-e EVENTS] [-l LOG] [-o OUT] [-d FRAMES -g GROUP] [-L LETTERS] [-c LIMIT] [-w WIDTH] [-p DECIMALS] [-f PLANE]"
+    ++ usage_if has (codes "T") (codes " [-T SEED]") ++ usage_if has (codes "S") (codes " [-S SAVE]") ++ usage_if has (codes "R") (codes " [-R STATE]")
 
 abbrev pub usage : Bytes
-usage =
-    codes "cdpp (-m MODEL | -G N) -t END [-e EVENTS] [-l LOG] [-o OUT] [-d FRAMES -g GROUP] [-L LETTERS] [-c LIMIT] [-w WIDTH] [-p DECIMALS] [-f PLANE] [-T SEED] [-S SAVE] [-R STATE]"
+usage = usage_of built_letters

@@ -13,7 +13,7 @@ use Rattle.model_text.specs.ModelOf.{ModelRead, model_of}
 use Rattle.model_text.specs.Models.{made_text}
 use Rattle.text_forms.specs.StateOf.{Saved, state_of}
 use Rattle.answer_model.specs.Refusals.{model_refused, events_refused, state_refused}
-use Rattle.answer_model.specs.Asked.{Asked, Source, file, made, FramesFile, asked, usage}
+use Rattle.answer_model.specs.Asked.{Asked, Source, file, made, FramesFile, asked_by, usage_of, built_letters}
 use Rattle.answer_model.specs.Answer.{Answer, if_asked, missing, with_file, only_complains, unless_refused}
 use Rattle.answer_model.specs.RunFiles.{answer_of_run}
 
@@ -62,11 +62,23 @@ with_state a files tree inputs go =
       | Some name ↦ with_file files name inputs (λ bytes looked. unless_refused 14 state_refused looked (state_of bytes tree a.end) (λ saved. go (Some saved) looked))
     ]
 
--- words, model, events, state, run: the first that ends decides
-unfoldable pub answer : List Word → Folder → List Class → Answer
-answer words files classes =
-    if_asked usage (asked words) (λ a.
-    with_model a files classes (λ tree inputs.
-    with_events a files tree inputs (λ events inputs.
-    with_state a files tree inputs (λ from inputs.
-    answer_of_run a tree events from inputs (run_on tree events a.end a.limit from)))))
+-- what is answered once a run can begin
+abbrev pub answer_from : Asked → Tree → List Event → List Word → Option Saved → Answer
+answer_from a tree events inputs from = answer_of_run a tree events from inputs (run_on tree events a.end a.limit from)
+
+-- once there is a model, and these files were looked for
+abbrev pub answer_with : Asked → Folder → Tree → List Word → Answer
+answer_with a files tree inputs =
+    with_events a files tree inputs (λ events inputs. with_state a files tree inputs (λ from inputs. answer_from a tree events inputs from))
+
+-- to what is asked for: model, events, state, run, of which the first that ends decides
+abbrev pub answer_to : Asked → Folder → List Class → Answer
+answer_to a files classes = with_model a files classes (λ tree inputs. answer_with a files tree inputs)
+
+-- to the words of a command whose options have these letters
+unfoldable pub answer_by : List ℕ → List Word → Folder → List Class → Answer
+answer_by has words files classes = if_asked (usage_of has) (asked_by has words) (λ a. answer_to a files classes)
+
+-- the answer of the program, with the options that it has by now
+abbrev pub answer : List Word → Folder → List Class → Answer
+answer words files classes = answer_by built_letters words files classes

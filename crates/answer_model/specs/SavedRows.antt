@@ -5,7 +5,7 @@ use Rattle.model_text.specs.Models.{line_model, blinker, queue_model, port_model
 use Rattle.text_forms.specs.Rows.{lines, line_log, queue_log, two_frames}
 use Rattle.text_forms.specs.SavedRows.{line_saved, saved, fourth}
 use Rattle.answer_model.specs.Answer.{Files, Answer}
-use Rattle.answer_model.specs.WholeFiles.{to, holding, model, model_and, just_model, log, shows, complains, y, x, s}
+use Rattle.answer_model.specs.WholeFiles.{to, to_all, holding, model, model_and, just_model, log, shows, complains, y, x, s}
 use Rattle.answer_model.specs.PortRows.{blinker_log, blinker_frames}
 use Rattle.answer_model.specs.CellRows.{left, right, third, cell, out_of_order, taken_in_order, model_and_events, with_port_rules, two_events, events}
 
@@ -13,7 +13,7 @@ abbrev pub with_state : List Bytes → Bytes → Files
 with_state ls bytes = model ls ++ (codes "s.txt", bytes) ∷ []
 
 abbrev pub resumed : Bytes → Bytes → Answer
-resumed end state = to (codes "cdpp -m m.ma -t " ++ end ++ codes " -R s.txt -l log2.txt") (with_state line_model state)
+resumed end state = to_all (codes "cdpp -m m.ma -t " ++ end ++ codes " -R s.txt -l log2.txt") (with_state line_model state)
 
 abbrev pub state_refused : Bytes → Answer
 state_refused line = complains 14 (codes "state refused: line " ++ line) [] (codes "m.ma" ∷ codes "s.txt" ∷ [])
@@ -32,7 +32,7 @@ second_of (f ∷ fs) = first_of fs
 
 abbrev pub joined : Files → Bytes → Bytes → Bytes
 joined files first next =
-    let made = (to first files).made in first_of made ++ first_of (to next (files ++ (codes "s.txt", second_of made) ∷ [])).made
+    let made = (to_all first files).made in first_of made ++ first_of (to_all next (files ++ (codes "s.txt", second_of made) ∷ [])).made
 
 abbrev pub whole : Files → Bytes → Bytes
 whole files text = first_of (to text files).made
@@ -57,7 +57,7 @@ three_frames = two_frames ++ lines (codes "Time: 00:00:00:200" ∷ codes "+-----
 
 -- a run that is served from this seed
 abbrev pub served_by : Bytes → Bytes → Files → Answer
-served_by seed text files = to (text ++ codes " -T " ++ seed) files
+served_by seed text files = to_all (text ++ codes " -T " ++ seed) files
 
 abbrev pub three_events : Files
 three_events = model_and with_port_rules (events (two_events ++ codes "00:00:00:120 p 3" ∷ []))
@@ -81,7 +81,7 @@ abbrev pub blinker_files : Files
 blinker_files = log blinker_log ++ holding (codes "f.txt") blinker_frames ∷ []
 
 pub record RunsAreServed : Type 0 where
-  pub mark : to (codes "cdpp -m m.ma -t 00:00:00:000 -T 1") (model line_model) ≡ shows (codes "end 00:00:00:000 cycles 1 mark 582706") [] just_model
+  pub mark : to_all (codes "cdpp -m m.ma -t 00:00:00:000 -T 1") (model line_model) ≡ shows (codes "end 00:00:00:000 cycles 1 mark 582706") [] just_model
   pub stop : served_by (codes "1") until_late three_events ≡ too_late
   pub stop_of_other_seed : served_by (codes "2147483647") until_late three_events ≡ too_late
   pub files_of_queue : (served_by (codes "1") both_files queue).made ≡ queue_files
@@ -91,13 +91,13 @@ pub record RunsAreServed : Type 0 where
   pub queue_of_other_seed : (served_by (codes "2147483647") both_files queue).made ≡ queue_files
 
 pub record RunsAreSaved : Type 0 where
-  pub saves : to (codes "cdpp -m m.ma -t 00:00:00:100 -S s.txt") (model line_model) ≡ shows (codes "end 00:00:00:100 cycles 2") ((codes "s.txt", line_saved) ∷ []) just_model
+  pub saves : to_all (codes "cdpp -m m.ma -t 00:00:00:100 -S s.txt") (model line_model) ≡ shows (codes "end 00:00:00:100 cycles 2") ((codes "s.txt", line_saved) ∷ []) just_model
   pub resumes : resumed (codes "00:00:00:200") line_saved ≡ shows (codes "end 00:00:00:200 cycles 1") (holding (codes "log2.txt") later_log ∷ []) (codes "m.ma" ∷ codes "s.txt" ∷ [])
   pub one_run : to (codes "cdpp -m m.ma -t 00:00:00:200 -l log.txt") (model line_model) ≡ shows (codes "end 00:00:00:200 cycles 3") ((codes "log.txt", line_log ++ lines later_log) ∷ []) just_model
   pub end_before : resumed (codes "00:00:00:050") line_saved ≡ state_refused (codes "2: 2 EndBefore")
   pub no_end : resumed (codes "00:00:00:200") (saved fourth []) ≡ state_refused (codes "6: 1 BadStateLine")
   pub not_after : resumed (codes "00:00:00:200") (saved (codes "cell line(0,1) 1.00000 0.00000 1 100 0.00000") (codes "end\n")) ≡ state_refused (codes "4: 1 BadStateLine")
-  pub no_state : to (codes "cdpp -m m.ma -t 00:00:00:200 -R s.txt") (model line_model) ≡ complains 3 (codes "missing: s.txt") [] (codes "m.ma" ∷ codes "s.txt" ∷ [])
+  pub no_state : to_all (codes "cdpp -m m.ma -t 00:00:00:200 -R s.txt") (model line_model) ≡ complains 3 (codes "missing: s.txt") [] (codes "m.ma" ∷ codes "s.txt" ∷ [])
   pub queue_joins : joined queue (codes "cdpp -m m.ma -t 00:00:00:000 -l log.txt -L YXS -S s.txt") (codes "cdpp -m m.ma -t 00:00:02:000 -l log.txt -L YXS -R s.txt") ≡ queue_log
   pub queue_run : whole queue (codes "cdpp -m m.ma -t 00:00:02:000 -l log.txt -L YXS") ≡ queue_log
   pub events_join : joined with_events (codes "cdpp -m m.ma -t 00:00:00:050 -e e -l log.txt -L YXS -S s.txt") (codes "cdpp -m m.ma -t 00:00:00:200 -e e -l log.txt -L YXS -R s.txt") ≡ events_log

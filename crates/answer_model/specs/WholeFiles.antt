@@ -10,9 +10,10 @@ use Rattle.atomic_face.specs.declared.class.Class.{Class}
 use Rattle.atomic_face.specs.declared.class.Class.TheVariants.{Queue, Generator, Cpu, Counter, Table}
 use Rattle.model_tree.specs.Tree.{Word}
 use Rattle.text_forms.specs.Rows.{lines}
+use Rattle.answer_model.specs.Asked.{all_letters}
 use Rattle.answer_model.specs.AskedRows.{words}
 use Rattle.answer_model.specs.Answer.{Files, Answer}
-use Rattle.answer_model.specs.Cdpp.{answer}
+use Rattle.answer_model.specs.Cdpp.{answer, answer_by}
 
 -- files by their names
 abbrev pub folder : Files → Folder
@@ -24,6 +25,10 @@ boxes = Queue ∷ Queue ∷ Generator ∷ Generator ∷ Cpu ∷ Cpu ∷ Counter 
 
 abbrev pub to : Bytes → Files → Answer
 to text files = answer (words text) (folder files) boxes
+
+-- what it answers with all options, also those that are still to come
+abbrev pub to_all : Bytes → Files → Answer
+to_all text files = answer_by all_letters (words text) (folder files) boxes
 
 -- a file of these lines
 abbrev pub holding : Bytes → List Bytes → Word × Bytes
