@@ -18,8 +18,8 @@ use Rattle.record_text.specs.declared.records.Records.{Records}
 use Rattle.record_text.specs.Held.{y_at, x_at, out_at}
 use Rattle.leaf_set.specs.Members.{is_in}
 use Rattle.route_flat.specs.declared.source.Path.{Path}
-use Rattle.route_flat.specs.declared.source.Source.{Source}
-use Rattle.route_flat.specs.declared.source.Source.TheVariants.{Leaf, TopIn}
+use Rattle.port_net.specs.declared.source.Source.{Source}
+use Rattle.port_net.specs.declared.source.Source.TheVariants.{Leaf, TopIn}
 use Rattle.route_flat.specs.declared.source.TargetPort.{TargetPort}
 use Rattle.route_flat.specs.declared.source.TargetPort.TheVariants as target
 use Rattle.route_flat.specs.Nets.{named}

@@ -7,3 +7,4 @@ mod Bags
 mod Steps
 mod Halves
 mod Rising
+pub mod OfRoutes

@@ -11,7 +11,7 @@ use Rattle.cell_grid.proofs.Rising.{same_rising, has-dedup, has-filter, has-rang
 use Rattle.run_model.specs.Run.{PortRecord}
 use Rattle.sparse_cycle.specs.Collect.{is_among}
 use Rattle.route_flat.specs.declared.source.Path.{Path}
-use Rattle.route_flat.specs.declared.source.Source.TheVariants.{Leaf, TopIn}
+use Rattle.port_net.specs.declared.source.Source.TheVariants.{Leaf, TopIn}
 use Rattle.cycle_steps.specs.Routed.{numbers, path_at, is_from, reaches}
 use Rattle.cycle_steps.specs.Leading.{leads_from_leaf, leads_from_top}
 

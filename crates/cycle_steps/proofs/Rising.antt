@@ -8,7 +8,7 @@ use Rattle.run_model.specs.Run.{PortRecord}
 use Rattle.record_text.specs.declared.records.XRecord.{XRecord}
 use Rattle.record_text.specs.Held.{x_at}
 use Rattle.route_flat.specs.declared.source.Path.{Path}
-use Rattle.route_flat.specs.declared.source.Source.{Source}
+use Rattle.port_net.specs.declared.source.Source.{Source}
 use Rattle.route_flat.specs.declared.source.TargetPort.{TargetPort}
 use Rattle.route_flat.specs.declared.source.TargetPort.TheVariants as target
 use Rattle.cycle_steps.specs.Routed.{fed_to, fed_in, numbers}

@@ -4,7 +4,7 @@ use Rattle.quantity.specs.declared.value.Value.{Value}
 use Rattle.run_model.specs.Run.{PortRecord}
 use Rattle.sparse_cycle.specs.Collect.{is_among}
 use Rattle.route_flat.specs.declared.source.Path.{Path}
-use Rattle.route_flat.specs.declared.source.Source.TheVariants.{Leaf, TopIn}
+use Rattle.port_net.specs.declared.source.Source.TheVariants.{Leaf, TopIn}
 use Rattle.cycle_steps.specs.Routed.{is_from, numbers}
 
 -- a number is among those of the paths from a Y record's leaf

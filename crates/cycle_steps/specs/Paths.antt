@@ -1,12 +1,13 @@
 -- The paths of a model, as they are numbered.
-use Rattle.std.specs.Prelude.{◌≡◌, ℕ, ◌<◌, Option, Some, None, List, length, ⊤}
+use Rattle.std.specs.Prelude.{◌≡◌, Option, Some, None, List}
 use Rattle.std.specs.List.{All, filter_map}
 use Rattle.model_tree.specs.Tree.{Word, Tree, ins_of}
 use Rattle.model_tree.specs.Pull as pull
 use Rattle.route_flat.specs.declared.source.Path.{Path}
 use Rattle.route_flat.specs.declared.source.TargetPort.{TargetPort}
 use Rattle.route_flat.specs.declared.source.TargetPort.TheVariants as target
-use Rattle.route_flat.specs.Nets.{named, IsThere}
+pub use Rattle.route_flat.specs.Nets.{named, IsThere}
+pub use Rattle.route_flat.specs.Targets.{IsPortOf, leaf_in, target_leaves}
 use Rattle.sparse_cycle.specs.Sparse as sparse
 
 -- a path to a leaf
@@ -32,17 +33,3 @@ pub record ArePathsOf (tree : Tree) (ps : List Path) : Type 0 where
   pub leaves : leaf_paths (ins_of tree) ps ≡ sparse.paths tree
   pub outputs : top_paths (ins_of tree) ps ≡ sparse.out_paths tree
   pub inputs : All (λ (p : Path). IsThere (ins_of tree) p.from) ps
-
--- a port that one of so many leaves has, or an output of top
-abbrev pub IsPortOf : ℕ → (ℕ → ℕ) → TargetPort → Type 0
-IsPortOf n ports (target.Leaf l port) = (l < n) × (port.0 < ports l)
-IsPortOf n ports (target.TopOut k) = ⊤
-
--- the leaf at a port, where it is one of a leaf
-abbrev pub leaf_in : TargetPort → Option ℕ
-leaf_in (target.Leaf l port) = Some l
-leaf_in (target.TopOut k) = None
-
--- the leaves to which paths lead, path by path
-abbrev pub target_leaves : List Path → List ℕ
-target_leaves ps = filter_map (λ (p : Path). leaf_in p.to) ps

@@ -4,8 +4,8 @@ use Rattle.std.specs.List.{list_any, filter, flat_map, range_with_len}
 use Rattle.quantity.specs.declared.value.Value.{Value}
 use Rattle.run_model.specs.Run.{PortRecord, OutRecord}
 use Rattle.route_flat.specs.declared.source.Path.{Path}
-use Rattle.route_flat.specs.declared.source.Source.{Source}
-use Rattle.route_flat.specs.declared.source.Source.TheVariants.{Leaf, TopIn}
+use Rattle.port_net.specs.declared.source.Source.{Source}
+use Rattle.port_net.specs.declared.source.Source.TheVariants.{Leaf, TopIn}
 use Rattle.route_flat.specs.declared.source.TargetPort.{TargetPort}
 use Rattle.route_flat.specs.declared.source.TargetPort.TheVariants as target
 use Rattle.sparse_cycle.specs.Feed.{values_of_leaf}

@@ -4,7 +4,7 @@ ghost use Rattle.std.specs.List.{list_any};
 ghost use Rattle.quantity.specs.declared.value.Value.{Value as AnyValue};
 ghost use Rattle.run_model.specs.Run.{PortRecord};
 ghost use Rattle.sparse_cycle.specs.Collect.{is_among};
-ghost use Rattle.route_flat.specs.declared.source.Source.TheVariants.{Leaf, TopIn};
+ghost use Rattle.port_net.specs.declared.source.Source.TheVariants.{Leaf, TopIn};
 ghost use Rattle.cycle_steps.specs.Untimed.{y_records};
 ghost use Rattle.cycle_steps.specs.Routed.{is_from, numbers, reaches};
 ghost use Rattle.cycle_steps.specs.Leading.{leads_from_leaf, leads_from_top};
@@ -17,7 +17,7 @@ use route_flat::Path;
 pub trait Routing {
     ghost use Rattle.std.specs.Prelude.{List};
     ghost use Rattle.route_flat.specs.declared.source.Path.{Path as AnyPath};
-    ghost use Rattle.route_flat.specs.declared.source.Source.TheVariants.{Leaf, TopIn};
+    ghost use Rattle.port_net.specs.declared.source.Source.TheVariants.{Leaf, TopIn};
     ghost use Rattle.cycle_steps.specs.Routed.{is_from, numbers, path_at};
 
     /// The paths by their numbers.

@@ -4,4 +4,7 @@ pub mod Totals
 pub mod Reading
 pub mod Steps
 pub mod Numbered
+pub mod Picked
 pub mod TreePaths
+pub mod Targets
+pub mod Covered

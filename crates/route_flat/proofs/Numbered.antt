@@ -2,7 +2,7 @@
 use Rattle.std.proofs.Common.{◌≡◌, ◌+◌, ◌++◌, ◌∷◌, ℕ, Bool, true, false, List, [], map, get_or, length, refl, sym, ap, ◌∙◌, arith, append_assoc, length-append}
 use Rattle.std.specs.List.{enumerate_from, filter, range_with_len}
 use Rattle.std.proofs.Math.Seq.{get_or-append_seam}
-use Rattle.route_flat.specs.declared.source.Source.{Source}
+use Rattle.port_net.specs.declared.source.Source.{Source}
 use Rattle.route_flat.specs.declared.source.Path.{Path}
 use Rattle.route_flat.specs.declared.source.Way.{Way}
 use Rattle.route_flat.specs.declared.source.Target.{Target}

@@ -1,9 +1,9 @@
 -- What stands at a port of a leaf, from the spans.
 use Rattle.std.proofs.Common.{◌≡◌, ◌<◌, ◌≤◌, ◌+◌, ℕ, zero, suc, List, [], ◌∷◌, map, drop, length, get_or, sym, ap, ◌∙◌, arith}
 use Rattle.std.proofs.lemmas.List.{length-map, length-take, length-drop, get_or-map, get_or-take, get_or-drop}
-use Rattle.route_flat.specs.declared.source.Source.{Source}
-use Rattle.route_flat.specs.declared.source.Span.{Span}
-use Rattle.route_flat.specs.Nodes.{part_at}
+use Rattle.port_net.specs.declared.source.Source.{Source}
+use Rattle.port_net.specs.declared.source.Span.{Span}
+use Rattle.port_net.specs.Nodes.{part_at}
 use Rattle.route_flat.specs.Nets.{Flat, AreWithin, flat_of_spans}
 
 pub within-at : {A : Type 0} (xs : List A) (spans : List Span) (i : ℕ) (s : Span) → AreWithin xs spans → i < length spans → s ≡ get_or spans i s → s.first + s.count ≤ length xs

@@ -5,11 +5,11 @@ use Rattle.std.specs.List.{flat_map}
 use Rattle.std.proofs.lemmas.List.{length-append, length-map, take_at, drop_at, take_more, map_push, map_more, take-map, drop-map}
 use Rattle.std.proofs.lemmas.List.Concat.{flat_map-append}
 use Rattle.std.proofs.lemmas.Bool.Decides.{nat_tests}
-use Rattle.route_flat.specs.declared.net.Node.{Node}
-use Rattle.route_flat.specs.declared.net.Net.{Net}
-use Rattle.route_flat.specs.declared.source.Source.{Source}
-use Rattle.route_flat.specs.declared.source.Span.{Span}
-use Rattle.route_flat.specs.Nodes.{list_of, part_at}
+use Rattle.port_net.specs.declared.net.Node.{Node}
+use Rattle.port_net.specs.declared.net.Net.{Net}
+use Rattle.port_net.specs.declared.source.Source.{Source}
+use Rattle.port_net.specs.declared.source.Span.{Span}
+use Rattle.port_net.specs.Nodes.{list_of, part_at}
 use Rattle.route_flat.specs.Nets.{AreWithin, flat_of_spans, flat_of_net}
 use Rattle.route_flat.specs.Lists.{span_at, IsList, AreLists}
 

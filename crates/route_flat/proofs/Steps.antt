@@ -6,7 +6,7 @@ use Rattle.std.proofs.lemmas.List.{length-map, length-take-le, map-set, map_push
 use Rattle.std.proofs.lemmas.List.Concat.{flat_map-append}
 use Rattle.std.proofs.lemmas.List.Elements.{filter-append}
 use Rattle.std.proofs.lemmas.Bool.Decides.{nat_tests}
-use Rattle.route_flat.specs.declared.source.Source.{Source}
+use Rattle.port_net.specs.declared.source.Source.{Source}
 use Rattle.route_flat.specs.declared.source.TargetPort.{TargetPort}
 use Rattle.route_flat.specs.declared.source.Way.{Way}
 use Rattle.route_flat.specs.Ways.{same_source, way_at, ways_at, is_way_from, target_of, targets_among}

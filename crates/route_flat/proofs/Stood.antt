@@ -6,10 +6,10 @@ use Rattle.std.proofs.lemmas.List.{length-append, length-reverse, length-take-le
 use Rattle.std.proofs.lemmas.List.FromFn.{length-map-range_with_len, get_or-map-range_with_len, map-range_with_len_more}
 use Rattle.std.proofs.lemmas.List.Sums.{sum_by-cons, sum_by-append}
 use Rattle.std.proofs.lemmas.Bool.Decides.{nat_tests}
-use Rattle.route_flat.specs.declared.net.Node.{Node}
-use Rattle.route_flat.specs.declared.net.Node.TheVariants.{Given, Joins}
-use Rattle.route_flat.specs.declared.source.Source.{Source}
-use Rattle.route_flat.specs.Nodes.{at_node, stands, list_of}
+use Rattle.port_net.specs.declared.net.Node.{Node}
+use Rattle.port_net.specs.declared.net.Node.TheVariants.{Given, Joins}
+use Rattle.port_net.specs.declared.source.Source.{Source}
+use Rattle.port_net.specs.Nodes.{at_node, stands, list_of}
 use Rattle.route_flat.specs.Counts.{sum_of, count_of, kept_count, AreCounts}
 
 -- ---- over the nodes from the newest on

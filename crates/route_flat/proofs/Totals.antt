@@ -7,10 +7,10 @@ use Rattle.std.proofs.lemmas.List.Sums.{sum_by-cons}
 use Rattle.model_tree.specs.Tree.{Tree, ins_of}
 use Rattle.model_tree.specs.Pull as P
 use Rattle.model_tree.specs.Sound.{path_count}
-use Rattle.route_flat.specs.declared.net.Net.{Net}
-use Rattle.route_flat.specs.declared.source.Source.{Source}
-use Rattle.route_flat.specs.declared.source.Span.{Span}
-use Rattle.route_flat.specs.Nodes.{list_of, part_at}
+use Rattle.port_net.specs.declared.net.Net.{Net}
+use Rattle.port_net.specs.declared.source.Source.{Source}
+use Rattle.port_net.specs.declared.source.Span.{Span}
+use Rattle.port_net.specs.Nodes.{list_of, part_at}
 use Rattle.route_flat.specs.Nets.{Flat, RoutesOf, IsParted, flat_of_net, paths_in, named}
 
 abbrev at_ports : {A : Type 0} → List (List A) → ℕ

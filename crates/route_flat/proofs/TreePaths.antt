@@ -4,13 +4,14 @@ use Rattle.std.specs.List.{enumerate_from, flat_map}
 use Rattle.std.proofs.lemmas.List.{map-append}
 use Rattle.model_tree.specs.Tree.{Word, Tree, ins_of}
 use Rattle.model_tree.specs.Pull as P
-use Rattle.route_flat.specs.declared.source.Source.{Source}
+use Rattle.port_net.specs.declared.source.Source.{Source}
 use Rattle.route_flat.specs.declared.source.TargetPort.{TargetPort}
 use Rattle.route_flat.specs.declared.source.TargetPort.TheVariants as target
 use Rattle.route_flat.specs.declared.source.Way.{Way}
-use Rattle.route_flat.specs.Nets.{Flat, RoutesOf, named}
+use Rattle.route_flat.specs.Nets.{Flat, RoutesOf, named, IsThere}
 use Rattle.route_flat.specs.Ways.{path_in, way_at, ways_to_port, ways_to_leaf, ways_to_top, leaf_paths, top_paths}
 use Rattle.route_flat.specs.TreePaths.{tree_path, made_to, made_of, made_at, made_in, PathsOfTree}
+use Rattle.route_flat.proofs.Picked.{all-begin}
 
 -- what is made of a way
 abbrev made : {X : Type 0} → (ℕ → ℕ → P.Source → X) → List Word → List Way → List X
@@ -57,4 +58,5 @@ paths-of-tree t r of =
       parts = map-append path_in (flat_map ways_to_leaf (enumerate_from 0 r.ports)) (flat_map ways_to_top (enumerate_from 0 r.tops));
       leaves = leaves-made tree_path t r of;
       tops = tops-made tree_path t r of;
+      inputs = all-begin (IsThere (ins_of t)) r of.inputs of.top_inputs;
     }

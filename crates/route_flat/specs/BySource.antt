@@ -1,7 +1,7 @@
 -- The lists of targets by the numbers of their sources.
 use Rattle.std.specs.Prelude.{List, [], map, slice_index_or}
-use Rattle.route_flat.specs.declared.source.Source.{Source}
-use Rattle.route_flat.specs.declared.source.Source.TheVariants.{Leaf, TopIn}
+use Rattle.port_net.specs.declared.source.Source.{Source}
+use Rattle.port_net.specs.declared.source.Source.TheVariants.{Leaf, TopIn}
 use Rattle.route_flat.specs.declared.source.Target.{Target}
 use Rattle.route_flat.specs.declared.by_source.BySource.{BySource}
 

@@ -1,9 +1,9 @@
 -- Numbers of sources, kept at 65537 once they are past 65536.
 use Rattle.std.specs.Prelude.{◌≡◌, ℕ, min, List, get_or, map, length}
 use Rattle.std.specs.List.{sum_by, range_with_len}
-use Rattle.route_flat.specs.declared.net.Node.{Node}
-use Rattle.route_flat.specs.declared.net.Node.TheVariants.{Given, Joins}
-use Rattle.route_flat.specs.Nodes.{list_of}
+use Rattle.port_net.specs.declared.net.Node.{Node}
+use Rattle.port_net.specs.declared.net.Node.TheVariants.{Given, Joins}
+use Rattle.port_net.specs.Nodes.{list_of}
 
 -- the sum of these nodes' counts, kept
 abbrev pub sum_of : List ℕ → List ℕ → ℕ

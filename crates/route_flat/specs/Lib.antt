@@ -1,7 +1,7 @@
-pub mod Nodes
 pub mod Nets
 pub mod Counts
 pub mod Lists
 pub mod Ways
 pub mod BySource
 pub mod TreePaths
+pub mod Targets

@@ -1,10 +1,10 @@
 -- Lists of sources that stand one behind another.
 use Rattle.std.specs.Prelude.{◌≡◌, ℕ, ◌+◌, Option, Some, None, List, ◌++◌, map, length, nat_le, if◌then◌else◌}
 use Rattle.std.specs.List.{flat_map}
-use Rattle.route_flat.specs.declared.net.Node.{Node}
-use Rattle.route_flat.specs.declared.source.Source.{Source}
-use Rattle.route_flat.specs.declared.source.Span.{Span}
-use Rattle.route_flat.specs.Nodes.{list_of, part_at}
+use Rattle.port_net.specs.declared.net.Node.{Node}
+use Rattle.port_net.specs.declared.source.Source.{Source}
+use Rattle.port_net.specs.declared.source.Span.{Span}
+use Rattle.port_net.specs.Nodes.{list_of, part_at}
 
 -- the items of a span, where it lies in the list
 abbrev pub span_at : List Source → Span → Option (List Source)

@@ -1,36 +1,10 @@
--- The net of a model: what stands at its nodes is what reaches the ports.
-use Rattle.std.specs.Prelude.{◌≡◌, ℕ, ◌+◌, ◌<◌, ◌≤◌, List, length, map, ⊤}
-use Rattle.std.specs.List.{All, AllByRecursion, flat_map, sum}
-use Rattle.model_tree.specs.Tree.{Word, Tree, ins_of}
-use Rattle.model_tree.specs.Pull as P
-use Rattle.model_tree.specs.LeafTexts.{name_at}
-use Rattle.route_flat.specs.declared.net.Net.{Net}
-use Rattle.route_flat.specs.declared.source.Source.{Source}
-use Rattle.route_flat.specs.declared.source.Source.TheVariants.{Leaf, TopIn}
-use Rattle.route_flat.specs.declared.source.Span.{Span}
-use Rattle.route_flat.specs.Nodes.{list_of, part_at}
-
--- an input of top by its name
-abbrev pub named : List Word → Source → P.Source
-named ins (Leaf n) = P.leaf_source n
-named ins (TopIn k) = P.top_source (name_at ins k)
-
--- an input that there is
-abbrev pub IsThere : List Word → Source → Type 0
-IsThere ins (Leaf l) = ⊤
-IsThere ins (TopIn k) = k < length ins
-
--- the sources at each port of each leaf, and at each output of top
-pub record Flat : Type 0 where
-  pub ports : List (List (List Source))
-  pub tops : List (List Source)
-
--- they are those of the tree, and inputs of top have their numbers
-pub record RoutesOf (t : Tree) (r : Flat) : Type 0 where
-  pub ports : map (map (map (named (ins_of t)))) r.ports ≡ P.sources t
-  pub tops : map (map (named (ins_of t))) r.tops ≡ P.top_sources t
-  pub inputs : All (All (All (IsThere (ins_of t)))) r.ports
-  pub top_inputs : All (All (IsThere (ins_of t))) r.tops
+-- The routes that a net has, and how many paths there are.
+use Rattle.std.specs.Prelude.{ℕ, ◌+◌, List, length, map}
+use Rattle.std.specs.List.{sum}
+use Rattle.port_net.specs.declared.source.Source.{Source}
+use Rattle.port_net.specs.declared.source.Span.{Span}
+use Rattle.port_net.specs.Nodes.{part_at}
+pub use Rattle.port_net.specs.Nets.{Flat, RoutesOf, IsThere, named, flat_of_net, AreWithin, IsParted, IsNetOf}
 
 -- how many paths there are
 abbrev pub paths_in : Flat → ℕ
@@ -43,24 +17,3 @@ flat_of_spans leaves ports outputs paths =
       ports = map (λ leaf. map (part_at paths) (part_at ports leaf)) leaves;
       tops = map (part_at paths) outputs;
     }
-
--- the sources that a net has
-abbrev pub flat_of_net : Net → Flat
-flat_of_net n =
-    record {
-      ports = map (λ leaf. map (list_of n.nodes.items) (part_at n.ports.items leaf)) n.leaves.items;
-      tops = map (list_of n.nodes.items) n.outputs.items;
-    }
-
--- each span lies in the list
-abbrev pub AreWithin : {A : Type 0} → List A → List Span → Type 0
-AreWithin xs spans = AllByRecursion (λ (s : Span). s.first + s.count ≤ length xs) spans
-
--- the leaves' ports, one after another, are all ports
-pub record IsParted (n : Net) : Type 0 where
-  pub within : AreWithin n.ports.items n.leaves.items
-  pub whole : flat_map (part_at n.ports.items) n.leaves.items ≡ n.ports.items
-
-pub record IsNetOf (t : Tree) (n : Net) : Type 0 where
-  pub parted : IsParted n
-  pub routes : RoutesOf t (flat_of_net n)

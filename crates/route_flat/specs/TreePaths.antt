@@ -1,12 +1,12 @@
 -- The paths of the routes are those of the tree, in its order.
 use Rattle.std.specs.Prelude.{◌≡◌, ℕ, ◌++◌, List, map}
-use Rattle.std.specs.List.{enumerate_from, flat_map}
+use Rattle.std.specs.List.{All, enumerate_from, flat_map}
 use Rattle.model_tree.specs.Tree.{Word, Tree, ins_of}
 use Rattle.model_tree.specs.Pull as P
 use Rattle.route_flat.specs.declared.source.Path.{Path}
 use Rattle.route_flat.specs.declared.source.TargetPort.{TargetPort}
 use Rattle.route_flat.specs.declared.source.TargetPort.TheVariants as target
-use Rattle.route_flat.specs.Nets.{Flat, named}
+use Rattle.route_flat.specs.Nets.{Flat, named, IsThere}
 use Rattle.route_flat.specs.Ways.{paths_of, leaf_paths, top_paths}
 
 -- a path of the tree: the leaf and its port, or 0 and an output of top, and the source
@@ -32,8 +32,9 @@ made_at make l = flat_map (λ (p : ℕ × List P.Source). map (make l.0 p.0) p.1
 abbrev pub made_in : {X : Type 0} → (ℕ → ℕ → P.Source → X) → List (List (List P.Source)) → List X
 made_in make lists = flat_map (made_at make) (enumerate_from 0 lists)
 
--- the paths of these routes are those of the tree
+-- the paths of these routes are those of the tree, and begin at inputs of top that there are
 pub record PathsOfTree (t : Tree) (r : Flat) : Type 0 where
   pub parts : paths_of r ≡ leaf_paths r ++ top_paths r
   pub leaves : map (made_of tree_path (ins_of t)) (leaf_paths r) ≡ made_in tree_path (P.sources t)
   pub tops : map (made_of tree_path (ins_of t)) (top_paths r) ≡ made_at tree_path (0, P.top_sources t)
+  pub inputs : All (λ (p : Path). IsThere (ins_of t) p.from) (paths_of r)

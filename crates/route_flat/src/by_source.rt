@@ -1,7 +1,8 @@
 // The targets of each source, as lists by the source's number.
 ghost use Rattle.std.specs.Prelude.{◌≡◌, ◌<◌, ◌++◌, ◌==◌, ℕ, [], ◌∷◌, map, length, OnOk, slice_index_or, if◌then◌else◌};
 
-use crate::source::{Source, Target};
+use crate::source::Target;
+use port_net::Source;
 use quantity::OutOfMemory;
 use std::alloc::{AllocError, Global};
 
@@ -13,7 +14,7 @@ pub(crate) struct BySource {
 }
 
 impl BySource {
-    ghost use Rattle.route_flat.specs.declared.source.Source.{Source};
+    ghost use Rattle.port_net.specs.declared.source.Source.{Source};
     ghost use Rattle.route_flat.specs.Ways.{same_source};
     ghost use Rattle.route_flat.specs.BySource.{list_from};
 

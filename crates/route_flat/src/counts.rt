@@ -3,7 +3,7 @@ ghost use Rattle.std.specs.Prelude.{◌≡◌, ◌≤◌, ◌+◌, min, IfOk, ge
 ghost use Rattle.std.specs.List.{sum_by};
 ghost use Rattle.route_flat.specs.Counts.{count_of, sum_of, AreCounts};
 
-use crate::net::Node;
+use port_net::Node;
 use quantity::OutOfMemory;
 use std::alloc::{AllocError, Global};
 

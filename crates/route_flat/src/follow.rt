@@ -1,12 +1,11 @@
 // The sources at a node, found by following what it joins. What brings nothing is not followed.
 ghost use Rattle.std.specs.Prelude.{◌≡◌, ◌<◌, ◌&&◌, ◌++◌, take, length, get_or, nat_lt, OnOk};
 ghost use Rattle.std.specs.List.{flat_map};
-ghost use Rattle.route_flat.specs.Nodes.{list_of};
+ghost use Rattle.port_net.specs.Nodes.{list_of};
 ghost use Rattle.route_flat.specs.Counts.{AreCounts};
 
 use crate::counts::count_at;
-use crate::net::Node;
-use crate::source::Source;
+use port_net::{Node, Source};
 use quantity::OutOfMemory;
 use std::alloc::AllocError;
 

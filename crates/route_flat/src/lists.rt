@@ -4,8 +4,7 @@ ghost use Rattle.route_flat.specs.Counts.{AreCounts};
 ghost use Rattle.route_flat.specs.Lists.{IsList, AreLists};
 
 use crate::follow::follow;
-use crate::net::Node;
-use crate::source::{Source, Span};
+use port_net::{Node, Source, Span};
 use quantity::OutOfMemory;
 use std::alloc::{AllocError, Global};
 

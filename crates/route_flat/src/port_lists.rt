@@ -1,15 +1,14 @@
 // The sources at each port, in lists one behind another.
 ghost use Rattle.std.specs.Prelude.{◌≡◌, ◌+◌, ◌<◌, ◌≤◌, IfOk, length};
 ghost use Rattle.std.specs.List.{HoldsAt};
-ghost use Rattle.route_flat.specs.Nodes.{part_at};
+ghost use Rattle.port_net.specs.Nodes.{part_at};
 ghost use Rattle.route_flat.specs.Nets.{IsParted, flat_of_net, paths_in};
 
 use crate::counts::{counts, sum_of};
 use crate::lists::lists;
-use crate::net::Net;
 use crate::refusal::RouteRefusal;
-use crate::source::{Source, Span};
 use atomic_face::PortNo;
+use port_net::{Net, Source, Span};
 use std::alloc::Global;
 
 /// The sources at each port of each leaf and at each output of top. Seen as these lists.

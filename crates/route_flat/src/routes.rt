@@ -7,13 +7,13 @@ ghost use Rattle.route_flat.specs.Nets.{IsParted, RoutesOf, flat_of_net, paths_i
 ghost use Rattle.route_flat.specs.Ways.{paths_of, ways_of, targets_among, numbers, is_from};
 
 use crate::by_source::BySource;
-use crate::net::{Net, net_of};
 use crate::port_lists::PortLists;
 use crate::refusal::RouteRefusal;
-use crate::source::{Path, Source, Target, Way};
+use crate::source::{Path, Target, Way};
 use crate::ways::{by_source, ways};
 use atomic_face::PortNo;
 use model_tree::Model;
+use port_net::{Net, Source, net_of};
 use std::alloc::Global;
 
 /// The sources at each port of each leaf and at each output of top. Seen as these lists.
@@ -28,7 +28,7 @@ pub struct Routes {
 
 impl std::marker::Model for Routes {
     ghost use Rattle.std.specs.Prelude.{◌≡◌};
-    ghost use Rattle.route_flat.specs.declared.source.Source.{Source as AnySource};
+    ghost use Rattle.port_net.specs.declared.source.Source.{Source as AnySource};
     ghost use Rattle.route_flat.specs.Nets.{Flat};
     ghost use Rattle.route_flat.specs.Ways.{ways_of, targets_among};
     ghost use Rattle.route_flat.specs.BySource.{list_from};

@@ -1,12 +1,6 @@
 // Where values come from and where they go.
 use atomic_face::PortNo;
-
-/// The output port `out` of a leaf, or an input of top, by its number.
-#[derive(Clone, Copy, PartialEq, Eq, Debug)]
-pub enum Source {
-    Leaf(u32),
-    TopIn(u16),
-}
+use port_net::Source;
 
 /// An input port of a leaf, or an output of top, by its number.
 #[derive(Clone, Copy, PartialEq, Eq, Debug)]
@@ -20,13 +14,6 @@ pub enum TargetPort {
 pub struct Path {
     pub from: Source,
     pub to: TargetPort,
-}
-
-/// A part of a list: where it begins, and how much belongs to it.
-#[derive(Clone, Copy, PartialEq, Eq, Debug)]
-pub struct Span {
-    pub first: u32,
-    pub count: u32,
 }
 
 /// A path, and its place among the sources of the port where it leads.

@@ -1,9 +1,9 @@
 use Rattle.std.proofs.Common.{rules, ◌≡◌, ◌<◌, ◌++◌, ℕ, List, take, length, sym, ap, ◌∙◌, [], ◌∷◌, arith}
 use Rattle.std.proofs.lemmas.Result.{on_ok_weaker}
 use Rattle.std.specs.List.{flat_map}
-use Rattle.route_flat.specs.declared.net.Node.TheVariants.{Given, Joins}
-use Rattle.route_flat.specs.declared.source.Source.{Source}
-use Rattle.route_flat.specs.Nodes.{list_of}
+use Rattle.port_net.specs.declared.net.Node.TheVariants.{Given, Joins}
+use Rattle.port_net.specs.declared.source.Source.{Source}
+use Rattle.port_net.specs.Nodes.{list_of}
 use Rattle.route_flat.proofs.Stood.{with-none, none-beyond, not-led, led, node-is}
 use Rattle.route_flat.proofs.follow.+follow.Goals as goal
 

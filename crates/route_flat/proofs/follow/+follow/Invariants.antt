@@ -1,6 +1,6 @@
 use Rattle.std.proofs.Common.{◌≡◌, ◌++◌, ◌+◌, ◌*◌, take}
 use Rattle.std.specs.List.{flat_map}
-use Rattle.route_flat.specs.Nodes.{list_of}
+use Rattle.port_net.specs.Nodes.{list_of}
 use Rattle.route_flat.proofs.follow.+follow.Given as goal
 
 abbrev pub decreases-follow : goal.decreases-follow

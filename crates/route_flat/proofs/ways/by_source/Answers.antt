@@ -1,6 +1,6 @@
 use Rattle.std.proofs.Common.{ℕ, ap, sym, ◌∙◌, List, [], ◌∷◌, ◌++◌, get_or, arith, refl}
 use Rattle.std.specs.Prelude.{if◌then◌else◌}
-use Rattle.route_flat.specs.declared.source.Source.TheVariants.{Leaf}
+use Rattle.port_net.specs.declared.source.Source.TheVariants.{Leaf}
 use Rattle.route_flat.specs.declared.source.TargetPort.TheVariants as target
 use Rattle.route_flat.specs.declared.source.Way.{Way}
 use Rattle.route_flat.specs.declared.source.Target.{Target}

@@ -1,6 +1,6 @@
 use Rattle.std.proofs.Common.{rules, ◌≡◌, ℕ, ap, ◌∙◌, [], ◌∷◌, ◌++◌, get_or, arith, refl}
-use Rattle.route_flat.specs.declared.source.Source.{Source}
-use Rattle.route_flat.specs.declared.source.Source.TheVariants.{Leaf}
+use Rattle.port_net.specs.declared.source.Source.{Source}
+use Rattle.port_net.specs.declared.source.Source.TheVariants.{Leaf}
 use Rattle.route_flat.specs.Ways.{way_at}
 use Rattle.route_flat.proofs.Steps.{way-more}
 use Rattle.route_flat.proofs.ways.to_port.Goals as goal

@@ -1,6 +1,6 @@
 use Rattle.std.proofs.Common.{◌≡◌, ℕ, List, length, min, arith, sym, ap, ◌∙◌}
 use Rattle.std.specs.List.{flat_map}
-use Rattle.route_flat.specs.Nodes.{list_of, part_at}
+use Rattle.port_net.specs.Nodes.{list_of, part_at}
 use Rattle.route_flat.specs.Counts.{sum_of}
 use Rattle.route_flat.proofs.Stood.{of-counts, kept-sum}
 use Rattle.route_flat.proofs.Spans.{of-lists, first-parts, last-parts, flat-same, within-same, same-count}

@@ -1,6 +1,6 @@
 use Rattle.std.proofs.Common.{◌<◌, ◌+◌, List, length, arith, ap, sym, ◌∙◌, get_or, subst, []}
-use Rattle.route_flat.specs.declared.source.Source.{Source}
-use Rattle.route_flat.specs.Nodes.{part_at}
+use Rattle.port_net.specs.declared.source.Source.{Source}
+use Rattle.port_net.specs.Nodes.{part_at}
 use Rattle.route_flat.proofs.Reading.{within-at, count-leaves, read-leaf, port-below, read-port}
 use Rattle.route_flat.proofs.port_lists.PortLists.sources.Goals as goal
 

@@ -1,0 +1,54 @@
+-- The net of a model: what stands at its nodes is what reaches the ports.
+use Rattle.std.specs.Prelude.{◌≡◌, ℕ, ◌+◌, ◌<◌, ◌≤◌, List, length, map, ⊤}
+use Rattle.std.specs.List.{All, AllByRecursion, flat_map}
+use Rattle.model_tree.specs.Tree.{Word, Tree, ins_of}
+use Rattle.model_tree.specs.Pull as P
+use Rattle.model_tree.specs.LeafTexts.{name_at}
+use Rattle.port_net.specs.declared.net.Net.{Net}
+use Rattle.port_net.specs.declared.source.Source.{Source}
+use Rattle.port_net.specs.declared.source.Source.TheVariants.{Leaf, TopIn}
+use Rattle.port_net.specs.declared.source.Span.{Span}
+use Rattle.port_net.specs.Nodes.{list_of, part_at}
+
+-- an input of top by its name
+abbrev pub named : List Word → Source → P.Source
+named ins (Leaf n) = P.leaf_source n
+named ins (TopIn k) = P.top_source (name_at ins k)
+
+-- an input that there is
+abbrev pub IsThere : List Word → Source → Type 0
+IsThere ins (Leaf l) = ⊤
+IsThere ins (TopIn k) = k < length ins
+
+-- the sources at each port of each leaf, and at each output of top
+pub record Flat : Type 0 where
+  pub ports : List (List (List Source))
+  pub tops : List (List Source)
+
+-- they are those of the tree, and inputs of top have their numbers
+pub record RoutesOf (t : Tree) (r : Flat) : Type 0 where
+  pub ports : map (map (map (named (ins_of t)))) r.ports ≡ P.sources t
+  pub tops : map (map (named (ins_of t))) r.tops ≡ P.top_sources t
+  pub inputs : All (All (All (IsThere (ins_of t)))) r.ports
+  pub top_inputs : All (All (IsThere (ins_of t))) r.tops
+
+-- the sources that a net has
+abbrev pub flat_of_net : Net → Flat
+flat_of_net n =
+    record {
+      ports = map (λ leaf. map (list_of n.nodes.items) (part_at n.ports.items leaf)) n.leaves.items;
+      tops = map (list_of n.nodes.items) n.outputs.items;
+    }
+
+-- each span lies in the list
+abbrev pub AreWithin : {A : Type 0} → List A → List Span → Type 0
+AreWithin xs spans = AllByRecursion (λ (s : Span). s.first + s.count ≤ length xs) spans
+
+-- the leaves' ports, one after another, are all ports
+pub record IsParted (n : Net) : Type 0 where
+  pub within : AreWithin n.ports.items n.leaves.items
+  pub whole : flat_map (part_at n.ports.items) n.leaves.items ≡ n.ports.items
+
+pub record IsNetOf (t : Tree) (n : Net) : Type 0 where
+  pub parted : IsParted n
+  pub routes : RoutesOf t (flat_of_net n)
