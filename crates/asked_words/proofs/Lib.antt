@@ -1,0 +1,4 @@
+pub mod Matched
+pub mod Taken
+pub mod Looked
+pub mod Asking

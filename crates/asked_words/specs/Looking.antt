@@ -1,0 +1,32 @@
+-- How frames are to look. Only private clauses name this.
+use Rattle.std.specs.Prelude.{ℕ, nat_lt, Option, Some, None, List, codes, if◌then◌else◌}
+use Rattle.cell_grid.specs.Space.{Space, plane_count}
+use Rattle.model_tree.specs.Tree.{Word}
+use Rattle.answer_model.specs.AskedDrawing.{AskedDrawing}
+use Rattle.clap.specs.Walk.{Row}
+use Rattle.quantity.specs.Written.{for_some}
+use Rattle.answer_model.specs.Asked.{value_of, or_else, number}
+use Rattle.asked_words.specs.declared.looks.Looks as code
+
+-- the width of a cell, its decimals, and the plane
+pub record Looks : Type 0 where
+  pub width : ℕ
+  pub decimals : ℕ
+  pub plane : ℕ
+
+abbrev pub looks_of : code.Looks → Looks
+looks_of l = record { width = l.width; decimals = l.decimals; plane = l.plane }
+
+abbrev pub looks_asked : List Row → Option Looks
+looks_asked rows =
+    for_some (or_else 3 (number 1 20) (value_of rows (codes "w"))) (λ width.
+    for_some (or_else 0 (number 0 5) (value_of rows (codes "p"))) (λ decimals.
+    for_some (or_else 0 (number 0 1048575) (value_of rows (codes "f"))) (λ plane.
+    Some (record { width = width; decimals = decimals; plane = plane }))))
+
+-- what is drawn so, where the space has the plane
+abbrev pub drawing_with : Word → Word → Space → Looks → Option AskedDrawing
+drawing_with log group space l =
+    if nat_lt l.plane (plane_count space)
+    then Some (record { log = log; group = group; picture = record { space = space; plane = l.plane; width = l.width; decimals = l.decimals } })
+    else None

@@ -1,0 +1,68 @@
+-- What is asked for, without where it lies.
+use Rattle.std.specs.Prelude.{◌≤◌, Option, Some, None, List, IfSome, ⊤}
+use Rattle.std.specs.Option.{option_map}
+use Rattle.std.specs.Borrow.{Bor}
+use Rattle.model_tree.specs.Tree.{Word}
+use Rattle.answer_model.specs.Asked as A
+use Rattle.answer_model.specs.AskedDrawing as D
+use Rattle.asked_words.specs.declared.asked.Source.{Source}
+use Rattle.asked_words.specs.declared.asked.Source.TheVariants.{File, Made}
+use Rattle.asked_words.specs.declared.asked.FramesFile.{FramesFile}
+use Rattle.asked_words.specs.declared.asked.Asked.{Asked}
+use Rattle.asked_words.specs.declared.asked.AskedDrawing.{AskedDrawing}
+
+-- the text of a name, if there is one
+abbrev pub name_of : Option (Bor Word) → Option Word
+name_of name = option_map (λ (n : Bor Word). n.now) name
+
+abbrev pub source_of : Source → A.Source
+source_of (File name) = A.file name.now
+source_of (Made size) = A.made size
+
+abbrev pub frames_of : FramesFile → A.FramesFile
+frames_of f = record { name = f.name.now; drawing = record { group = f.group; plane = f.plane }; width = f.width; decimals = f.decimals }
+
+-- an order of service and saved states are still to come
+abbrev pub asked_of : Asked → A.Asked
+asked_of a =
+    record {
+      source = source_of a.source;
+      end = a.end;
+      events = name_of a.events;
+      log = name_of a.log;
+      out = name_of a.out;
+      frames = option_map frames_of a.frames;
+      letters = a.letters.now;
+      limit = a.limit;
+      seed = None;
+      save = None;
+      state = None;
+    }
+
+abbrev pub drawing_of : AskedDrawing → D.AskedDrawing
+drawing_of a =
+    record {
+      log = a.log.now;
+      group = a.group;
+      picture = record { space = a.space; plane = a.plane; width = a.width; decimals = a.decimals };
+    }
+
+-- ---- bounds of what is asked for
+
+-- a made model has 5 to 1000 rows and columns
+abbrev pub IsOfSize : Source → Type 0
+IsOfSize (File name) = ⊤
+IsOfSize (Made size) = (5 ≤ size) × (size ≤ 1000)
+
+-- 1 to 20 places for a value, and at most 5 decimals
+pub record CanBeShown (f : FramesFile) : Type 0 where
+  pub some : 1 ≤ f.width
+  pub narrow : f.width ≤ 20
+  pub short : f.decimals ≤ 5
+
+pub record IsInBounds (a : Asked) : Type 0 where
+  pub end_is : a.end ≤ 359999999
+  pub size : IsOfSize a.source
+  pub some : 1 ≤ a.limit
+  pub few : a.limit ≤ 1000000
+  pub frames : IfSome a.frames CanBeShown

@@ -1,0 +1,46 @@
+// What words ask for.
+use cell_grid::Grid;
+use quantity::{Name, Time};
+
+/// Where a model comes from: a file, or a game of life with so many rows and columns.
+#[derive(Clone, Copy)]
+pub enum Source<'a> {
+    File(&'a str),
+    Made(u32),
+}
+
+/// A file of frames, the group that they show, its plane, the width of a cell and its decimals.
+#[derive(Drop)]
+pub struct FramesFile<'a> {
+    pub name: &'a str,
+    pub group: Name,
+    pub plane: u32,
+    pub width: u8,
+    pub decimals: u8,
+}
+
+/// What the words of the simulator ask for. `letters` are those of the log's lines, as they were
+/// given; `limit` is how many cycles one instant may have.
+#[derive(Drop)]
+pub struct Asked<'a> {
+    pub source: Source<'a>,
+    pub end: Time,
+    pub events: Option<&'a str>,
+    pub log: Option<&'a str>,
+    pub out: Option<&'a str>,
+    pub frames: Option<FramesFile<'a>>,
+    pub letters: &'a str,
+    pub limit: u32,
+}
+
+/// What the words of the drawing program ask for: a log, a group in it with its space, the plane
+/// that is drawn, the width of a cell and its decimals.
+#[derive(Drop)]
+pub struct AskedDrawing<'a> {
+    pub log: &'a str,
+    pub group: Name,
+    pub space: Grid,
+    pub plane: u32,
+    pub width: u8,
+    pub decimals: u8,
+}

@@ -1,0 +1,127 @@
+// What the words of the simulator ask for.
+ghost use Rattle.std.specs.Prelude.{◌≡◌, ◌≤◌, [], ◌∷◌, IfOk, IfSome, map};
+ghost use Rattle.std.specs.List.{filter_map};
+ghost use Rattle.std.specs.Option.{option_map};
+ghost use Rattle.std.specs.String.{string_bytes};
+ghost use Rattle.clap.specs.Words.{rows_of, found_of};
+ghost use Rattle.answer_model.specs.Asked as A;
+ghost use Rattle.answer_model.specs.Asked.{built_letters};
+ghost use Rattle.asked_words.specs.Shown.{name_of, source_of, frames_of, asked_of, IsOfSize, CanBeShown, IsInBounds};
+
+use crate::asked::{Asked, FramesFile, Source};
+use crate::command::cdpp_matches;
+use crate::looks::{Looks, looks_in};
+use crate::values::{differ_all, end_in, group_in, letters_or_y, number, number_or};
+use clap::ArgMatches;
+use quantity::OutOfMemory;
+use std::alloc::Global;
+
+/// A model's file, or the size of a made one, and not both.
+fn source_in<'a>(model: Option<&'a str>, size: Option<&'a str>) -> Option<Source<'a>>
+    ensures source { option_map source_of result ≡ A.source_in (name_of model.entry) (name_of size.entry) }
+    ensures size { IfSome result IsOfSize }
+{
+    match (model, size) {
+        (Some(name), None) => Some(Source::File(name)),
+        (None, Some(size)) => Some(Source::Made(number(5, 1000, size)?)),
+        _ => None,
+    }
+}
+
+/// A file of frames with its group, where both are given; neither is none.
+fn frames_in<'a>(
+    alloc: Global,
+    name: Option<&'a str>,
+    group: Option<&'a str>,
+    looks: Looks,
+) -> Result<Option<Option<FramesFile<'a>>>, OutOfMemory>
+    requires some { 1 ≤ looks.width }
+    requires width { looks.width ≤ 20 }
+    requires decimals { looks.decimals ≤ 5 }
+    ensures frames { IfOk result (λ f. option_map (option_map frames_of) f
+        ≡ A.frames_in (name_of name.entry) (name_of group.entry) looks.width looks.decimals looks.plane) }
+    ensures bounds { IfOk result (λ f. IfSome f (λ f. IfSome f CanBeShown)) }
+{
+    match (name, group) {
+        (None, None) => Ok(Some(None)),
+        (Some(name), Some(group)) => match group_in(alloc, group)? {
+            None => Ok(None),
+            Some(group) => Ok(Some(Some(FramesFile {
+                name,
+                group,
+                plane: looks.plane,
+                width: looks.width as u8,
+                decimals: looks.decimals as u8,
+            }))),
+        },
+        _ => Ok(None),
+    }
+}
+
+/// The files that are named, in the order in which they are compared.
+fn names_differ(
+    model: Option<&str>,
+    events: Option<&str>,
+    log: Option<&str>,
+    out: Option<&str>,
+    frames: Option<&str>,
+) -> bool
+    ensures { result ≡ A.differ_all (filter_map name_of (model.entry ∷ events.entry ∷ log.entry ∷ out.entry ∷ frames.entry ∷ [])) }
+{
+    differ_all(&[model, events, log, out, frames])
+}
+
+/// What the matches ask for.
+#[tactic(auto, using(crate::proofs::Matched::value_is))]
+fn asked_in<'a>(alloc: Global, matches: &ArgMatches<'a>) -> Result<Option<Asked<'a>>, OutOfMemory>
+    ensures value { IfOk result (λ a. option_map asked_of a ≡ A.asked_in built_letters (rows_of (found_of matches.now))) }
+    ensures bounds { IfOk result (λ a. IfSome a IsInBounds) }
+{
+    let model = matches.get_str("m");
+    let events = matches.get_str("e");
+    let log = matches.get_str("l");
+    let out = matches.get_str("o");
+    let frames_name = matches.get_str("d");
+    let Some(source) = source_in(model, matches.get_str("G")) else {
+        return Ok(None);
+    };
+    let Some(end) = end_in(matches.get_str("t")) else {
+        return Ok(None);
+    };
+    let Some(letters) = letters_or_y(matches.get_str("L")) else {
+        return Ok(None);
+    };
+    let Some(limit) = number_or(10000, 1, 1_000_000, matches.get_str("c")) else {
+        return Ok(None);
+    };
+    let Some(looks) = looks_in(matches) else {
+        return Ok(None);
+    };
+    let Some(frames) = frames_in(alloc, frames_name, matches.get_str("g"), looks)? else {
+        return Ok(None);
+    };
+    if !names_differ(model, events, log, out, frames_name) {
+        return Ok(None);
+    }
+    Ok(Some(Asked {
+        source,
+        end,
+        events,
+        log,
+        out,
+        frames,
+        letters,
+        limit,
+    }))
+}
+
+/// What the words ask for, of which the first is the program's name; None where they are refused.
+pub fn read_words<'a>(alloc: Global, words: &'a [String]) -> Result<Option<Asked<'a>>, OutOfMemory>
+    ensures value { IfOk result (λ a. option_map asked_of a ≡ A.asked (map string_bytes words.entry.now)) }
+    ensures bounds { IfOk result (λ a. IfSome a IsInBounds) }
+{
+    let Some(matches) = cdpp_matches(alloc, words)? else {
+        return Ok(None);
+    };
+    asked_in(alloc, &matches)
+}
