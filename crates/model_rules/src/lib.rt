@@ -1,0 +1,49 @@
+// The rules of groups. A rules section that several groups name is read once for each of them, since what a rule may
+// name is the group's.
+#![tactic(auto)]
+
+ghost use Rattle.std.specs.Prelude.{◌≡◌, None, Some, map, IfOk};
+ghost use Rattle.model_text.specs.Walk as W;
+ghost use Rattle.model_text.specs.Keys as K;
+ghost use Rattle.model_text.specs.Spaces as S;
+ghost use Rattle.model_text.specs.Rules as R;
+ghost use Rattle.model_walk.specs.Shown.{refusal_of};
+ghost use Rattle.model_spaces.specs.Placed.{shown, placed_of};
+ghost use Rattle.model_rules.specs.Sets.{sets_shown, sets_of};
+
+use ma_lines::Sections;
+use model_spaces::PlacedGroup;
+use model_tree::PortRule;
+use model_walk::Stop;
+use rule_tree::RuleTree;
+use std::alloc::Global;
+
+/// The rule sets of a group, that of `localtransition` first, and the numbers of those that its zones and its ports
+/// name.
+#[derive(Drop)]
+pub struct GroupRules {
+    pub rule_sets: Vec<Vec<RuleTree>>,
+    pub zone_rules: Vec<usize>,
+    pub port_rules: Vec<PortRule>,
+}
+
+/// The rules of the groups in declared order. Refused is the least refusal of all.
+pub fn rules(
+    alloc: Global,
+    sections: &Sections,
+    groups: &[PlacedGroup<'_>],
+) -> Result<Vec<GroupRules>, Stop>
+    requires keys { K.keys_refused sections.now ≡ None }
+    requires spaces { S.spaces_refused sections.now ≡ None }
+    requires groups { map shown groups.now ≡ map placed_of (W.groups sections.now) }
+    ensures right { IfOk result (λ rules. R.rules_refused sections.now ≡ None) }
+    ensures rules { IfOk result
+        (λ rules. map sets_shown rules.items ≡ map (sets_of sections.now) (W.groups sections.now)) }
+    ensures refused { (why : _) → result ≡ Err (Stop.Refused why)
+        → R.rules_refused sections.now ≡ Some (refusal_of why) }
+{
+    let _alloc = alloc;
+    let _sections = sections;
+    let _groups = groups;
+    Err(Stop::Memory)
+}
