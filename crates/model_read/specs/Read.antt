@@ -1,0 +1,56 @@
+-- What the reading of a model answers.
+use Rattle.std.specs.Prelude.{◌≡◌, true, Option, None, List, IfSome, ⊤}
+use Rattle.std.specs.Option.{option_map}
+use Rattle.std.specs.declared.result.Result.{Result}
+use Rattle.std.specs.declared.result.Result.TheVariants.{Ok, Err}
+use Rattle.source_text.specs.Lines.{Files}
+use Rattle.atomic_face.specs.StockView.{Stocked}
+use Rattle.room_edge.specs.Outside.{Outside, OnlyInput}
+use Rattle.room_edge.specs.Faults.{KeepsMisses, KeepsReadFaults}
+use Rattle.model_tree.specs.declared.table.Model.{Model}
+use Rattle.model_tree.specs.Models.{tree_of}
+use Rattle.model_tree.specs.Leaves.{OfTree}
+use Rattle.model_tree.specs.Sound.{is_sound_model}
+use Rattle.route_flat.specs.declared.routes.Routes.{Routes}
+use Rattle.route_flat.specs.Nets.{RoutesOf}
+use Rattle.model_text.specs.Refusals.{refusal}
+use Rattle.model_text.specs.Drawings as D
+use Rattle.model_text.specs.ModelOf.{ModelOf, model, missing, refused, ModelRead}
+use Rattle.model_files.specs.declared.refusal.ModelRefusal.{ModelRefusal}
+use Rattle.model_files.specs.declared.refusal.ModelRefusal.TheVariants as why
+use Rattle.model_files.specs.Reading.{Tried, IsLastTried, Counted}
+use Rattle.model_read.specs.declared.drawing.Drawing as code
+use Rattle.model_read.specs.Boxes.{settings_in, BoxesStand}
+
+-- what is to be drawn, as a plain value
+abbrev pub drawing_of : Option code.Drawing → Option D.Drawing
+drawing_of d = option_map (λ (x : code.Drawing). record { group = x.group; plane = x.plane }) d
+
+-- a model that a run may start from: it is sound, the routes are its own, and so are the boxes of its atomic components
+pub record IsReady (stock : List Stocked) (m : Model) (routes : Routes) : Type 0 where
+  pub sound : is_sound_model (tree_of m (settings_in stock)) ≡ true
+  pub routes_are : OfTree m (λ t. RoutesOf t routes)
+  pub boxes : BoxesStand stock m
+
+-- the model is the one that is found, under the settings of the boxes; a missing file and a refusal are those that are found
+abbrev pub ModelGives : ModelOf → List Stocked → Result (Model × Routes) ModelRefusal → Type 0
+ModelGives found stock (Ok read) = found ≡ model (tree_of read.0 (settings_in stock))
+ModelGives found stock (Err (why.Missing name)) = found ≡ missing name
+ModelGives found stock (Err (why.Refused line kind)) = found ≡ refused (refusal line kind)
+ModelGives found stock (Err (why.ReadFault name)) = ⊤
+ModelGives found stock (Err why.Memory) = ⊤
+
+abbrev pub ReadyIfOk : List Stocked → Result (Model × Routes) ModelRefusal → Type 0
+ReadyIfOk stock (Ok read) = IsReady stock read.0 read.1
+ReadyIfOk stock (Err why) = ⊤
+
+-- all of this of a reading whose definition is this, where the files are told
+pub record Reads (definition : Files → ModelRead) (stock : List Stocked) (result : Result (Model × Routes) ModelRefusal) (old new : Outside) : Type 0 where
+  pub found : IfSome old.files (λ files. ModelGives (definition files).found stock result)
+  pub tried : IfSome old.files (λ files. Tried result (definition files).looked old.tried new.tried)
+  pub ready : ReadyIfOk stock result
+  pub last : IsLastTried result new.tried
+  pub counted : Counted result old new
+  pub misses : KeepsMisses old new
+  pub faults : KeepsReadFaults old new
+  pub only : OnlyInput old new

