@@ -9,7 +9,9 @@ ghost use Rattle.model_walk.specs.Met.{IsWalk, met_of};
 ghost use Rattle.model_spaces.specs.Placed.{shown, placed_of};
 ghost use Rattle.model_stock.specs.Settled.{named, named_item};
 ghost use Rattle.model_rules.specs.Sets.{sets_shown, sets_of};
-ghost use Rattle.model_build.specs.Built.{Passes, HasSettings, IsBuilt, HoldsBoxes};
+ghost use Rattle.model_tree.specs.declared.component.Component.TheVariants.{Coupled as in_tree};
+ghost use Rattle.model_laid.specs.Boxes.{atomics_in};
+ghost use Rattle.model_build.specs.Built.{Passes, HasSettings, IsBuilt};
 
 use ma_lines::Sections;
 use model_rules::GroupRules;
@@ -41,7 +43,7 @@ pub fn build(
         ≡ map links_of (W.reached sections.now) }
     ensures tree { IfOk result (λ top. (settings : Settings)
         → HasSettings sections.now settings atomics.items → IsBuilt sections.now settings top) }
-    ensures boxes { IfOk result (λ top. HoldsBoxes atomics.items top) }
+    ensures atomics { IfOk result (λ top. atomics_in (in_tree top) ≡ atomics.items) }
 {
     let _alloc = alloc;
     let _sections = sections;

@@ -1,7 +1,7 @@
 -- Nothing was read.
-use Rattle.std.proofs.Common.{Option, Some, None, List, [], sym, refl, Err}
+use Rattle.std.proofs.Common.{Option, Some, None, List, [], sym, refl, Err, le_refl}
 use Rattle.std.proofs.lemmas.List.{append-nil}
-use Rattle.std.proofs.lemmas.Nat.{le-refl}
+
 use Rattle.std.specs.Prelude.{IfSome}
 use Rattle.quantity.specs.Bytes.{Bytes}
 use Rattle.source_text.specs.Lines.{Files}
@@ -24,8 +24,8 @@ read_nothing definition stock o =
       ready = tt;
       last = tt;
       counted = (refl, refl);
-      misses = le-refl o.misses;
-      faults = le-refl o.read_faults;
+      misses = le_refl o.misses;
+      faults = le_refl o.read_faults;
       only = nothing_changed o;
     }
   where

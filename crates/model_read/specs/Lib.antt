@@ -1,4 +1,3 @@
 pub mod Order
-pub mod Boxes
 pub mod Read
 pub mod Whole

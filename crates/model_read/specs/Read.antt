@@ -20,7 +20,7 @@ use Rattle.model_files.specs.declared.refusal.ModelRefusal.{ModelRefusal}
 use Rattle.model_files.specs.declared.refusal.ModelRefusal.TheVariants as why
 use Rattle.model_files.specs.Reading.{Tried, IsLastTried, Counted}
 use Rattle.model_read.specs.declared.drawing.Drawing as code
-use Rattle.model_read.specs.Boxes.{settings_in, BoxesStand}
+use Rattle.model_laid.specs.Boxes.{settings_in, BoxesStand}
 
 -- what is to be drawn, as a plain value
 abbrev pub drawing_of : Option code.Drawing → Option D.Drawing

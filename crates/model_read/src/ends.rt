@@ -7,7 +7,7 @@ ghost use Rattle.model_text.specs.Walk as W;
 ghost use Rattle.model_spaces.specs.Placed.{values_before_files};
 ghost use Rattle.model_build.specs.Built.{Passes, IsBuilt};
 ghost use Rattle.model_files.specs.Spaces as spaces;
-ghost use Rattle.model_read.specs.Boxes.{settings_in, HasBoxes};
+ghost use Rattle.model_laid.specs.Boxes.{settings_in, HasBoxes};
 ghost use Rattle.model_read.specs.Read.{drawing_of, Reads, IsReady};
 ghost use Rattle.model_read.specs.Whole.{behind_limit};
 

@@ -11,7 +11,7 @@ ghost use Rattle.model_stock.specs.Settled.{classes_of};
 ghost use Rattle.model_build.specs.Built.{IsBuilt};
 ghost use Rattle.model_files.specs.Spaces as spaces;
 ghost use Rattle.model_read.specs.Order.{up_to_limit};
-ghost use Rattle.model_read.specs.Boxes.{settings_in, HasBoxes};
+ghost use Rattle.model_laid.specs.Boxes.{settings_in, HasBoxes};
 
 use atomic_face::{AtomicModel, Stock};
 use cell_grid::Initial;

@@ -1,0 +1,5 @@
+mod Bare
+mod Laid
+mod Sounds
+mod Groups
+mod Boxes
