@@ -1,12 +1,13 @@
 -- The files and values of one group, and of groups one after another.
 use Rattle.std.proofs.Common.{◌≡◌, ℕ, zero, suc, ◌<◌, ◌+◌, Option, Some, None, List, [], ◌∷◌, ◌++◌, map, length, take, drop, get_or, refl, sym, ap, ◌∙◌, subst, arith, IfSome}
 use Rattle.std.specs.Prelude.{codes}
-use Rattle.std.specs.List.{flat_map}
+use Rattle.std.specs.List.{flat_map, AllByRecursion}
 use Rattle.std.specs.Option.{option_and_then, is_some}
 use Rattle.std.proofs.lemmas.List.{map-append, take_more, append-nil, append_assoc}
 use Rattle.quantity.specs.Bytes.{Bytes}
 use Rattle.quantity.specs.declared.value.Value.{Value}
 use Rattle.source_text.specs.Lines.{Files}
+use Rattle.ma_lines.specs.Laws.{IsPlainSection}
 use Rattle.ma_lines.specs.Sections.{Section, section_of}
 use Rattle.cell_grid.specs.Space.{Space, cell_count}
 use Rattle.cell_grid.specs.Initial.{map_file, cells_file, with_map, with_cells}
@@ -16,8 +17,8 @@ use Rattle.model_text.specs.Spaces.{space_of}
 use Rattle.model_text.specs.Trees.{initial_of, no_files}
 use Rattle.model_spaces.specs.Placed.{values_before_files}
 use Rattle.model_files.specs.declared.group_space.GroupSpace.{GroupSpace}
-use Rattle.model_files.specs.Spaces.{sections_in}
-use Rattle.model_files.specs.Laid.{named_files, Adds}
+use Rattle.model_files.specs.Spaces.{shown, said, sections_in}
+use Rattle.model_files.specs.Laid.{named_files, IsRight, Adds}
 use Rattle.model_files.proofs.Readings.{on_both}
 
 -- ---- one group
@@ -71,3 +72,45 @@ pub values_more : (folder : Option Files) (s : Section) (ss : List Section) (old
 values_more folder s ss old new e a =
     on_both folder e a.right (λ files old_is is.
         a.added ∙ ap (λ vs. vs ++ a.values ∷ []) old_is ∙ ap (λ v. map (initial_of files) ss ++ v ∷ []) is ∙ sym (map-append (initial_of files) ss (s ∷ [])))
+
+-- the files of all groups, with those of one of them between
+pub files_split : (gs : List GroupSpace) (i : ℕ) (d : GroupSpace) → i < length gs
+    → flat_map files_of_group (sections_in gs) ≡ (flat_map files_of_group (sections_in (take i gs)) ++ files_of_group (section_of (get_or gs i d).section.now)) ++ flat_map files_of_group (sections_in (drop (i + 1) gs))
+files_split [] i d h = let bad : ⊥ = omega (arith, h) in absurd bad
+files_split (g ∷ gs) zero d h = refl
+files_split (g ∷ gs) (suc i) d h =
+    let F = flat_map files_of_group in
+    let one = files_of_group (section_of g.section.now) in
+    let a = F (sections_in (take i gs)) in
+    let b = files_of_group (section_of (get_or gs i d).section.now) in
+    let c = F (sections_in (drop (i + 1) gs)) in
+    let same : suc i + 1 ≡ suc (i + 1) = omega arith in
+    ap (λ fs. one ++ fs) (files_split gs i d (omega (arith, h)))
+    ∙ sym (append_assoc one (a ++ b) c) ∙ ap (λ fs. fs ++ c) (sym (append_assoc one a b))
+    ∙ ap (λ n. ((one ++ a) ++ b) ++ F (sections_in (drop n (g ∷ gs)))) (sym same)
+
+-- ---- groups with their spaces
+
+abbrev head_or : {A : Type 0} → A → List A → A
+head_or d [] = d
+head_or d (x ∷ xs) = x
+
+abbrev tail_of : {A : Type 0} → List A → List A
+tail_of [] = []
+tail_of (x ∷ xs) = xs
+
+pub sections_are : (gs : List GroupSpace) (ss : List Section) → map shown gs ≡ map said ss → sections_in gs ≡ ss
+sections_are gs ss e = sym (firsts gs) ∙ ap (map (λ (p : Section × Space). p.0)) e ∙ said_firsts ss
+  where
+    firsts : (gs : List GroupSpace) → map (λ (p : Section × Space). p.0) (map shown gs) ≡ sections_in gs
+    firsts [] = refl
+    firsts (g ∷ gs) = ap (λ ss. section_of g.section.now ∷ ss) (firsts gs)
+
+    said_firsts : (ss : List Section) → map (λ (p : Section × Space). p.0) (map said ss) ≡ ss
+    said_firsts [] = refl
+    said_firsts (s ∷ ss) = ap (λ xs. s ∷ xs) (said_firsts ss)
+
+pub groups_are_right : (gs : List GroupSpace) → map shown gs ≡ map said (sections_in gs) → AllByRecursion IsPlainSection (sections_in gs) → AllByRecursion IsRight gs
+groups_are_right [] e plain = tt
+groups_are_right (g ∷ gs) e plain =
+    (record { plain = plain.0; space = ap (λ xs. (head_or (shown g) xs).1) e }, groups_are_right gs (ap tail_of e) plain.1)

@@ -2,6 +2,8 @@ use Rattle.std.proofs.Common.{◌≡◌, ◌++◌, Err, length, sym, ap, ◌∙�
 use Rattle.ma_lines.specs.Sections.{section_of}
 use Rattle.cell_grid.specs.Space.{cell_count}
 use Rattle.model_text.specs.Trees.{no_files}
+use Rattle.model_text.specs.InitialFiles.{files_of_group}
+use Rattle.cell_grid.specs.declared.initial.Initial.{Initial}
 use Rattle.model_files.specs.Reading.{ReadsFiles}
 use Rattle.model_files.proofs.Readings.{reads_on, reads_no_further}
 use Rattle.model_files.proofs.Groups.{map_files, cells_files, files_of, without_files}
@@ -19,8 +21,8 @@ returns-in_err-mapped-clause-read g c =
     let old = g.R.Room.outside c.args.room.now in
     let new = g.R.Room.outside c.lay_map.new.room in
     let is : c.from_residual.result ≡ Err c.in_err-mapped.field-0.0 = search rules in
-    subst (λ r. ReadsFiles _ r old new) (sym is)
-    (subst (λ fs. ReadsFiles fs (Err c.in_err-mapped.field-0.0) old new) (files_of grid s c.requires.group.space)
+    subst (λ r. ReadsFiles (files_of_group s) r old new) (sym is)
+    (subst (λ fs. ReadsFiles {T = Initial} fs (Err c.in_err-mapped.field-0.0) old new) (files_of grid s c.requires.group.space)
     (reads_no_further c.in_err-mapped.field-0.0 (map_files grid s) (cells_files grid s) old new c.in_err-mapped.ensures.read))
 
 pub returns-clause-read : goal.returns-clause-read
