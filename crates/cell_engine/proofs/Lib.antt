@@ -1,11 +1,5 @@
-pub mod Changes
 pub mod Sees
-pub mod Laid
-pub mod Taking
-pub mod Kept
-pub mod Emitting
 pub mod Ready
 pub mod Planned
-pub mod Starting
 pub mod Took
 pub mod Pieces

@@ -1,7 +1,7 @@
 -- A store stays ready where its table keeps its numbers.
 use Rattle.std.proofs.Common.{◌≡◌, ℕ, ◌*◌, ◌≤◌, length, sym, ◌∙◌, subst}
 use Rattle.cell_engine.specs.Layout.{Layout}
-use Rattle.cell_engine.specs.Table.{Table}
+use Rattle.cell_table.specs.Table.{Table}
 use Rattle.cell_engine.specs.Store.{IsReady}
 
 pub ready_after : (l : Layout) (t u : Table) (p r c d : ℕ) → u.width ≡ t.width → u.variables ≡ t.variables → length u.cells ≡ length t.cells → IsReady l t p r c d → IsReady l u p r c d

@@ -8,7 +8,7 @@ use Rattle.cell_grid.proofs.Opposites.{neighbour-inside}
 use Rattle.model_tree.specs.Tree.{Group}
 use Rattle.run_model.specs.CellStep.{CellState}
 use Rattle.run_model.specs.Cycle.{LeafState, cell_state, emitted_values, seen_of, sight_of}
-use Rattle.cell_engine.specs.Cells.{cell_at}
+use Rattle.cell_table.specs.Told.{cell_at}
 use Rattle.cell_engine.specs.Laws.{StandAt, SeesItsGroup}
 
 pub mapped-at : (cells : List CellState) (n : ℕ) → n < length cells → slice_get (map cell_state cells) n ≡ Some (cell_state (cell_at cells n))

@@ -4,7 +4,8 @@ use Rattle.cell_grid.specs.Space.{cell_count}
 use Rattle.model_tree.specs.Tree.{Group}
 use Rattle.run_model.specs.CellStep.{CellState}
 use Rattle.run_model.specs.Cycle.{LeafState, cell_state, sight_of}
-use Rattle.cell_engine.specs.Cells.{cell_at, sight_in}
+use Rattle.cell_table.specs.Told.{cell_at}
+use Rattle.cell_engine.specs.Cells.{sight_in}
 
 -- among these leaves stand these cells, the first at this place
 abbrev pub StandAt : ℕ → List CellState → List LeafState → Type 0

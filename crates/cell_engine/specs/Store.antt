@@ -6,7 +6,7 @@ use Rattle.cell_grid.specs.Space.{cell_count}
 use Rattle.cell_grid.specs.Neighbourhoods.{Neighbourhood}
 use Rattle.model_tree.specs.declared.group.PortRule.{PortRule}
 use Rattle.cell_engine.specs.Layout.{Layout}
-use Rattle.cell_engine.specs.Table.{Table}
+use Rattle.cell_table.specs.Table.{Table}
 
 -- each cell and each port rule has a rule set, and the numbers are those that a group may have
 pub record IsPlan (l : Layout) (n : Neighbourhood) : Type 0 where

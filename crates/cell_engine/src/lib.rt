@@ -1,17 +1,15 @@
 //! The cells of a group, and what one step makes of a cell.
 #![tactic(auto)]
 
-pub mod cell;
 pub mod laws;
 mod make;
 mod plan;
-pub mod state;
 mod steps;
+pub mod stop;
 pub mod store;
-mod table;
 
-pub use cell::{Cell, CellStop};
+pub use cell_table::{Cell, CellState, PortState};
 pub use rule_eval::Given;
-pub use state::{CellState, PortState};
 pub use steps::Steps;
+pub use stop::CellStop;
 pub use store::CellStore;

@@ -9,13 +9,14 @@ ghost use Rattle.model_tree.specs.Sound.{is_sound_group};
 ghost use Rattle.model_tree.specs.Stands.{group_of};
 ghost use Rattle.run_model.specs.CellStep.{initial_cell, cell_next, cell_emitted, cell_output};
 ghost use Rattle.cell_engine.specs.Layout.{StandsFor};
-ghost use Rattle.cell_engine.specs.Cells.{Cells, cell_at, with_cell, Tells, bag_of_given, computed_at, Computes, OnlyCell, CanBePut};
-ghost use Rattle.cell_engine.specs.Saved.{cell_of_saved};
+ghost use Rattle.cell_table.specs.Told.{cell_at, Tells, bag_of_given, OnlyCell};
+ghost use Rattle.cell_table.specs.Saved.{cell_of_saved};
+ghost use Rattle.cell_engine.specs.Cells.{Cells, with_cell, computed_at, Computes, CanBePut};
 
 use crate::plan::Plan;
-use crate::table::CellTable;
 use crate::{Cell, CellState, CellStop, Steps};
 use atomic_face::PortNo;
+use cell_table::CellTable;
 use model_tree::CellGroup;
 use quantity::{Name, OutOfMemory, Time, Value};
 use rule_eval::{Given, Stack};

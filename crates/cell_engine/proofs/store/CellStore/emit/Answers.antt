@@ -1,8 +1,9 @@
 use Rattle.std.proofs.Common.{length, ◌∙◌, ap}
 use Rattle.run_model.specs.CellStep.{cell_emitted}
-use Rattle.cell_engine.specs.Cells.{no_cell, Cells, cell_at, with_cell}
-use Rattle.cell_engine.specs.Table.{Table}
-use Rattle.cell_engine.proofs.Changes.{changed-set, length-changed}
+use Rattle.cell_table.specs.Told.{no_cell, cell_at}
+use Rattle.cell_engine.specs.Cells.{Cells, with_cell}
+use Rattle.cell_table.specs.Table.{Table}
+use Rattle.cell_table.proofs.Changes.{changed-set, length-changed}
 use Rattle.cell_engine.proofs.Ready.{ready_after}
 use Rattle.cell_engine.proofs.store.CellStore.emit.Goals as goal
 

@@ -1,0 +1,9 @@
+use Rattle.std.proofs.Common.{◌∙◌, ◌*◌, arith, ap, take, drop}
+use Rattle.cell_table.proofs.Kept.{variable_row, variables_all}
+use Rattle.cell_table.proofs.table.CellTable.variables_at.Goals as goal
+
+pub piece-requires : goal.piece-requires
+piece-requires c = omega (arith, variable_row c.self.inside c.args.self.now c.self.view_is c.self.invariant c.args.i c.requires.cell, c.self.invariant.variables, c.deref.ensures.len, c.self.inside.variables.ok.0)
+
+pub returns-clause-values : goal.returns-clause-values
+returns-clause-values c = c.piece.ensures.values ∙ ap (λ xs. take c.self.inside.count (drop (c.args.i * c.self.inside.count) xs)) c.deref.ensures.value ∙ variables_all c.self.inside c.args.self.now c.self.view_is c.self.invariant c.args.i c.requires.cell

@@ -1,0 +1,11 @@
+-- The state that a value of the program stands for.
+use Rattle.std.specs.Prelude.{map}
+use Rattle.cell_table.specs.declared.state.PortState as saved
+use Rattle.cell_table.specs.declared.state.CellState as saved_cell
+use Rattle.run_model.specs.CellStep.{PortState, CellState}
+
+abbrev pub port_of_saved : saved.PortState → PortState
+port_of_saved p = record { emitted = p.emitted; computed = p.computed; pairs = p.pairs.items }
+
+abbrev pub cell_of_saved : saved_cell.CellState → CellState
+cell_of_saved c = record { ports = map port_of_saved c.ports.items; variables = c.variables.items }

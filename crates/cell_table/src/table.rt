@@ -1,0 +1,479 @@
+// All ports and variables of all cells, in flat lists.
+ghost use Rattle.std.specs.Prelude.{◌≡◌, [], ◌∷◌, ◌++◌, ◌+◌, ◌*◌, ◌<◌, ◌≤◌, take, drop, length, slice_index_or, None, OnOk, OnErr, IfOk, map, replicate};
+ghost use Rattle.std.specs.List.{flat_map};
+ghost use Rattle.quantity.specs.Arithmetic.{same_value};
+ghost use Rattle.quantity.specs.declared.value.Value.{Value as AnyValue};
+ghost use Rattle.rule_tree.specs.Ports.{taken_at, taken_by_port};
+ghost use Rattle.quantity.specs.Delay.{delayed};
+ghost use Rattle.run_model.specs.CellStep.{first_time, least, port_emitted, port_took, cell_next, cell_output, cell_emitted};
+ghost use Rattle.cell_table.specs.Told.{Tells, bag_of_given, cell_at, emitted_of, computed_of, OnlyCell};
+ghost use Rattle.delay_lines.specs.Lists.{list_of, ChangesList};
+ghost use Rattle.cell_table.specs.Table.{starting, waits_at_0, pair_at, IsTable, HasShape, with_variables, changed_cell, changed_port, changed_ports, port_at, given_by_port};
+
+use crate::Cell;
+use delay_lines::Delays;
+use quantity::{DelayKind, OutOfMemory, Time, Value};
+use rule_eval::Given;
+use std::alloc::{AllocError, Global};
+use std::marker::Model;
+
+/// The cells of a group in flat lists. It is seen as their states, and the numbers of their ports and variables.
+#[derive(Drop)]
+pub struct CellTable {
+    // How many ports a cell has, `out` included, and how many variables.
+    width: usize,
+    count: usize,
+    cells: u32,
+    // Port p of cell i stands at i * width + p, in these two lists and among the delay lists.
+    emitted: Vec<Value>,
+    computed: Vec<Value>,
+    delays: Delays,
+    // Variable k of cell i stands at i * count + k.
+    variables: Vec<Value>,
+}
+
+impl Model for CellTable {
+    ghost use Rattle.cell_table.specs.Table.{Table, IsLaid, cells_in, port_in, variable_in};
+
+    ghost Value = { Table };
+
+    ghost view = { λ t. record {
+      width = t.width;
+      variables = t.count;
+      cells = cells_in (port_in t.emitted.items t.computed.items t.delays.lists) (variable_in t.variables.items) t.width t.count t.cells;
+    } };
+
+    ghost invariant = { λ t. IsLaid t.cells t.width t.count t.emitted.items t.computed.items t.delays.lists t.variables.items };
+}
+
+impl CellTable {
+    /// Cells that each wait at 0 for their initial value, and at each further port for the value of that port.
+    pub fn new(
+        alloc: Global,
+        outs: &[Value],
+        further: &[Value],
+        variables: &[Value],
+    ) -> Result<CellTable, OutOfMemory>
+        requires cells { length outs.now ≤ 1048576 }
+        requires ports { length further.now ≤ 3 }
+        requires variables { length variables.now ≤ 8 }
+        ensures { IfOk result (λ t. t ≡ starting outs.now further.now variables.now) }
+    {
+        let computed = port_values(alloc, outs, further)?;
+        let emitted = undefined(alloc, computed.len())?;
+        let delays = waiting(alloc, &computed)?;
+        Ok(CellTable {
+            width: further.len() + 1,
+            count: variables.len(),
+            cells: outs.len() as u32,
+            emitted,
+            computed,
+            delays,
+            variables: repeated(alloc, outs, variables)?,
+        })
+    }
+
+    /// How many cells there are.
+    pub fn cells(&self) -> u32
+        ensures value { result ≡ length self.now.cells }
+        ensures table { IsTable self.now }
+    {
+        self.cells
+    }
+
+    /// How many ports a cell has.
+    pub fn width(&self) -> usize
+        ensures value { result ≡ self.now.width }
+        ensures table { IsTable self.now }
+    {
+        self.width
+    }
+
+    /// What a port has emitted, and `?` where the cell has no such port.
+    pub fn emitted(&self, i: u32, p: usize) -> Value
+        requires cell { i < length self.now.cells }
+        ensures { result ≡ slice_index_or (emitted_of (cell_at self.now.cells i)) p AnyValue.Undefined }
+    {
+        if p < self.width {
+            value_at(&self.emitted, i as usize * self.width + p)
+        } else {
+            Value::Undefined
+        }
+    }
+
+    /// What a port has computed, and `?` where the cell has no such port.
+    pub fn computed(&self, i: u32, p: usize) -> Value
+        requires cell { i < length self.now.cells }
+        ensures { result ≡ slice_index_or (computed_of (cell_at self.now.cells i)) p AnyValue.Undefined }
+    {
+        if p < self.width {
+            value_at(&self.computed, i as usize * self.width + p)
+        } else {
+            Value::Undefined
+        }
+    }
+
+    /// The time of the first pair of a port, if there are any.
+    pub fn next(&self, i: u32, p: usize) -> Option<Time>
+        requires cell { i < length self.now.cells }
+        ensures { result ≡ first_time (port_at self.now i p).pairs }
+    {
+        if p < self.width {
+            let port = i * self.width as u32 + p as u32;
+            next_in(&self.delays, port)
+        } else {
+            None
+        }
+    }
+
+    /// What all ports of a cell have emitted, `out` first.
+    pub fn emitted_at(&self, i: u32) -> &[Value]
+        requires cell { i < length self.now.cells }
+        ensures values { result.now ≡ emitted_of (cell_at self.now.cells i) }
+        ensures width { length result.now ≡ self.now.width }
+    {
+        piece(&self.emitted, i as usize * self.width, self.width)
+    }
+
+    /// The variables of a cell.
+    pub fn variables_at(&self, i: u32) -> &[Value]
+        requires cell { i < length self.now.cells }
+        ensures values { result.now ≡ (cell_at self.now.cells i).variables }
+        ensures count { length result.now ≡ self.now.variables }
+    {
+        piece(&self.variables, i as usize * self.count, self.count)
+    }
+
+    /// A port that is due at this time emits the value of its first pair, which leaves the list.
+    pub fn emit_port(&mut self, i: u32, p: usize, t: Time) -> Option<Value>
+        requires cell { i < length self.old.cells }
+        ensures given { result ≡ given_by_port t (port_at self.old i p) }
+        ensures port { self.new ≡ changed_cell i (changed_port p (port_emitted t)) self.old }
+    {
+        if p < self.width {
+            let port = i * self.width as u32 + p as u32;
+            match first_at(&self.delays, port, t) {
+                Some(pair) => {
+                    self.delays.take_first(port);
+                    self.emitted[port as usize] = pair.1;
+                    Some(pair.1)
+                }
+                None => None,
+            }
+        } else {
+            None
+        }
+    }
+
+    /// A cell gives, at each port that is due at this time, the value of its first pair, which leaves the list.
+    pub fn emit(&mut self, i: u32, t: Time) -> Given
+        requires cell { i < length self.old.cells }
+        ensures given { bag_of_given result ≡ cell_output t (cell_at self.old.cells i) }
+        ensures cell { self.new ≡ changed_cell i (cell_emitted t) self.old }
+    {
+        let _width = self.width();
+        let a = self.emit_port(i, 0, t);
+        let b = self.emit_port(i, 1, t);
+        let c = self.emit_port(i, 2, t);
+        let d = self.emit_port(i, 3, t);
+        Given {
+            values: [a, b, c, d],
+        }
+    }
+
+    /// The least time for which a value waits at a port.
+    pub fn next_of(&self, i: u32) -> Option<Time>
+        requires cell { i < length self.now.cells }
+        ensures { result ≡ cell_next (cell_at self.now.cells i) }
+    {
+        let _width = self.width();
+        let a = self.next(i, 0);
+        let b = self.next(i, 1);
+        let c = self.next(i, 2);
+        let d = self.next(i, 3);
+        let last = least(c, d);
+        let rest = least(b, last);
+        least(a, rest)
+    }
+
+    /// What a cell tells.
+    pub fn tell(&self, i: u32) -> Cell
+        requires cell { i < length self.now.cells }
+        ensures { Tells result (cell_at self.now.cells i) }
+    {
+        let next = self.next_of(i);
+        Cell {
+            emitted: [
+                self.emitted(i, 0),
+                self.emitted(i, 1),
+                self.emitted(i, 2),
+                self.emitted(i, 3),
+            ],
+            computed: [
+                self.computed(i, 0),
+                self.computed(i, 1),
+                self.computed(i, 2),
+                self.computed(i, 3),
+            ],
+            next,
+        }
+    }
+
+    /// A port takes a value that waits for this time, unless it is the one that it computed last.
+    fn take_port(
+        &mut self,
+        i: u32,
+        p: usize,
+        kind: DelayKind,
+        at: Time,
+        value: Value,
+    ) -> Result<(), OutOfMemory>
+        requires cell { i < length self.old.cells }
+        requires port { p < self.old.width }
+        ensures ok { OnOk result (self.new ≡ changed_cell i (changed_port p (port_took kind at value)) self.old) }
+        ensures err { OnErr result (self.new ≡ self.old) }
+    {
+        let port = i * self.width as u32 + p as u32;
+        if is_same(&value, &value_at(&self.computed, port as usize)) {
+            return Ok(());
+        }
+        put(&mut self.delays, kind, port, at, &value)?;
+        self.computed[port as usize] = value;
+        Ok(())
+    }
+
+    /// The same where a value is given and the cell has such a port.
+    #[tactic(auto, using(crate::proofs::Taking::taken_past))]
+    fn take_given(
+        &mut self,
+        i: u32,
+        p: usize,
+        kind: DelayKind,
+        at: Time,
+        given: Option<Value>,
+    ) -> Result<(), OutOfMemory>
+        requires cell { i < length self.old.cells }
+        ensures ok { OnOk result (self.new ≡ changed_cell i (changed_port p (taken_at (port_took kind at) given)) self.old) }
+        ensures only { OnlyCell i self.old.cells self.new.cells }
+        ensures shape { HasShape self.old self.new }
+    {
+        match given {
+            None => Ok(()),
+            Some(value) if p < self.width() => self.take_port(i, p, kind, at, value),
+            Some(_) => Ok(()),
+        }
+    }
+
+    /// Each port of a cell takes what is given to it. Without memory some ports may have taken theirs.
+    pub fn take(
+        &mut self,
+        i: u32,
+        kind: DelayKind,
+        at: Time,
+        given: &Given,
+    ) -> Result<(), OutOfMemory>
+        requires cell { i < length self.old.cells }
+        ensures ok { OnOk result (self.new ≡ changed_cell i (changed_ports (taken_by_port (port_took kind at) given.now.values)) self.old) }
+        ensures only { OnlyCell i self.old.cells self.new.cells }
+        ensures shape { HasShape self.old self.new }
+    {
+        let _width = self.width();
+        self.take_given(i, 0, kind, at, given_at(given, 0))?;
+        self.take_given(i, 1, kind, at, given_at(given, 1))?;
+        self.take_given(i, 2, kind, at, given_at(given, 2))?;
+        self.take_given(i, 3, kind, at, given_at(given, 3))?;
+        Ok(())
+    }
+
+    /// The variables of a cell have these values.
+    pub fn set_variables(&mut self, i: u32, values: &[Value])
+        requires cell { i < length self.old.cells }
+        requires count { length values.now ≡ self.old.variables }
+        ensures { self.new ≡ changed_cell i (with_variables values.now) self.old }
+    {
+        let first = i as usize * self.count;
+        write(&mut self.variables, first, values);
+    }
+}
+
+/// The values of all ports of all cells at the start.
+#[tactic(auto, using(crate::proofs::Starting::flat_more))]
+fn port_values(alloc: Global, outs: &[Value], further: &[Value]) -> Result<Vec<Value>, OutOfMemory>
+    ensures { IfOk result (λ values. values.items ≡ flat_map (λ v. v ∷ further.now) outs.now) }
+{
+    let mut values = Vec::new(alloc);
+    for value in outs {
+        add_ports(&mut values, value, further)?;
+    }
+    Ok(values)
+}
+
+fn add_ports(values: &mut Vec<Value>, value: &Value, further: &[Value]) -> Result<(), OutOfMemory>
+    ensures { OnOk result (values.new.items ≡ values.old.items ++ value.now ∷ further.now) }
+{
+    values.push(*value).map_err(AllocError::from)?;
+    values.extend_from_slice(further)?;
+    Ok(())
+}
+
+/// The values of all variables of all cells at the start.
+#[tactic(auto, using(crate::proofs::Starting::flat_more))]
+fn repeated(alloc: Global, outs: &[Value], variables: &[Value]) -> Result<Vec<Value>, OutOfMemory>
+    ensures { IfOk result (λ values. values.items ≡ flat_map (λ _. variables.now) outs.now) }
+{
+    let mut values = Vec::new(alloc);
+    for value in outs {
+        let _out = value;
+        values.extend_from_slice(variables)?;
+    }
+    Ok(values)
+}
+
+/// So many times `?`.
+fn undefined(alloc: Global, n: usize) -> Result<Vec<Value>, OutOfMemory>
+    ensures { IfOk result (λ values. values.items ≡ replicate n AnyValue.Undefined) }
+{
+    Ok(vec![in alloc; Value::Undefined; n]?)
+}
+
+/// A list for each value, which waits there for 0.
+fn waiting(alloc: Global, values: &[Value]) -> Result<Delays, OutOfMemory>
+    requires { length values.now ≤ 4194304 }
+    ensures { IfOk result (λ delays. delays.lists ≡ map waits_at_0 values.now) }
+{
+    let mut delays = Delays::new(alloc, values.len() as u32)?;
+    delays.reserve(values.len())?;
+    for (port, value) in values.iter().enumerate() {
+        delays.transport(port as u32, start(), *value)?;
+    }
+    Ok(delays)
+}
+
+/// The time 0.
+fn start() -> Time
+    ensures { result ≡ 0 }
+{
+    match Time::new(0) {
+        Some(time) => time,
+        None => unreachable!(),
+    }
+}
+
+/// A value waits in a list for a time, in the way of this kind.
+fn put(
+    delays: &mut Delays,
+    kind: DelayKind,
+    port: u32,
+    at: Time,
+    value: &Value,
+) -> Result<(), OutOfMemory>
+    requires { port < length delays.old.lists }
+    ensures ok { OnOk result (ChangesList delays.old delays.new port (delayed kind (list_of delays.old port) at value.now)) }
+    ensures err { OnErr result (delays.new.lists ≡ delays.old.lists) }
+{
+    match kind {
+        DelayKind::Transport => delays.transport(port, at, *value),
+        DelayKind::Inertial => put_alone(delays, port, at, *value),
+    }
+}
+
+/// A value waits alone in a list. It takes memory only where the list was empty and nothing is spare.
+fn put_alone(delays: &mut Delays, port: u32, at: Time, value: Value) -> Result<(), OutOfMemory>
+    requires { port < length delays.old.lists }
+    ensures ok { OnOk result (ChangesList delays.old delays.new port ((at, value) ∷ [])) }
+    ensures err { OnErr result (delays.new.lists ≡ delays.old.lists) }
+{
+    match delays.first(port) {
+        None => delays.transport(port, at, value),
+        Some(_) => {
+            delays.inertial(port, at, value);
+            Ok(())
+        }
+    }
+}
+
+/// The lesser of two times that are there.
+fn least(a: Option<Time>, b: Option<Time>) -> Option<Time>
+    ensures { result ≡ least a b }
+{
+    let Some(x) = a else {
+        return b;
+    };
+    let Some(y) = b else {
+        return a;
+    };
+    if x.ms() <= y.ms() { Some(x) } else { Some(y) }
+}
+
+/// What is given at a port, if anything is.
+fn given_at(given: &Given, port: usize) -> Option<Value>
+    ensures { result ≡ slice_index_or given.now.values port None }
+{
+    match given.values.get(port) {
+        Some(value) => *value,
+        None => None,
+    }
+}
+
+/// The value that stands at this place, or `?`.
+fn value_at(values: &[Value], k: usize) -> Value
+    ensures { result ≡ slice_index_or values.now k AnyValue.Undefined }
+{
+    match values.get(k) {
+        Some(value) => *value,
+        None => Value::Undefined,
+    }
+}
+
+/// Writes values from a place on.
+fn write(values: &mut [Value], first: usize, new: &[Value])
+    requires { first + length new.now ≤ length values.old }
+    ensures { values.new ≡ take first values.old ++ new.now ++ drop (first + length new.now) values.old }
+{
+    let part = &mut values[first..first + new.len()];
+    part.copy_from_slice(new);
+}
+
+/// So many values from a place on.
+fn piece(values: &[Value], first: usize, width: usize) -> &[Value]
+    requires { first + width ≤ length values.now }
+    ensures values { result.now ≡ take width (drop first values.now) }
+    ensures length { length result.now ≡ width }
+{
+    &values[first..first + width]
+}
+
+/// Whether the values are the same, where `?` equals `?`.
+fn is_same(a: &Value, b: &Value) -> bool
+    ensures { result ≡ same_value a.now b.now }
+{
+    let Value::Num(x) = a else {
+        return matches!(b, Value::Undefined);
+    };
+    let Value::Num(y) = b else {
+        return false;
+    };
+    x.get() == y.get()
+}
+
+/// The time of the first pair of a list.
+fn next_in(delays: &Delays, port: u32) -> Option<Time>
+    requires { port < length delays.now.lists }
+    ensures { result ≡ first_time (list_of delays.now port) }
+{
+    let pair = delays.first(port)?;
+    Some(pair.0)
+}
+
+/// The first pair of a list, where its time is this one.
+fn first_at(delays: &Delays, port: u32, t: Time) -> Option<(Time, Value)>
+    requires { port < length delays.now.lists }
+    ensures { result ≡ pair_at t (list_of delays.now port) }
+{
+    let pair = delays.first(port)?;
+    if pair.0.ms() == t.ms() {
+        Some(pair)
+    } else {
+        None
+    }
+}
