@@ -124,8 +124,20 @@ variables_changed F V W w count n i new long here other =
     let same = same-range W V (j * count) count (λ m l h. other j m ne l h) in
     λ k. record { ports = map F (range_with_len (j * w) w); variables = same k })
 
+-- the ports of one cell are replaced
+pub ports_replaced : (F G : ℕ → PortState) (V : ℕ → Value) (w count n i : ℕ) (new : List PortState) → length new ≡ w → ((k : ℕ) → k < length new → G (i * w + k) ≡ get_or new k no_port)
+    → ((j m : ℕ) → j ≢ i → j * w ≤ m → m < j * w + w → G m ≡ F m)
+    → cells_in G V w count n ≡ changed_at i (λ c. record c { ports = new }) (cells_in F V w count n)
+ports_replaced F G V w count n i new long here other =
+    let ports : map G (range_with_len (i * w) w) ≡ new = ap (λ m. map G (range_with_len (i * w) m)) (sym long) ∙ range_list no_port G new (i * w) here in
+    changed-range (cell_in F V w count) (cell_in G V w count) (λ c. record c { ports = new }) 0 n i i (sym (zero-add i))
+    (λ k. record { ports = ports k; variables = map V (range_with_len (i * count) count) })
+    (λ j low high ne.
+    let same = same-range G F (j * w) w (λ m l h. other j m ne l h) in
+    λ k. record { ports = same k; variables = map V (range_with_len (j * count) count) })
+
 -- what is read where a piece was written
-pub piece_read : (d : Value) (xs new : List Value) (first k : ℕ) → first ≤ length xs → k < length new → get_or (take first xs ++ new ++ drop (first + length new) xs) (first + k) d ≡ get_or new k d
+pub piece_read : {A : Type 0} (d : A) (xs new : List A) (first k : ℕ) → first ≤ length xs → k < length new → get_or (take first xs ++ new ++ drop (first + length new) xs) (first + k) d ≡ get_or new k d
 piece_read d xs new first k h lt =
     let long : length (take first xs) ≡ first = length-take-le first xs h in
     let whole : length (take first xs ++ new) ≡ first + length new = omega (arith, length-append (take first xs) new, long) in
@@ -135,13 +147,13 @@ piece_read d xs new first k h lt =
     minus : (a b : ℕ) → a + b - a ≡ b
     minus a b = omega arith
 
-pub piece_before : (d : Value) (xs new : List Value) (first m : ℕ) → first ≤ length xs → m < first → get_or (take first xs ++ new ++ drop (first + length new) xs) m d ≡ get_or xs m d
+pub piece_before : {A : Type 0} (d : A) (xs new : List A) (first m : ℕ) → first ≤ length xs → m < first → get_or (take first xs ++ new ++ drop (first + length new) xs) m d ≡ get_or xs m d
 piece_before d xs new first m h lt =
     let long : length (take first xs) ≡ first = length-take-le first xs h in
     get_or_append_left (take first xs ++ new) (drop (first + length new) xs) d m (omega (arith, length-append (take first xs) new, long, lt))
     ∙ get_or_append_left (take first xs) new d m (omega (arith, long, lt)) ∙ get_or-take first xs m d lt
 
-pub piece_behind : (d : Value) (xs new : List Value) (first m : ℕ) → first ≤ length xs → first + length new ≤ m → get_or (take first xs ++ new ++ drop (first + length new) xs) m d ≡ get_or xs m d
+pub piece_behind : {A : Type 0} (d : A) (xs new : List A) (first m : ℕ) → first ≤ length xs → first + length new ≤ m → get_or (take first xs ++ new ++ drop (first + length new) xs) m d ≡ get_or xs m d
 piece_behind d xs new first m h le =
     let long : length (take first xs) ≡ first = length-take-le first xs h in
     let whole : length (take first xs ++ new) ≡ first + length new = omega (arith, length-append (take first xs) new, long) in

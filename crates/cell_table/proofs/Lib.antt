@@ -4,3 +4,6 @@ pub mod Taking
 pub mod Kept
 pub mod Emitting
 pub mod Starting
+pub mod Pieced
+pub mod Waits
+pub mod Written

@@ -1,5 +1,5 @@
 -- The state that a value of the program stands for.
-use Rattle.std.specs.Prelude.{map}
+use Rattle.std.specs.Prelude.{ℕ, map, length}
 use Rattle.cell_table.specs.declared.state.PortState as saved
 use Rattle.cell_table.specs.declared.state.CellState as saved_cell
 use Rattle.run_model.specs.CellStep.{PortState, CellState}
@@ -9,3 +9,7 @@ port_of_saved p = record { emitted = p.emitted; computed = p.computed; pairs = p
 
 abbrev pub cell_of_saved : saved_cell.CellState → CellState
 cell_of_saved c = record { ports = map port_of_saved c.ports.items; variables = c.variables.items }
+
+-- how many pairs wait at a port
+abbrev pub pair_number : saved.PortState → ℕ
+pair_number p = length p.pairs.items

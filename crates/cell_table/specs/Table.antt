@@ -1,5 +1,5 @@
 -- How cells lie in flat lists, one for all ports of all cells and one for all variables.
-use Rattle.std.specs.Prelude.{◌≡◌, ℕ, ◌+◌, ◌*◌, ◌≤◌, ◌==◌, Option, Some, None, List, [], ◌∷◌, map, length, slice_index_or, if◌then◌else◌}
+use Rattle.std.specs.Prelude.{◌≡◌, ℕ, ◌+◌, ◌*◌, ◌≤◌, ◌==◌, Option, Some, None, List, [], ◌∷◌, ◌++◌, map, length, take, drop, slice_index_or, if◌then◌else◌}
 use Rattle.std.specs.List.{All, range_with_len}
 use Rattle.quantity.specs.declared.value.Value.{Value}
 use Rattle.quantity.specs.declared.value.Value.TheVariants.{Undefined}
@@ -54,6 +54,10 @@ pub record IsLaid (n w k : ℕ) (es cs : List Value) (ls : List (List (ℕ × Va
   pub cells : n ≤ 1048576
 
 -- ---- changes
+
+-- the list with these in the place of as many, from a place on
+abbrev pub with_piece : {A : Type 0} → ℕ → List A → List A → List A
+with_piece first new xs = take first xs ++ new ++ drop (first + length new) xs
 
 -- one cell is changed
 abbrev pub changed_cell : ℕ → (CellState → CellState) → Table → Table

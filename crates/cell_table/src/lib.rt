@@ -2,6 +2,7 @@
 #![tactic(auto)]
 
 pub mod cell;
+mod save;
 pub mod state;
 pub mod table;
 

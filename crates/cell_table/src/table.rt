@@ -21,15 +21,15 @@ use std::marker::Model;
 #[derive(Drop)]
 pub struct CellTable {
     // How many ports a cell has, `out` included, and how many variables.
-    width: usize,
-    count: usize,
+    pub(crate) width: usize,
+    pub(crate) count: usize,
     cells: u32,
     // Port p of cell i stands at i * width + p, in these two lists and among the delay lists.
-    emitted: Vec<Value>,
-    computed: Vec<Value>,
-    delays: Delays,
+    pub(crate) emitted: Vec<Value>,
+    pub(crate) computed: Vec<Value>,
+    pub(crate) delays: Delays,
     // Variable k of cell i stands at i * count + k.
-    variables: Vec<Value>,
+    pub(crate) variables: Vec<Value>,
 }
 
 impl Model for CellTable {
@@ -416,7 +416,7 @@ fn given_at(given: &Given, port: usize) -> Option<Value>
 }
 
 /// The value that stands at this place, or `?`.
-fn value_at(values: &[Value], k: usize) -> Value
+pub(crate) fn value_at(values: &[Value], k: usize) -> Value
     ensures { result ≡ slice_index_or values.now k AnyValue.Undefined }
 {
     match values.get(k) {
@@ -426,7 +426,7 @@ fn value_at(values: &[Value], k: usize) -> Value
 }
 
 /// Writes values from a place on.
-fn write(values: &mut [Value], first: usize, new: &[Value])
+pub(crate) fn write(values: &mut [Value], first: usize, new: &[Value])
     requires { first + length new.now ≤ length values.old }
     ensures { values.new ≡ take first values.old ++ new.now ++ drop (first + length new.now) values.old }
 {
