@@ -1,16 +1,18 @@
-// What a store keeps of a group, made from the group.
-ghost use Rattle.std.specs.Prelude.{◌≡◌, ◌<◌, [], ◌∷◌, ◌++◌, IfOk, OnOk, IsTrue, map, slice_get};
-ghost use Rattle.std.specs.List.{range_with_len};
+// What a store keeps of a group, and its cells at the start, made from the group.
+ghost use Rattle.std.specs.Prelude.{◌≡◌, ◌<◌, ◌≤◌, [], ◌∷◌, ◌++◌, IfOk, OnOk, IsTrue, map, slice_get};
+ghost use Rattle.std.specs.List.{All, range_with_len};
 ghost use Rattle.std.specs.Option.{unwrap_or};
 ghost use Rattle.rule_tree.specs.Expression.{rule_of};
-ghost use Rattle.rule_eval.specs.RuleCodes.{codes_of};
+ghost use Rattle.rule_eval.specs.RuleCodes.{codes_of, rule_depth};
 ghost use Rattle.cell_grid.specs.Space.{cell_count};
 ghost use Rattle.model_tree.specs.Sound.{is_sound_group};
 ghost use Rattle.model_tree.specs.Stands.{group_of};
+ghost use Rattle.cell_table.specs.Table.{starting};
 ghost use Rattle.cell_engine.specs.Layout.{StandsFor, set_of};
 
 use crate::plan::Plan;
 use cell_grid::Reach;
+use cell_table::CellTable;
 use model_tree::{CellGroup, PortRule};
 use quantity::OutOfMemory;
 use rule_eval::RuleCode;
@@ -37,6 +39,38 @@ pub(crate) fn plan_of(alloc: Global, group: &CellGroup) -> Result<Plan, OutOfMem
         ports: group.port_values.len(),
         variables: group.variable_values.len(),
     })
+}
+
+/// The cells of a sound group at the start.
+pub(crate) fn table_of(alloc: Global, group: &CellGroup) -> Result<CellTable, OutOfMemory>
+    requires { IsTrue (is_sound_group (group_of group.now)) }
+    ensures { IfOk result (λ t. t ≡ starting group.now.initial group.now.port_values.items group.now.variable_values.items) }
+{
+    let _most = group.grid.cells();
+    let initial = group.initial.values();
+    CellTable::new(alloc, initial, &group.port_values, &group.variable_values)
+}
+
+/// The most answers that any rule of these sets needs at once.
+pub(crate) fn deepest_of_sets(sets: &[Vec<RuleCode>]) -> usize
+    ensures { All (λ rules. All (λ rule. rule_depth rule ≤ result) rules) (map (λ rules. rules.items) sets.now) }
+{
+    let mut most = 0;
+    for rules in sets {
+        most = most.max(deepest(rules));
+    }
+    most
+}
+
+/// The most answers that any of these rules needs at once.
+fn deepest(rules: &[RuleCode]) -> usize
+    ensures { All (λ rule. rule_depth rule ≤ result) rules.now }
+{
+    let mut most = 0;
+    for rule in rules {
+        most = most.max(rule.depth());
+    }
+    most
 }
 
 /// The codes of all rule sets.

@@ -13,6 +13,7 @@ ghost use Rattle.cell_table.specs.Told.{cell_at, Tells, bag_of_given, OnlyCell};
 ghost use Rattle.cell_table.specs.Saved.{cell_of_saved};
 ghost use Rattle.cell_engine.specs.Cells.{Cells, with_cell, computed_at, Computes, CanBePut};
 
+use crate::make::{deepest_of_sets, plan_of, table_of};
 use crate::plan::Plan;
 use crate::{Cell, CellState, CellStop, Steps};
 use atomic_face::PortNo;
@@ -51,13 +52,22 @@ impl Model for CellStore {
 
 impl CellStore {
     /// The cells of a group before the first cycle. Each waits for its initial values at 0.
-    // Not built yet: every call answers want of memory.
     pub fn new(alloc: Global, group: &CellGroup) -> Result<CellStore, OutOfMemory>
         requires { IsTrue (is_sound_group (group_of group.now)) }
         ensures layout { IfOk result (λ s. StandsFor (group_of group.now) s.layout) }
         ensures cells { IfOk result (λ s. s.cells ≡ map (initial_cell (group_of group.now)) group.now.initial) }
     {
-        Err(OutOfMemory)
+        let plan = plan_of(alloc, group)?;
+        let table = table_of(alloc, group)?;
+        let places = group.offsets.len();
+        Ok(CellStore {
+            neighbours: vec![in alloc; None; places]?,
+            seen: Vec::with_capacity(alloc, places * table.width())?,
+            changed: vec![in alloc; Value::Undefined; plan.variables]?,
+            stack: Stack::for_depth(alloc, deepest_of_sets(&plan.codes))?,
+            plan,
+            table,
+        })
     }
 
     /// How many cells there are.
@@ -132,7 +142,6 @@ impl CellStore {
     }
 
     /// The state of a cell.
-    // Not built yet: every call answers want of memory.
     pub fn state<L: Ledger>(
         &self,
         alloc: Global,
@@ -144,17 +153,16 @@ impl CellStore {
         ensures steps { steps.new ≡ steps.old + 1 }
     {
         steps.tick();
-        Err(OutOfMemory)
+        self.table.state(alloc, i)
     }
 
     /// The cell has this state, and every other cell stays. Without memory nothing changes. It counts no visit.
-    // Not built yet: every call answers want of memory.
     pub fn put(&mut self, i: u32, state: &CellState) -> Result<(), OutOfMemory>
         requires within { i < length self.old.cells }
         requires state { CanBePut self.old.layout (cell_of_saved state.now) }
         ensures ok { OnOk result (self.new ≡ with_cell self.old i (cell_of_saved state.now)) }
         ensures err { OnErr result (self.new ≡ self.old) }
     {
-        Err(OutOfMemory)
+        self.table.put(i, state)
     }
 }
