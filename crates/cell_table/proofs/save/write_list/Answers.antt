@@ -1,5 +1,4 @@
-use Rattle.std.proofs.Common.{◌+◌, ◌<◌, ◌∙◌, length, ap, arith}
-use Rattle.std.proofs.lemmas.List.{length-set}
+use Rattle.std.proofs.Common.{arith}
 use Rattle.cell_table.proofs.Waits.{list_more}
 use Rattle.cell_table.proofs.save.write_list.Goals as goal
 

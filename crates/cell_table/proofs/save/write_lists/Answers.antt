@@ -1,4 +1,4 @@
-use Rattle.std.proofs.Common.{◌+◌, ◌∙◌, ◌≤◌, [], length, refl, sym, ap, subst, arith, set}
+use Rattle.std.proofs.Common.{◌+◌, ◌∙◌, [], length, refl, sym, ap, subst, arith, set}
 use Rattle.std.proofs.lemmas.List.{length-set}
 use Rattle.std.proofs.lemmas.List.Sums.{sum_by_more, sum_by_more_le}
 use Rattle.cell_table.specs.declared.state.PortState.{PortState}

@@ -1,4 +1,4 @@
-use Rattle.std.proofs.Common.{◌≡◌, ◌∙◌, ◌+◌, ◌*◌, ◌<◌, ◌++◌, [], ℕ, get_or, sym, ap, arith}
+use Rattle.std.proofs.Common.{◌∙◌, ◌+◌, ◌*◌, ◌<◌, ◌++◌, ℕ, get_or, sym, ap, arith}
 use Rattle.quantity.specs.declared.value.Value.TheVariants.{Undefined}
 use Rattle.delay_lines.specs.Lists.{list_of}
 use Rattle.cell_table.proofs.Kept.{row, few, width_seen, port_seen}
