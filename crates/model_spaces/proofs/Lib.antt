@@ -4,3 +4,7 @@ pub mod Places
 pub mod Gathered
 pub mod Laid
 pub mod Whole
+pub mod Ported
+pub mod Passed
+pub mod Counted
+pub mod Seen

@@ -1,0 +1,17 @@
+use Rattle.std.proofs.Common.{◌+◌, ap, ◌∙◌, Bor, arith}
+use Rattle.ma_lines.specs.declared.section.Section as code
+use Rattle.ma_lines.specs.Sections.{section_of}
+use Rattle.cell_grid.specs.Space.{cell_count}
+use Rattle.model_text.specs.Spaces.{space_of}
+use Rattle.model_spaces.proofs.Counted.{small_step, large_here}
+use Rattle.model_spaces.proofs.cells.first_large.Goals as goal
+
+pub loop-section-preserved : goal.loop-section-preserved
+loop-section-preserved c = record {
+  few = omega arith;
+  rest = small_step c.args.groups.now c.loop-section.section-index _ c.loop-section.total c.cells-total.result _ c.loop-section-test.true c.cells-total.ensures.value (omega arith) c.loop-section.invariant.rest;
+}
+
+pub returns-then-total-gt-MOST_CELLS : goal.returns-then-total-gt-MOST_CELLS
+returns-then-total-gt-MOST_CELLS c =
+    large_here c.args.groups.now c.loop-section.section-index _ c.loop-section.total c.cells-total.result _ c.loop-section-test.true c.cells-total.ensures.value (omega arith) c.loop-section.invariant.rest

@@ -1,0 +1,12 @@
+use Rattle.std.proofs.Common.{◌≡◌, ◌++◌, drop, map}
+use Rattle.std.specs.List.{filter_map}
+use Rattle.ma_lines.specs.Sections.{section_of}
+use Rattle.model_spaces.specs.Placed.{place_shown, rule_shown}
+use Rattle.model_spaces.specs.Ported.{place_in, item_in, port_entries}
+use Rattle.model_spaces.proofs.ports.port_rules.Given as goal
+
+abbrev pub invariant-loop-entry : goal.invariant-loop-entry
+invariant-loop-entry l = record {
+  places : map place_shown l.rules.items ++ filter_map (place_in (section_of l.section)) (port_entries (drop l.entry-index l.entry-items)) ≡ filter_map (place_in (section_of l.section)) (port_entries l.entry-items);
+  rules : map rule_shown l.rules.items ++ filter_map (item_in (section_of l.section)) (port_entries (drop l.entry-index l.entry-items)) ≡ filter_map (item_in (section_of l.section)) (port_entries l.entry-items);
+}

@@ -1,0 +1,86 @@
+// What the section of a group says, read.
+ghost use Rattle.std.specs.Prelude.{◌≡◌, None, map, IfOk};
+ghost use Rattle.std.specs.List.{AllByRecursion};
+ghost use Rattle.ma_lines.specs.Sections.{section_of};
+ghost use Rattle.rule_syntax.specs.Shown as syntax;
+ghost use Rattle.model_text.specs.Keyed as K;
+ghost use Rattle.model_text.specs.Rules as R;
+ghost use Rattle.model_text.specs.Spaces as S;
+ghost use Rattle.model_spaces.specs.Placed.{shown, placed_of};
+ghost use Rattle.model_spaces.specs.Right.{IsRight};
+
+use crate::keyed::{names, values};
+use crate::offsets::offsets;
+use crate::placed::PlacedGroup;
+use crate::ports::port_rules;
+use crate::sizes::{default_delay, delay, space};
+use crate::zones::{NamedZones, zones};
+use cell_grid::Grid;
+use ma_lines::Section;
+use quantity::OutOfMemory;
+use rule_syntax::Names;
+use std::alloc::{AllocError, Global};
+
+/// What the sections of these groups say.
+pub(crate) fn all_placed<'a>(
+    alloc: Global,
+    groups: &[&'a Section],
+) -> Result<Vec<PlacedGroup<'a>>, OutOfMemory>
+    requires { AllByRecursion IsRight (map (λ r. section_of r.now) groups.now) }
+    ensures { IfOk result (λ all. map shown all.items ≡ map placed_of (map (λ r. section_of r.now) groups.now)) }
+{
+    let mut all = Vec::new(alloc);
+    for section in groups {
+        all.push(placed(alloc, section)?)
+            .map_err(AllocError::from)?;
+    }
+    Ok(all)
+}
+
+fn placed<'a>(alloc: Global, section: &'a Section) -> Result<PlacedGroup<'a>, OutOfMemory>
+    requires { IsRight (section_of section.now) }
+    ensures { IfOk result (λ group. shown group ≡ placed_of (section_of section.now)) }
+{
+    let grid = space(section);
+    let group_names = group_names(alloc, section, &grid)?;
+    let NamedZones {
+        zones,
+        rules: zone_rules,
+    } = zones(alloc, section, &grid)?;
+    let port_rules = port_rules(alloc, section, &grid)?;
+    let ins = names(alloc, section, b"in")?;
+    let outs = names(alloc, section, b"out")?;
+    let variable_values = values(alloc, section, b"statevalues", &group_names.variables)?;
+    let port_values = values(alloc, section, b"portvalues", &group_names.ports)?;
+    Ok(PlacedGroup {
+        section,
+        grid,
+        kind: delay(section),
+        default_delay: default_delay(section),
+        names: group_names,
+        zones,
+        zone_rules,
+        port_rules,
+        ins,
+        outs,
+        variable_values,
+        port_values,
+    })
+}
+
+/// The names that the rules of a group may use.
+fn group_names(alloc: Global, section: &Section, grid: &Grid) -> Result<Names, OutOfMemory>
+    requires space { grid.now ≡ S.space_of (section_of section.now) }
+    requires passes { K.least (S.of_space (section_of section.now)) ≡ None }
+    ensures { IfOk result (λ names. syntax.names_of names ≡ R.names_of (section_of section.now)) }
+{
+    let offsets = offsets(alloc, section, grid)?;
+    let variables = names(alloc, section, b"statevariables")?;
+    let ports = names(alloc, section, b"neighborports")?;
+    Ok(Names {
+        offsets,
+        dims: grid.dims(),
+        variables,
+        ports,
+    })
+}
