@@ -8,3 +8,4 @@ pub mod Ported
 pub mod Passed
 pub mod Counted
 pub mod Seen
+pub mod Read

@@ -1,15 +1,21 @@
 -- Groups of whose spaces nothing is refused.
-use Rattle.std.proofs.Common.{◌≡◌, ℕ, ◌≤◌, Bool, true, false, cond, Option, Some, None, List, [], ◌∷◌, ◌++◌, length, take, nat_lt, refl, sym, ap, ◌∙◌, codes, arith}
+use Rattle.std.proofs.Common.{◌≡◌, ℕ, ◌≤◌, Bool, true, false, cond, Option, Some, None, List, [], ◌∷◌, ◌++◌, length, take, nat_lt, refl, sym, ap, subst, ◌∙◌, codes, arith}
 use Rattle.std.proofs.lemmas.List.{take_all}
 use Rattle.std.specs.List.{filter, flat_map, list_all, AllByRecursion}
 use Rattle.std.specs.Option.{is_some}
 use Rattle.std.proofs.lemmas.Bool.Decides.{nat_tests}
 use Rattle.cell_grid.specs.ZoneTexts.{zone_in}
 use Rattle.cell_grid.specs.Places.{is_offset}
+use Rattle.cell_grid.specs.Space.{dims_of}
+use Rattle.quantity.specs.Bytes.{Bytes}
+use Rattle.quantity.specs.declared.place.Offset.{Offset}
+use Rattle.rule_tree.specs.Scope.{Names}
+use Rattle.model_text.specs.Rules.{names_of}
+use Rattle.model_text.specs.Walk.{groups}
 use Rattle.ma_lines.specs.Sections.{Section}
 use Rattle.model_text.specs.declared.kind.Kind.TheVariants.{BadValue, BadZone, BadInitial, TooLarge}
 use Rattle.model_text.specs.Refusals.{Refusal, refusal}
-use Rattle.model_text.specs.Keyed.{least, entries_of, at_entry, each_entry}
+use Rattle.model_text.specs.Keyed.{least, entries_of, texts_of, at_entry, each_entry}
 use Rattle.model_text.specs.GroupLaws.{RightSizes}
 use Rattle.model_text.specs.Spaces.{space_of, places_of, offsets_of, ports_refused, row_in, too_many_offsets, of_space}
 use Rattle.model_spaces.specs.Right.{CanBeHeld, IsRight}
@@ -68,3 +74,10 @@ right-each (g ∷ gs) a b h =
 
 pub all_right : (gs : List Section) → AllByRecursion CanBeHeld gs → AllByRecursion RightSizes gs → least (flat_map of_space gs) ≡ None → AllByRecursion IsRight gs
 all_right gs a b h = right-each gs a b (none_least (flat_map of_space gs) h)
+
+pub names_by : (s : Section) (o : List Offset) (d : ℕ) (v p : List Bytes) → o ≡ offsets_of s → d ≡ dims_of (space_of s) → v ≡ texts_of (codes "statevariables") s → p ≡ texts_of (codes "neighborports") s
+    → (let n : Names = record { offsets = o; dims = d; variables = v; ports = p } in n) ≡ names_of s
+names_by s o d v p eo ed ev ep = λ i. record { offsets = eo i; dims = ed i; variables = ev i; ports = ep i }
+
+pub groups_right : (ss gs : List Section) (first : Option Refusal) → gs ≡ groups ss → AllByRecursion CanBeHeld (groups ss) → AllByRecursion RightSizes (groups ss) → first ≡ None → first ≡ least (flat_map of_space gs) → AllByRecursion IsRight gs
+groups_right ss gs first e a b n h = all_right gs (subst (AllByRecursion CanBeHeld) (sym e) a) (subst (AllByRecursion RightSizes) (sym e) b) (sym h ∙ n)

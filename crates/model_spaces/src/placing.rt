@@ -31,8 +31,7 @@ pub(crate) fn all_placed<'a>(
 {
     let mut all = Vec::new(alloc);
     for section in groups {
-        all.push(placed(alloc, section)?)
-            .map_err(AllocError::from)?;
+        all.push(placed(alloc, section)?).map_err(AllocError::from)?;
     }
     Ok(all)
 }
