@@ -2,6 +2,7 @@ pub mod Untimed
 pub mod Gathering
 pub mod Marking
 pub mod Watching
+pub mod Keeping
 pub mod Routed
 pub mod Leading
 pub mod Moving

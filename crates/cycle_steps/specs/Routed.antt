@@ -1,6 +1,6 @@
 -- Paths by their numbers: which of them bring something, and what they bring to leaves and to outputs of top.
-use Rattle.std.specs.Prelude.{ℕ, ◌==◌, Bool, false, ◌||◌, List, [], map, length, slice_index_or}
-use Rattle.std.specs.List.{list_any, filter, flat_map, range_with_len}
+use Rattle.std.specs.Prelude.{ℕ, ◌==◌, Bool, ◌||◌, List, [], map}
+use Rattle.std.specs.List.{list_any, filter, flat_map}
 use Rattle.quantity.specs.declared.value.Value.{Value}
 use Rattle.run_model.specs.Run.{PortRecord, OutRecord}
 use Rattle.route_flat.specs.declared.source.Path.{Path}
@@ -8,32 +8,8 @@ use Rattle.port_net.specs.declared.source.Source.{Source}
 use Rattle.port_net.specs.declared.source.Source.TheVariants.{Leaf, TopIn}
 use Rattle.route_flat.specs.declared.source.TargetPort.{TargetPort}
 use Rattle.route_flat.specs.declared.source.TargetPort.TheVariants as target
+pub use Rattle.route_flat.specs.Ways.{is_from, nowhere, path_at, numbers}
 use Rattle.sparse_cycle.specs.Feed.{values_of_leaf}
-
--- ---- paths
-
--- both are the same source
-abbrev pub same_source : Source → Source → Bool
-same_source (Leaf k) (Leaf l) = k == l
-same_source (Leaf k) (TopIn l) = false
-same_source (TopIn k) (Leaf l) = false
-same_source (TopIn k) (TopIn l) = k == l
-
--- the path begins at this source
-abbrev pub is_from : Source → Path → Bool
-is_from s p = same_source s p.from
-
--- what stands where there is no path
-abbrev pub nowhere : Path
-nowhere = record { from = Leaf 0; to = target.TopOut 0 }
-
--- the path of a number
-abbrev pub path_at : List Path → ℕ → Path
-path_at ps k = slice_index_or ps k nowhere
-
--- the numbers of the paths for which a test holds, rising
-abbrev pub numbers : (Path → Bool) → List Path → List ℕ
-numbers test ps = filter (λ k. test (path_at ps k)) (range_with_len 0 (length ps))
 
 -- ---- what they bring
 

@@ -34,6 +34,7 @@ pub fn collect<C, G: Leaves<C>>(
         y.new.items n.new.items givers.new.items (G.states leaves.new)) }
     ensures stands { (tree : AnyTree) → G.stands_for leaves.old tree
         → OnOk result (G.stands_for leaves.new tree) }
+    ensures kept { G.kept leaves.new ≡ G.kept leaves.old }
     ensures ports { OnOk result (G.ports leaves.new ≡ G.ports leaves.old) }
     ensures most { OnOk result (G.most leaves.new ≡ G.most leaves.old) }
     ensures visits { G.visits counter.new

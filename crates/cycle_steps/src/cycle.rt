@@ -63,6 +63,11 @@ pub fn cycle_at<C, L: Leaves<C>, W: Watched, R: Routing, S: LeafSet, Q: TimeQueu
         (L.states leaves.new) (Q.waiting queue.new) records.new result }
     ensures stands { (tree : AnyTree) → L.stands_for leaves.old tree
         → OnOk result (L.stands_for leaves.new tree) }
+    ensures kept { L.kept leaves.new ≡ L.kept leaves.old }
+    ensures few { (tree : AnyTree) (s : RunState) → IsRunOf tree t s (L.states leaves.old) inputs.now
+        (R.paths routes.now) (W.watches watched.now)
+        → length moving.new.items ≤ length (parts_of tree t s).touched }
+    ensures moving_room { vec_capacity moving.new ≡ vec_capacity moving.old }
     ensures long { OnOk result (length (S.members woken.new) ≡ W.count watched.now) }
     ensures at_rest { OnOk result (S.members touched.new ≡ replicate (W.count watched.now) false) }
     ensures visits { L.visits counter.new ≤ L.visits counter.old

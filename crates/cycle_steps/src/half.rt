@@ -1,5 +1,5 @@
 // The first half of a cycle: who gives, who is woken, what is fed, and who is touched.
-ghost use Rattle.std.specs.Prelude.{◌≡◌, ◌<◌, ◌≤◌, ◌+◌, [], ℕ, Bool, false, List, OnOk, length, map, replicate, slice_get};
+ghost use Rattle.std.specs.Prelude.{◌≡◌, ◌<◌, ◌≤◌, ◌+◌, [], ℕ, Bool, false, List, OnOk, OnErr, length, map, replicate, slice_get};
 ghost use Rattle.std.specs.List.{All};
 ghost use Rattle.std.specs.List.Sorted.{IsNonDecreasingBy};
 ghost use Rattle.std.specs.Vec.{vec_capacity};
@@ -73,12 +73,14 @@ pub fn first_half<C, G: Leaves<C>, W: Watched, R: Routing, S: LeafSet>(
     ensures capacity { vec_capacity moving.new ≡ vec_capacity moving.old }
     ensures count { OnOk result (length (G.states givers.new) ≡ length (G.states givers.old)) }
     ensures within { OnOk result (All (λ l. l < W.count watched.now) moving.new.items) }
+    ensures none { OnErr result (moving.new.items ≡ []) }
     ensures x_rise { OnOk result
         (IsNonDecreasingBy (λ (r : AnyXRecord). r.leaf) records.new.x.items) }
     ensures x_ports { OnOk result
         (All (λ (r : AnyXRecord). r.port.0 < G.ports givers.old r.leaf) records.new.x.items) }
     ensures stands { (tree : Tree) → G.stands_for givers.old tree
         → OnOk result (G.stands_for givers.new tree) }
+    ensures kept { G.kept givers.new ≡ G.kept givers.old }
     ensures ports { OnOk result (G.ports givers.new ≡ G.ports givers.old) }
     ensures most { OnOk result (G.most givers.new ≡ G.most givers.old) }
     ensures visits { G.visits counter.new
@@ -147,6 +149,7 @@ fn give_and_wake<C, G: Leaves<C>, W: Watched, S: LeafSet>(
     ensures touched_long { OnOk result (length (S.members touched.new) ≡ W.count watched.now) }
     ensures stands { (tree : Tree) → G.stands_for givers.old tree
         → OnOk result (G.stands_for givers.new tree) }
+    ensures kept { G.kept givers.new ≡ G.kept givers.old }
     ensures ports { OnOk result (G.ports givers.new ≡ G.ports givers.old) }
     ensures most { OnOk result (G.most givers.new ≡ G.most givers.old) }
     ensures visits { G.visits counter.new

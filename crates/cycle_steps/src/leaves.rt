@@ -12,6 +12,7 @@ pub trait Leaves<C> {
     ghost use Rattle.model_tree.specs.Tree.{Tree, leaves};
     ghost use Rattle.run_model.specs.Cycle.{LeafState, leaf_next, leaf_emitted, collected_of};
     ghost use Rattle.sparse_cycle.specs.Sparse.{leaf_of, move_to};
+    ghost use Rattle.cycle_steps.specs.Keeping.{Kept};
     ghost use Rattle.cycle_steps.specs.Moving.{Moves};
 
     /// How all leaves stand.
@@ -19,6 +20,9 @@ pub trait Leaves<C> {
 
     /// Whether they are the leaves of a model.
     ghost stands_for: { Self → Tree → Type 0 };
+
+    /// What no call changes, also where memory ends or a leaf stops.
+    ghost kept: { Self → Kept };
 
     /// How many input ports a leaf has.
     ghost ports: { Self → ℕ → ℕ };
@@ -46,6 +50,7 @@ pub trait Leaves<C> {
             ≡ slice_set (states self.old) leaf (leaf_emitted t (leaf_of (states self.old) leaf))) }
         ensures stands { (tree : Tree) → stands_for self.old tree
             → OnOk result (stands_for self.new tree) }
+        ensures kept { kept self.new ≡ kept self.old }
         ensures ports { OnOk result (ports self.new ≡ ports self.old) }
         ensures most { OnOk result (most self.new ≡ most self.old) }
         ensures visits { visits counter.new
@@ -71,6 +76,7 @@ pub trait Leaves<C> {
             result }
         ensures stands { (tree : Tree) → stands_for self.old tree
             → OnOk result (stands_for self.new tree) }
+        ensures kept { kept self.new ≡ kept self.old }
         ensures long { OnOk result (length (states self.new) ≡ length (states self.old)) }
         ensures ports { OnOk result (ports self.new ≡ ports self.old) }
         ensures most { OnOk result (most self.new ≡ most self.old) }

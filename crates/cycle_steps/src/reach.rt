@@ -1,5 +1,5 @@
 // Which paths bring something.
-ghost use Rattle.std.specs.Prelude.{◌≡◌, ◌<◌, ◌||◌, [], ℕ, Bool, List, OnOk, length};
+ghost use Rattle.std.specs.Prelude.{◌≡◌, ◌<◌, ◌||◌, ◌++◌, [], ℕ, Bool, List, OnOk, length, map};
 ghost use Rattle.std.specs.List.{list_any};
 ghost use Rattle.quantity.specs.declared.value.Value.{Value as AnyValue};
 ghost use Rattle.run_model.specs.Run.{PortRecord};
@@ -11,13 +11,13 @@ ghost use Rattle.cycle_steps.specs.Leading.{leads_from_leaf, leads_from_top};
 
 use quantity::{OutOfMemory, Value};
 use record_text::YRecord;
-use route_flat::Path;
+use route_flat::{Path, Routes, Source, Target};
 
 /// Numbered paths, which are found by their sources.
 pub trait Routing {
-    ghost use Rattle.std.specs.Prelude.{List};
+    ghost use Rattle.std.specs.Prelude.{List, map};
     ghost use Rattle.route_flat.specs.declared.source.Path.{Path as AnyPath};
-    ghost use Rattle.port_net.specs.declared.source.Source.TheVariants.{Leaf, TopIn};
+    ghost use Rattle.route_flat.specs.declared.source.Target.{Target as AnyTarget};
     ghost use Rattle.cycle_steps.specs.Routed.{is_from, numbers, path_at};
 
     /// The paths by their numbers.
@@ -28,13 +28,9 @@ pub trait Routing {
         requires { number < length (paths self.now) }
         ensures { result ≡ path_at (paths self.now) number };
 
-    /// The numbers of the paths that begin at a leaf, rising.
-    fn from_leaf(&self, leaf: u32) -> &[u32]
-        ensures { result.now ≡ numbers (is_from (Leaf leaf)) (paths self.now) };
-
-    /// The numbers of the paths that begin at an input of top, rising.
-    fn from_top(&self, input: u16) -> &[u32]
-        ensures { result.now ≡ numbers (is_from (TopIn input)) (paths self.now) };
+    /// The targets of the paths that begin at a source, by their rising numbers.
+    fn targets(&self, from: Source) -> &[Target]
+        ensures { map (λ (t : AnyTarget). t.path) result.now ≡ numbers (is_from from) (paths self.now) };
 }
 
 /// Puts the rising numbers of the paths at whose source a Y record or an input stands into an empty
@@ -67,7 +63,7 @@ fn reach_from_leaves<R: Routing>(
         || list_any (leads_from_leaf (R.paths routes.now) k) (y_records y.now))) }
 {
     for r in y {
-        into.extend_from_slice(routes.from_leaf(r.leaf))?;
+        append_numbers(routes.targets(Source::Leaf(r.leaf)), into)?;
     }
     Ok(())
 }
@@ -83,7 +79,33 @@ fn reach_from_tops<R: Routing>(
         || list_any (leads_from_top (R.paths routes.now) k) inputs.now)) }
 {
     for e in inputs {
-        into.extend_from_slice(routes.from_top(e.0))?;
+        append_numbers(routes.targets(Source::TopIn(e.0)), into)?;
     }
     Ok(())
+}
+
+/// Appends the numbers of the paths to these targets.
+fn append_numbers(targets: &[Target], into: &mut Vec<u32>) -> Result<(), OutOfMemory>
+    ensures { OnOk result (into.new.items ≡ into.old.items ++ map (λ t. t.path) targets.now) }
+{
+    for target in targets {
+        let Ok(()) = into.push(target.path) else {
+            return Err(OutOfMemory);
+        };
+    }
+    Ok(())
+}
+
+impl Routing for Routes {
+    ghost use Rattle.route_flat.specs.Ways.{paths_of};
+
+    ghost paths = { λ r. paths_of r };
+
+    fn path(&self, number: u32) -> Path {
+        Routes::path(self, number)
+    }
+
+    fn targets(&self, from: Source) -> &[Target] {
+        Routes::targets(self, from)
+    }
 }

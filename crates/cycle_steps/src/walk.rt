@@ -51,6 +51,7 @@ pub fn walk<C, Q: TimeQueue, S: LeafSet, M: Leaves<C>>(
         (M.states movers.new) (Q.waiting queue.new) s.new.items result }
     ensures stands { (tree : AnyTree) → M.stands_for movers.old tree
         → OnOk result (M.stands_for movers.new tree) }
+    ensures kept { M.kept movers.new ≡ M.kept movers.old }
     ensures visits { M.visits counter.new ≤ M.visits counter.old + sum_by (M.most movers.old) touched.now }
 {
     for leaf in touched {
@@ -86,6 +87,7 @@ fn step<C, Q: TimeQueue, S: LeafSet, M: Leaves<C>>(
         s.old.items s.new.items leaf (move_at tree t (M.states movers.old) given (x_records x.now) leaf) result }
     ensures stands { (tree : AnyTree) → M.stands_for movers.old tree
         → OnOk result (M.stands_for movers.new tree) }
+    ensures kept { M.kept movers.new ≡ M.kept movers.old }
     ensures long { OnOk result (length (M.states movers.new) ≡ length (M.states movers.old)) }
     ensures waiting { OnOk result (length (Q.waiting queue.new) ≡ length (Q.waiting queue.old)) }
     ensures ports { OnOk result (M.ports movers.new ≡ M.ports movers.old) }

@@ -26,6 +26,7 @@ loop-leaf-preserved g c =
           c.loop-leaf-test.true c.in_ok-emit.ensures.leaves (c.deref.ensures.value ∙ c.in_ok-emit.ensures.given) (c.deref-in-loop-leaf.ensures.value ∙ c.in_ok-emit.ensures.given) c.loop-leaf.invariant.gathers
           c.in_ok-append_given.ensures.y c.in_ok-append_given.ensures.n c.in_ok-append_giver.ensures;
       stands = λ tree st. c.in_ok-emit.ensures.stands tree (c.loop-leaf.invariant.stands tree st);
+      kept = c.emit.ensures.kept ∙ c.loop-leaf.invariant.kept;
       ports = c.in_ok-emit.ensures.ports ∙ c.loop-leaf.invariant.ports;
       most = c.in_ok-emit.ensures.most ∙ c.loop-leaf.invariant.most;
       visits = visits-more c.args.t c.loop-leaf.leaf-index c.args.due.now now next (g.G.Leaves.visits c.loop-leaf.counter) (g.G.Leaves.visits c.emit.new.counter) _ c.loop-leaf-test.true c.in_ok-emit.ensures.leaves c.loop-leaf.invariant.visits c.emit.ensures.visits;

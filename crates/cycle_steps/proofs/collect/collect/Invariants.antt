@@ -10,6 +10,7 @@ invariant-loop-leaf g l = record {
   can : CanCollect l.t (drop l.leaf-index l.due) (g.G.Leaves.states l.leaves);
   gathers : Gathers l.t (collect_each l.t l.due (g.G.Leaves.states l.fn.leaves)) (collect_each l.t (drop l.leaf-index l.due) (g.G.Leaves.states l.leaves)) l.y.items l.n.items l.givers.items;
   stands : (tree : Tree) → g.G.Leaves.stands_for l.fn.leaves tree → g.G.Leaves.stands_for l.leaves tree;
+  kept : g.G.Leaves.kept l.leaves ≡ g.G.Leaves.kept l.fn.leaves;
   ports : g.G.Leaves.ports l.leaves ≡ g.G.Leaves.ports l.fn.leaves;
   most : g.G.Leaves.most l.leaves ≡ g.G.Leaves.most l.fn.leaves;
   visits : g.G.Leaves.visits l.counter + values_in (collect_each l.t (drop l.leaf-index l.due) (g.G.Leaves.states l.leaves)) ≤ g.G.Leaves.visits l.fn.counter + values_in (collect_each l.t l.due (g.G.Leaves.states l.fn.leaves));

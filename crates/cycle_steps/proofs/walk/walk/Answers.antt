@@ -18,6 +18,7 @@ loop-leaf-preserved g c =
     record {
       long = c.in-Ok.ensures.long ∙ inv.long;
       waiting = c.in-Ok.ensures.waiting ∙ inv.waiting;
+      kept = c.step.ensures.kept ∙ inv.kept;
       ports = c.in-Ok.ensures.ports ∙ inv.ports;
       most = c.in-Ok.ensures.most ∙ inv.most;
       stands = λ tree st. c.in-Ok.ensures.stands tree (inv.stands tree st);

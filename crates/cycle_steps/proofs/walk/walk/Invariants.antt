@@ -13,6 +13,7 @@ abbrev pub invariant-loop-leaf : goal.invariant-loop-leaf
 invariant-loop-leaf g l = record {
   long : length (g.M.Leaves.states l.movers) ≡ length (g.M.Leaves.states l.fn.movers);
   waiting : length (g.Q.TimeQueue.waiting l.queue) ≡ length (g.M.Leaves.states l.fn.movers);
+  kept : g.M.Leaves.kept l.movers ≡ g.M.Leaves.kept l.fn.movers;
   ports : g.M.Leaves.ports l.movers ≡ g.M.Leaves.ports l.fn.movers;
   most : g.M.Leaves.most l.movers ≡ g.M.Leaves.most l.fn.movers;
   stands : (tree : Tree) → g.M.Leaves.stands_for l.fn.movers tree → g.M.Leaves.stands_for l.movers tree;

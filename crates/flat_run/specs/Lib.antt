@@ -1,0 +1,5 @@
+pub mod Standing
+pub mod Steps
+pub mod Changes
+pub mod Holds
+pub mod Running

@@ -1,0 +1,24 @@
+-- Where a run stands: its model, the state of the reference run, and why it has stopped.
+use Rattle.std.specs.Prelude.{ℕ, Option, List, ℤ}
+use Rattle.model_tree.specs.declared.table.Model.{Model}
+use Rattle.model_tree.specs.Tree.{Tree}
+use Rattle.run_model.specs.Run.{RunState, Next, next_cycle}
+use Rattle.run_leaves.specs.Seated.{tree_at}
+use Rattle.flat_run.specs.declared.progress.Stop.{Stop}
+
+-- the settings of each box by its number, the state of the run, its end and its limit
+pub record Standing : Type 0 where
+  pub model : Model
+  pub settings : List (List ℤ)
+  pub state : RunState
+  pub end : ℕ
+  pub limit : ℕ
+  pub stopped : Option Stop
+
+-- the plain tree of the model
+abbrev pub tree_in : Standing → Tree
+tree_in s = tree_at s.model s.settings
+
+-- the next cycle of the reference run, or its verdict
+abbrev pub next_of : Standing → Next
+next_of s = next_cycle (tree_in s) s.end s.limit s.state

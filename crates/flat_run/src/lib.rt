@@ -1,0 +1,9 @@
+//! The run of a model, cycle by cycle: the next cycle is made of the leaves that are due, woken or fed.
+#![tactic(auto)]
+
+pub mod progress;
+pub mod run;
+
+pub use cell_engine::Steps;
+pub use progress::{Progress, Stop};
+pub use run::FlatRun;

@@ -1,0 +1,24 @@
+// What a call of a run answers.
+use quantity::{Time, Value};
+
+/// What a call of `cycle` did: a cycle at this instant, or nothing, as the run is done.
+#[derive(Clone, Copy, PartialEq, Eq, Debug)]
+pub enum Progress {
+    Cycled(Time),
+    Done,
+}
+
+/// Why a run stopped. A leaf is named by its number.
+#[derive(Clone, Copy, PartialEq, Eq, Debug)]
+pub enum Stop {
+    /// No rule of a cell is true.
+    NoTrueRule(u32, Time),
+    /// A value of a leaf is too large.
+    Overflow(u32, Time),
+    /// A delay of a cell is none.
+    BadDelay(u32, Time, Value),
+    /// As many cycles as the limit were run at one instant.
+    TooManyCycles(Time),
+    /// There is no memory.
+    Memory,
+}

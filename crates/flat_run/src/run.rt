@@ -1,0 +1,232 @@
+// A run, cycle by cycle.
+ghost use Rattle.std.specs.Prelude.{◌≡◌, ℕ, ◌+◌, ◌<◌, ◌≤◌, None, [], length, OnOk, OnErr, IfOk, IsTrue, nat_lt};
+ghost use Rattle.std.specs.List.{filter};
+ghost use Rattle.atomic_face.specs.Held.{Held};
+ghost use Rattle.atomic_face.specs.Moves.{RestoreGives};
+ghost use Rattle.event_list.specs.Events.{Event as AnyEvent};
+ghost use Rattle.run_model.specs.CellStep.{least};
+ghost use Rattle.run_model.specs.Run.{start, next_instant};
+ghost use Rattle.run_model.specs.Cycle.{cell_state, leaf_next, box_state};
+ghost use Rattle.record_text.specs.Held.{AreEmpty};
+ghost use Rattle.sparse_cycle.specs.Sparse.{leaf_of};
+ghost use Rattle.cell_engine.specs.Saved.{cell_of_saved};
+ghost use Rattle.run_leaves.specs.Seated.{is_box, settings_in};
+ghost use Rattle.flat_run.specs.Standing.{tree_in, next_of};
+ghost use Rattle.flat_run.specs.Steps.{Goes, visits_of};
+ghost use Rattle.flat_run.specs.Changes.{StartsFrom, CanPut, with_leaf_state, with_events, is_cell, words_of};
+
+use crate::{Progress, Stop};
+use atomic_face::{AtomicModel, RestoreRefusal, Stock};
+use cell_engine::{CellState, Steps};
+use cycle_steps::room::Room;
+use event_list::Events;
+use leaf_set::FlagSet;
+use model_tree::Model as Tree;
+use quantity::{OutOfMemory, Time, Value};
+use record_text::Records;
+use route_flat::Routes;
+use run_leaves::{FlatLeaves, Watchers};
+use std::alloc::Global;
+use std::marker::Model;
+use std::sync::ledger::Ledger;
+use time_queue::TimeQueue;
+
+/// A run of a model. It is seen as the model, the state of the reference run, the end, the limit, and why it stopped.
+#[derive(Drop)]
+pub struct FlatRun<Q: TimeQueue, M: AtomicModel> {
+    leaves: FlatLeaves<M>,
+    watchers: Watchers,
+    routes: Routes,
+    events: Events,
+    queue: Q,
+    end: Time,
+    limit: u32,
+    last: Option<Time>,
+    count: u32,
+    stopped: Option<Stop>,
+    // Room that each cycle uses again.
+    woken: FlagSet,
+    touched: FlagSet,
+    due: Vec<u32>,
+    moving: Vec<u32>,
+    inputs: Vec<(u16, Value)>,
+    room: Room,
+}
+
+impl<Q: TimeQueue, M: AtomicModel> Model for FlatRun<Q, M> {
+    ghost use Rattle.std.specs.Prelude.{vec_capacity};
+    ghost use Rattle.model_tree.specs.contracts.component.Component as component;
+    ghost use Rattle.std.specs.Coded.{codes};
+    ghost use Rattle.flat_run.specs.Standing.{Standing};
+    ghost use Rattle.flat_run.specs.Holds.{HoldsRun};
+
+    ghost Value = { Standing };
+
+    ghost coded = { Prim.hlevel (codes, component.the_row.coded) };
+
+    ghost view = { λ r. record {
+      model = r.leaves.model;
+      settings = r.leaves.settings;
+      state = record { leaf_states = r.leaves.states; events = r.events; last = r.last; count = r.count };
+      end = r.end;
+      limit = r.limit;
+      stopped = r.stopped;
+    } };
+
+    ghost invariant = { λ r. HoldsRun r.leaves r.routes r.watchers r.events (Q.waiting r.queue) r.woken r.touched (vec_capacity r.due) (vec_capacity r.moving) r.end r.limit r.count r.stopped };
+}
+
+impl<Q: TimeQueue, M: AtomicModel> FlatRun<Q, M> {
+    /// A run of a model before its first cycle, up to `end` and with at most `limit` cycles at one instant.
+    // Not built yet: it answers want of memory.
+    pub fn new(
+        alloc: Global,
+        model: Tree,
+        routes: Routes,
+        stock: Stock<M>,
+        events: Events,
+        queue: Q,
+        end: Time,
+        limit: u32,
+    ) -> Result<FlatRun<Q, M>, OutOfMemory>
+        requires starts { StartsFrom model stock routes events (Q.waiting queue) }
+        requires end { end ≤ 359999999 }
+        requires limit { 1 ≤ limit }
+        ensures model { IfOk result (λ r. r.model ≡ model) }
+        ensures settings { IfOk result (λ r. r.settings ≡ settings_in stock) }
+        ensures state { IfOk result (λ r. r.state ≡ start (tree_in r) events) }
+        ensures end { IfOk result (λ r. r.end ≡ end) }
+        ensures limit { IfOk result (λ r. r.limit ≡ limit) }
+        ensures goes { IfOk result (λ r. r.stopped ≡ None) }
+    {
+        let _ = (alloc, model, routes, stock, events, queue, end, limit);
+        Err(OutOfMemory)
+    }
+
+    /// Runs the next cycle, whose records are then those in `records`, or says how the run ended; then there are none. After
+    /// a stop the same stop is answered for ever, and after Done, Done.
+    // Not built yet: it stops for want of memory.
+    pub fn cycle<L: Ledger>(
+        &mut self,
+        records: &mut Records,
+        steps: &mut Steps<L>,
+    ) -> Result<Progress, Stop>
+        ensures goes { Goes self.old.stopped self.old result self.new records.new }
+        ensures visits { steps.new ≤ steps.old + visits_of self.old (next_of self.old) }
+    {
+        clear(records);
+        if let Some(stop) = self.stopped {
+            return Err(stop);
+        }
+        self.stopped = Some(Stop::Memory);
+        Err(Stop::Memory)
+    }
+
+    /// The instant of the next cycle, None where nothing waits.
+    pub fn next_time(&self) -> Option<Time>
+        requires { self.now.stopped ≡ None }
+        ensures { result ≡ next_instant self.now.state }
+    {
+        earlier(self.queue.least(), self.events.next())
+    }
+
+    /// The model.
+    pub fn model(&self) -> &Tree
+        ensures { result.now ≡ self.now.model }
+    {
+        self.leaves.model()
+    }
+
+    /// The state of a cell.
+    // Not built yet: it answers want of memory.
+    pub fn cell_state<L: Ledger>(
+        &self,
+        leaf: u32,
+        steps: &mut Steps<L>,
+    ) -> Result<CellState, OutOfMemory>
+        requires goes { self.now.stopped ≡ None }
+        requires cell { IsTrue (is_cell (leaf_of self.now.state.leaf_states leaf)) }
+        requires within { leaf < length self.now.state.leaf_states }
+        ensures state { IfOk result (λ c. leaf_of self.now.state.leaf_states leaf ≡ cell_state (cell_of_saved c)) }
+        ensures steps { steps.new ≡ steps.old + 1 }
+    {
+        let _ = leaf;
+        steps.tick();
+        Err(OutOfMemory)
+    }
+
+    /// The numbers of the state of a leaf's box.
+    // Not built yet: it answers want of memory.
+    pub fn box_state(&self, leaf: u32) -> Result<Vec<i64>, OutOfMemory>
+        requires goes { self.now.stopped ≡ None }
+        requires leaf { IsTrue (is_box (leaf_of self.now.state.leaf_states leaf)) }
+        ensures state { IfOk result (λ words. words.items ≡ words_of (leaf_of self.now.state.leaf_states leaf)) }
+    {
+        let _ = leaf;
+        Err(OutOfMemory)
+    }
+
+    /// The next time of a leaf's box. It takes no memory.
+    pub fn box_next(&self, leaf: u32) -> Option<Time>
+        requires goes { self.now.stopped ≡ None }
+        requires leaf { IsTrue (is_box (leaf_of self.now.state.leaf_states leaf)) }
+        ensures { result ≡ leaf_next (leaf_of self.now.state.leaf_states leaf) }
+    {
+        self.leaves.box_next(leaf)
+    }
+
+    /// The cell has this state, before the first cycle. Without memory nothing changes.
+    // Not built yet: it answers want of memory.
+    pub fn put_cell(&mut self, leaf: u32, state: &CellState) -> Result<(), OutOfMemory>
+        requires fresh { (self.old.state.last ≡ None) × (self.old.stopped ≡ None) }
+        requires state { CanPut (tree_in self.old) leaf (cell_of_saved state.now) }
+        ensures ok { OnOk result (self.new ≡ with_leaf_state self.old leaf (cell_state (cell_of_saved state.now))) }
+        ensures err { OnErr result (self.new ≡ self.old) }
+    {
+        let _ = (leaf, state);
+        Err(OutOfMemory)
+    }
+
+    /// The leaf's box has the state of these numbers, before the first cycle. BadState exactly where they are none of its
+    /// class with its settings; a refusal changes nothing.
+    // Not built yet: it answers want of memory.
+    pub fn put_box(&mut self, leaf: u32, words: &[i64]) -> Result<(), RestoreRefusal>
+        requires fresh { (self.old.state.last ≡ None) × (self.old.stopped ≡ None) }
+        requires leaf { IsTrue (is_box (leaf_of self.old.state.leaf_states leaf)) }
+        ensures { (b : Held) → leaf_of self.old.state.leaf_states leaf ≡ box_state b
+            → (c : Held) × RestoreGives words.now b c result × (self.new ≡ with_leaf_state self.old leaf (box_state c)) }
+    {
+        let _ = (leaf, words);
+        Err(RestoreRefusal::Memory)
+    }
+
+    /// Drops the events up to this time, before the first cycle. It takes no memory.
+    pub fn skip(&mut self, to: Time)
+        requires fresh { (self.old.state.last ≡ None) × (self.old.stopped ≡ None) }
+        ensures { self.new ≡ with_events self.old (filter (λ (e : AnyEvent). nat_lt to e.time) self.old.state.events) }
+    {
+        self.events.skip(to);
+    }
+}
+
+/// The earlier of two times, and the one that there is.
+fn earlier(a: Option<Time>, b: Option<Time>) -> Option<Time>
+    ensures { result ≡ least a b }
+{
+    match (a, b) {
+        (None, other) => other,
+        (some, None) => some,
+        (Some(s), Some(t)) => Some(if s.ms() < t.ms() { s } else { t }),
+    }
+}
+
+/// No records any more, and the room that they had.
+fn clear(records: &mut Records)
+    ensures { AreEmpty records.new }
+{
+    records.y.clear();
+    records.n.clear();
+    records.x.clear();
+    records.s.clear();
+    records.out.clear();
+}

@@ -1,0 +1,118 @@
+// What one cell gives, and how it moves.
+ghost use Rattle.std.specs.Prelude.{◌≡◌, ℕ, ◌+◌, ◌<◌, ◌≤◌, ◌++◌, Some, [], ◌∷◌, length, OnOk, IsTrue, slice_index};
+ghost use Rattle.std.specs.List.{All};
+ghost use Rattle.quantity.specs.declared.value.Value.{Value as AnyValue};
+ghost use Rattle.atomic_face.specs.declared.class.PortNo.{PortNo as AnyPort};
+ghost use Rattle.model_tree.specs.Tree.{Group};
+ghost use Rattle.model_tree.specs.Pull.{cell_ports};
+ghost use Rattle.model_tree.specs.Sound.{is_sound_group};
+ghost use Rattle.run_model.specs.CellStep.{cell_next, cell_emitted, cell_output};
+ghost use Rattle.cell_engine.specs.Layout.{StandsFor};
+ghost use Rattle.cell_engine.specs.Cells.{cell_at, with_cell, bag_of_given, if_given, computed_at, OnlyCell};
+ghost use Rattle.run_leaves.specs.Seated.{HasPort};
+ghost use Rattle.run_leaves.specs.Moving.{MovesCell, leaf_stop};
+
+use atomic_face::PortNo;
+use cell_engine::{Cell, CellStop, CellStore, Given, Steps};
+use cycle_steps::halt::{LeafStop, Told};
+use quantity::{Name, OutOfMemory, Time, Value};
+use rule_tree::RuleStop;
+use std::sync::ledger::Ledger;
+
+/// A cell that is due gives its values, which are appended.
+pub(crate) fn give_of_cell<L: Ledger>(
+    store: &mut CellStore,
+    cell: u32,
+    t: Time,
+    into: &mut Vec<(PortNo, Value)>,
+    steps: &mut Steps<L>,
+) -> Result<(), OutOfMemory>
+    requires within { cell < length store.old.cells }
+    requires due { cell_next (cell_at store.old.cells cell) ≡ Some t }
+    ensures given { OnOk result
+        (into.new.items ≡ into.old.items ++ cell_output t (cell_at store.old.cells cell)) }
+    ensures cells { store.new
+        ≡ with_cell store.old cell (cell_emitted t (cell_at store.old.cells cell)) }
+    ensures steps { steps.new ≡ steps.old + 1 }
+{
+    let given = store.emit(cell, t, steps);
+    append_given(given, into)
+}
+
+/// Appends what is given port by port.
+fn append_given(given: Given, into: &mut Vec<(PortNo, Value)>) -> Result<(), OutOfMemory>
+    ensures { OnOk result (into.new.items ≡ into.old.items ++ bag_of_given given) }
+{
+    for port in 0..4u16 {
+        append_one(port, given.values[usize::from(port)], into)?;
+    }
+    Ok(())
+}
+
+/// Appends a value at a port, where there is one.
+fn append_one(
+    port: u16,
+    value: Option<Value>,
+    into: &mut Vec<(PortNo, Value)>,
+) -> Result<(), OutOfMemory>
+    ensures { OnOk result (into.new.items ≡ into.old.items ++ if_given (port, value)) }
+{
+    let Some(value) = value else {
+        return Ok(());
+    };
+    let Ok(()) = into.push((PortNo(port), value)) else {
+        return Err(OutOfMemory);
+    };
+    Ok(())
+}
+
+/// A cell after its emission moves: its computed value and its next time.
+pub(crate) fn move_cell<L: Ledger>(
+    store: &mut CellStore,
+    cell: u32,
+    t: Time,
+    woken: bool,
+    bag: &[(PortNo, Value)],
+    ports: &[Name],
+    steps: &mut Steps<L>,
+) -> Result<Told, LeafStop>
+    requires within { cell < length store.old.cells }
+    requires some { HasPort (cell_at store.old.cells cell) }
+    requires time { t ≤ 359999999 }
+    requires ports { All (λ (o : AnyPort × AnyValue). o.0.0 < length ports.now) bag.now }
+    ensures moves { (g : Group) → StandsFor g store.old.layout → IsTrue (is_sound_group g)
+        → ports.now ≡ cell_ports g cell
+        → MovesCell store.old.cells store.new.cells cell
+        (computed_at t g store.old.cells cell woken bag.now) result }
+    ensures layout { store.new.layout ≡ store.old.layout }
+    ensures only { OnlyCell cell store.old.cells store.new.cells }
+    ensures steps { steps.new ≤ steps.old + (length store.old.layout.offsets + 2) }
+{
+    match store.compute(cell, t, woken, bag, ports, steps) {
+        Ok(()) => Ok(told_of(store.cell(cell, steps))),
+        Err(why) => Err(stop_of_leaf(why)),
+    }
+}
+
+/// What is told of a cell that moved.
+fn told_of(cell: Cell) -> Told
+    ensures value { result.value ≡ Some (slice_index cell.computed 0) }
+    ensures next { result.next ≡ cell.next }
+{
+    Told {
+        value: Some(cell.computed[0]),
+        next: cell.next,
+    }
+}
+
+/// Why a cell stops, as a leaf's stop.
+fn stop_of_leaf(why: CellStop) -> LeafStop
+    ensures { result ≡ leaf_stop why }
+{
+    match why {
+        CellStop::NoTrueRule => LeafStop::Rule(RuleStop::NoTrueRule),
+        CellStop::Overflow => LeafStop::Rule(RuleStop::Overflow),
+        CellStop::BadDelay(delay) => LeafStop::Rule(RuleStop::BadDelay(delay)),
+        CellStop::Memory => LeafStop::Memory,
+    }
+}

@@ -1,0 +1,151 @@
+// The leaves of a run: each is asked for its output, and then to move.
+ghost use Rattle.std.specs.Prelude.{◌≡◌, ℕ, ◌+◌, ◌<◌, ◌≤◌, Some, List, [], length, map, OnOk, IfOk, IsTrue, slice_get};
+ghost use Rattle.std.specs.List.{All};
+ghost use Rattle.quantity.specs.declared.value.Value.{Value as AnyValue};
+ghost use Rattle.atomic_face.specs.declared.class.PortNo.{PortNo as AnyPort};
+ghost use Rattle.model_tree.specs.Tree.{leaves};
+ghost use Rattle.run_model.specs.Cycle.{initial_leaf, leaf_next, leaf_emitted, collected_of};
+ghost use Rattle.sparse_cycle.specs.Sparse.{leaf_of, move_to};
+ghost use Rattle.cycle_steps.specs.Moving.{Moves};
+ghost use Rattle.run_leaves.specs.Seated.{is_box, ports_at, visits_at, tree_at};
+ghost use Rattle.run_leaves.specs.Moving.{with_state, StaysAs};
+
+use atomic_face::{AtomicModel, PortNo, Stock};
+use cell_engine::{CellStore, Steps};
+use cycle_steps::halt::{LeafStop, Told};
+use cycle_steps::leaves::Leaves;
+use model_tree::{LeafAt, Model as Tree};
+use quantity::{OutOfMemory, Time, Value};
+use std::marker::Model;
+use std::sync::ledger::Ledger;
+
+/// The leaves of a model: the cells of each group in a store, and the boxes in their stock. They are seen as the model,
+/// where each leaf's state lies, and all states in declared order.
+#[derive(Drop)]
+pub struct FlatLeaves<M: AtomicModel> {
+    model: Tree,
+    seats: Vec<LeafAt>,
+    stores: Vec<CellStore>,
+    stock: Stock<M>,
+}
+
+impl<M: AtomicModel> Model for FlatLeaves<M> {
+    ghost use Rattle.model_tree.specs.contracts.component.Component as component;
+    ghost use Rattle.std.specs.Coded.{codes};
+    ghost use Rattle.run_leaves.specs.Seated.{Seated, settings_in, layouts_in, sizes_in, states_in, tree_at, Places, HavePorts};
+
+    ghost Value = { Seated };
+
+    ghost coded = { Prim.hlevel (codes, component.the_row.coded) };
+
+    ghost view = { λ s. record {
+      model = s.model;
+      seats = s.seats.items;
+      layouts = layouts_in s.stores.items;
+      settings = settings_in s.stock;
+      states = states_in s.stock s.stores.items s.seats.items;
+    } };
+
+    ghost invariant = { λ s. Places (tree_at s.model (settings_in s.stock)) s.seats.items (settings_in s.stock) (layouts_in s.stores.items) (sizes_in s.stores.items)
+      × HavePorts s.stores.items };
+}
+
+impl<M: AtomicModel> FlatLeaves<M> {
+    /// The model.
+    pub fn model(&self) -> &Tree
+        ensures { result.now ≡ self.now.model }
+    {
+        &self.model
+    }
+
+    /// The next time of a leaf's box.
+    pub fn box_next(&self, leaf: u32) -> Option<Time>
+        requires { IsTrue (is_box (leaf_of self.now.states leaf)) }
+        ensures { result ≡ leaf_next (leaf_of self.now.states leaf) }
+    {
+        match self.seats[leaf as usize] {
+            LeafAt::Atomic(at) => self.stock.next(at),
+            LeafAt::Cell { group: _, cell: _ } => unreachable!(),
+        }
+    }
+
+    /// A leaf that is due gives its output, and every other leaf stays. A cell takes one visit, and a box none.
+    pub fn give<L: Ledger>(
+        &mut self,
+        leaf: u32,
+        t: Time,
+        into: &mut Vec<(PortNo, Value)>,
+        steps: &mut Steps<L>,
+    ) -> Result<(), OutOfMemory>
+        requires empty { into.old.items ≡ [] }
+        requires due { leaf_next (leaf_of self.old.states leaf) ≡ Some t }
+        ensures given { OnOk result (into.new.items ≡ collected_of t (leaf_of self.old.states leaf)) }
+        ensures leaves { OnOk result
+            (self.new ≡ with_state self.old leaf (leaf_emitted t (leaf_of self.old.states leaf))) }
+        ensures kept { StaysAs self.old self.new }
+        ensures visits { steps.new
+            ≤ steps.old + length (collected_of t (leaf_of self.old.states leaf)) }
+    {
+        Err(OutOfMemory)
+    }
+
+    /// A leaf after its emission moves over the states as they stand. After a stop, and without memory, its state may be
+    /// any; model, places and settings stay.
+    pub fn move_leaf<L: Ledger>(
+        &mut self,
+        leaf: u32,
+        t: Time,
+        woken: bool,
+        bag: &[(PortNo, Value)],
+        steps: &mut Steps<L>,
+    ) -> Result<Told, LeafStop>
+        requires within { leaf < length self.old.states }
+        requires time { t ≤ 359999999 }
+        requires ports { All (λ (o : AnyPort × AnyValue). o.0.0 < ports_at self.old leaf) bag.now }
+        ensures moves { Moves self.old.states self.new.states leaf
+            (move_to t self.old.states woken bag.now
+            (slice_get (leaves (tree_at self.old.model self.old.settings)) leaf) (leaf_of self.old.states leaf))
+            result }
+        ensures kept { StaysAs self.old self.new }
+        ensures visits { steps.new ≤ steps.old + visits_at self.old leaf }
+    {
+        Err(LeafStop::Memory)
+    }
+}
+
+impl<M: AtomicModel, L: Ledger> Leaves<Steps<L>> for FlatLeaves<M> {
+    ghost use Rattle.run_leaves.specs.Seated.{ports_at, visits_at, IsOf};
+
+    ghost states = { λ s. s.states };
+
+    ghost stands_for = { λ s tree. IsOf tree s };
+
+    ghost kept = { λ s. record { model = s.model; settings = s.settings } };
+
+    ghost ports = { λ s. ports_at s };
+
+    ghost most = { λ s. visits_at s };
+
+    ghost visits = { λ c. c };
+
+    fn emit(
+        &mut self,
+        leaf: u32,
+        t: Time,
+        into: &mut Vec<(PortNo, Value)>,
+        counter: &mut Steps<L>,
+    ) -> Result<(), OutOfMemory> {
+        self.give(leaf, t, into, counter)
+    }
+
+    fn advance(
+        &mut self,
+        leaf: u32,
+        t: Time,
+        woken: bool,
+        bag: &[(PortNo, Value)],
+        counter: &mut Steps<L>,
+    ) -> Result<Told, LeafStop> {
+        self.move_leaf(leaf, t, woken, bag, counter)
+    }
+}

@@ -1,0 +1,10 @@
+//! The leaves of a run: their states, and who watches whom.
+#![tactic(auto)]
+
+mod boxes;
+mod cells;
+pub mod leaves;
+pub mod watchers;
+
+pub use leaves::FlatLeaves;
+pub use watchers::Watchers;
