@@ -5,6 +5,7 @@ mod Places
 mod Fed
 mod Asked
 mod Whole
+mod Costs
 mod Sights
 mod Walking
 mod Watched

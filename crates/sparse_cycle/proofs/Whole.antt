@@ -83,34 +83,34 @@ answer t em given s o e bag =
 -- ---- one cycle
 
 module _ (tree : Tree) (t : ℕ) (s : RunState) (fits : FitsTree tree s.leaf_states) (next : next_instant s ≡ Some t) where
-  abbrev ss : List LeafState
+  abbrev pub ss : List LeafState
   ss = s.leaf_states
 
-  abbrev gave : List Bag
+  abbrev pub gave : List Bag
   gave = collected t ss
 
-  abbrev top : Word → List Value
+  abbrev pub top : Word → List Value
   top = at_top tree t s.events
 
-  abbrev got : List Bag
+  abbrev pub got : List Bag
   got = bags tree gave top
 
-  abbrev em : List LeafState
+  abbrev pub em : List LeafState
   em = map (leaf_emitted t) ss
 
-  abbrev given : List PortRecord
+  abbrev pub given : List PortRecord
   given = records_of_bags gave
 
-  abbrev fed : List PortRecord
+  abbrev pub fed : List PortRecord
   fed = records_of_bags got
 
-  abbrev test : ℕ → Bool
+  abbrev pub test : ℕ → Bool
   test = is_touched tree t ss given fed
 
-  abbrev move : ℕ → Moved
+  abbrev pub move : ℕ → Moved
   move = move_at tree t em given fed
 
-  abbrev ms : List Moved
+  abbrev pub ms : List Moved
   ms = moves tree t ss gave top
 
   abbrev count : ℕ
@@ -119,7 +119,7 @@ module _ (tree : Tree) (t : ℕ) (s : RunState) (fits : FitsTree tree s.leaf_sta
   long : length (leaves tree) ≡ length ss
   long = sym (AllZip-long Fits (leaves tree) ss fits)
 
-  given-is : given_among t ss (due_leaves t ss) ≡ given
+  pub given-is : given_among t ss (due_leaves t ss) ≡ given
   given-is =
       flat_map-kept (sparse.given_by t ss) (is_due t ss) (λ l off. ap (λ bag. port_records (l, bag)) (quiet-collected t (leaf_of ss l) (waits-from t s next l) off)) (range_with_len 0 (length ss))
       ∙ sym (given-from t ss ss 0 (λ j n is. let same : n ≡ j = omega (arith, is) in ap (leaf_of ss) same))
@@ -142,7 +142,7 @@ module _ (tree : Tree) (t : ℕ) (s : RunState) (fits : FitsTree tree s.leaf_sta
   asked-is : (j n : ℕ) (leaf : Leaf) → n ≡ 0 + j → slice_get (leaves tree) j ≡ Some leaf → asked t em gave leaf (leaf_of ss j) (unwrap_or (slice_get got j) []) ≡ tested test move n
   asked-is j n leaf is found = let same : j ≡ n = omega (arith, is) in asked-here j leaf found ∙ ap (tested test move) same
 
-  moves-are : ms ≡ map (tested test move) (range_with_len 0 (length ss))
+  pub moves-are : ms ≡ map (tested test move) (range_with_len 0 (length ss))
   moves-are = all-asked t em gave (tested test move) 0 (leaves tree) ss got long (bags-long tree gave top ∙ long) asked-is
 
   stop-is : first_stop 0 ms ≡ first_stop_among move (touched_leaves tree t ss given fed)
@@ -155,7 +155,7 @@ module _ (tree : Tree) (t : ℕ) (s : RunState) (fits : FitsTree tree s.leaf_sta
   quiet-here n off =
       quiet-emitted t (leaf_of ss n) (waits-from t s next n) (or-false-left (is_due t ss n) (is_woken_at given (slice_get (leaves tree) n)) (or-false-left (is_due t ss n || is_woken_at given (slice_get (leaves tree) n)) (has_values (bag_in fed n)) off))
 
-  moves-here : (n : ℕ) → n < length ss → Moves (move n)
+  pub moves-here : (n : ℕ) → n < length ss → Moves (move n)
   moves-here n lt =
       let found = found-at (leaves tree) n (omega (arith, lt, long)) in
       let woken = is_woken_at given (slice_get (leaves tree) n) in
@@ -203,11 +203,16 @@ module _ (tree : Tree) (t : ℕ) (s : RunState) (fits : FitsTree tree s.leaf_sta
   by-stop None is = λ i. cycled (cycle-is i) (state-is is i)
   by-stop (Some p) is = refl
 
-  abbrev fed_with : List PortRecord → List PortRecord
+  abbrev pub fed_with : List PortRecord → List PortRecord
   fed_with g = fed_among (from_source g top) (filter (brings (from_source g top)) (paths tree))
 
   abbrev out_with : List PortRecord → List OutRecord
   out_with g = out_among (from_source g top) (filter (brings (from_source g top)) (out_paths tree))
+
+  pub touched-are : touched_leaves tree t ss given fed ≡ touched_leaves tree t ss (given_among t ss (due_leaves t ss)) (fed_with (given_among t ss (due_leaves t ss)))
+  touched-are =
+      ap (touched_leaves tree t ss given) (fed-is tree gave top)
+      ∙ (λ i. touched_leaves tree t ss (sym given-is i) (fed_with (sym given-is i)))
 
   pub is-sparse : cycled_at tree t s ≡ sparse_at tree t s
   is-sparse =

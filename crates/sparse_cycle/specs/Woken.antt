@@ -2,10 +2,12 @@
 use Rattle.std.specs.Prelude.{◌≡◌, ℕ, ◌+◌, ◌<◌, ◌≤◌, Bool, true, false, ◌&&◌, Some, List, length}
 use Rattle.std.specs.List.{list_any, filter, range_with_len}
 use Rattle.cell_grid.specs.Space.{cell_count, leads_to}
-use Rattle.model_tree.specs.Tree.{Group, cell_leaf}
+use Rattle.model_tree.specs.Tree.{Group, Tree, cell_leaf}
 use Rattle.run_model.specs.Cycle.{LeafState, box_state, cell_state}
-use Rattle.run_model.specs.Run.{PortRecord, RunState}
-use Rattle.sparse_cycle.specs.Sparse.{leaf_of, gave_there, woken_by, due_leaves, given_among}
+use Rattle.run_model.specs.Run.{PortRecord, RunState, next_instant}
+use Rattle.run_model.specs.Fitting.{FitsTree}
+use Rattle.run_model.specs.Visits.{cost, stopping_visits}
+use Rattle.sparse_cycle.specs.Sparse.{leaf_of, gave_there, woken_by, due_leaves, given_among, parts_of}
 
 -- a cell is woken just where it watches a cell that gave output
 abbrev pub WokenWatch : Type 0
@@ -26,3 +28,9 @@ is_cell_at states l = is_cell (leaf_of states l)
 abbrev pub DueCellsGive : Type 0
 DueCellsGive =
     (t : ℕ) (s : RunState) → length (filter (is_cell_at s.leaf_states) (due_leaves t s.leaf_states)) ≤ length (given_among t s.leaf_states (due_leaves t s.leaf_states))
+
+-- a cycle that stops costs what the values that were given and the touched leaves cost
+abbrev pub CostsItsParts : Type 0
+CostsItsParts =
+    (tree : Tree) (t : ℕ) (s : RunState) → FitsTree tree s.leaf_states → next_instant s ≡ Some t
+    → (let p = parts_of tree t s in stopping_visits tree t s ≡ cost tree (length p.given) (length p.touched))

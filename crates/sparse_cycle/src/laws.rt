@@ -3,7 +3,7 @@ ghost use Rattle.sparse_cycle.specs.Laws.{CycleIsSparse, NextIsSparse, PathsByNu
 ghost use Rattle.sparse_cycle.specs.Examples.{CyclesAreSparse};
 ghost use Rattle.sparse_cycle.specs.Fits.{EmissionFits, MoveFits};
 ghost use Rattle.sparse_cycle.specs.Walk.{EachMoves, QueueKnows, WalkIsAtOnce};
-ghost use Rattle.sparse_cycle.specs.Woken.{DueCellsGive, WokenWatch};
+ghost use Rattle.sparse_cycle.specs.Woken.{CostsItsParts, DueCellsGive, WokenWatch};
 ghost use Rattle.sparse_cycle.specs.Collect.{CollectsAtOnce, DueCanCollect, GiversGave};
 ghost use Rattle.sparse_cycle.specs.Wake.{GiversWake, ReachedAreTouched};
 ghost use Rattle.sparse_cycle.specs.Feed.{DistinctWhereOnce, FeedsByNumber, FeedsParts, NumbersAreWithin, OutsAreFed, TargetsAreLeaves, TopByNumber, XRises, YShowsGiven, YRises};
@@ -35,6 +35,11 @@ pub fn cells_are_woken_by_those_they_watch()
 /// Each cell that is due gives a value, so no more of them are asked than there are Y and N records.
 pub fn due_cells_give()
     ensures { DueCellsGive }
+{}
+
+/// A cycle that stops costs what its values and its touched leaves cost.
+pub fn a_stopping_cycle_costs_its_parts()
+    ensures { CostsItsParts }
 {}
 
 /// A rising list of leaves is known by its members, and the paths that bring values by their rising numbers.
