@@ -66,3 +66,9 @@ pub index-get : {A : Type 0} (xs : List A) (l : ℕ) (x d : A) → slice_get xs 
 index-get [] l x d at = absurd (none-some at)
 index-get (a ∷ xs) zero x d at = some-is a x at
 index-get (a ∷ xs) (suc l) x d at = index-get xs l x d at
+
+-- what is made of all elements stays, where one is made anew with the same
+pub map-kept : {A B : Type 0} (f : A → B) (xs : List A) (l : ℕ) (x y : A) → slice_get xs l ≡ Some x → f y ≡ f x → map f (slice_set xs l y) ≡ map f xs
+map-kept f [] l x y at same = refl
+map-kept f (a ∷ xs) zero x y at same = λ i. (same ∙ ap f (sym (some-is a x at))) i ∷ map f xs
+map-kept f (a ∷ xs) (suc l) x y at same = λ i. f a ∷ map-kept f xs l x y at same i

@@ -1,5 +1,5 @@
 -- What a cycle that stops costs.
-use Rattle.std.proofs.Common.{◌≡◌, ℕ, zero, suc, ◌+◌, ◌<◌, Bool, true, false, cond, List, [], ◌∷◌, ◌++◌, map, length, refl, sym, ◌∙◌, ap, arith, length-append}
+use Rattle.std.proofs.Common.{◌≡◌, ℕ, zero, suc, ◌+◌, ◌<◌, Bool, true, false, cond, List, [], ◌∷◌, map, length, refl, sym, ◌∙◌, ap, arith, length-append}
 use Rattle.std.specs.Prelude.{if◌then◌else◌}
 use Rattle.std.specs.List.{sum_by, count_by, filter, flat_map, enumerate_from, range_with_len}
 use Rattle.std.proofs.lemmas.List.{length-map}
@@ -7,13 +7,12 @@ use Rattle.std.proofs.lemmas.List.Sums.{sum_by-cons}
 use Rattle.atomic_face.specs.declared.class.PortNo.{PortNo}
 use Rattle.atomic_face.specs.Classes.{Bag}
 use Rattle.quantity.specs.declared.value.Value.{Value}
-use Rattle.model_tree.specs.Tree.{Tree}
 use Rattle.run_model.specs.Cycle.{Moved, stayed, moved, stopped}
 use Rattle.run_model.specs.Run.{PortRecord, port_records}
 use Rattle.run_model.specs.Visits.{is_asked, cost}
 use Rattle.sparse_cycle.specs.Woken.{CostsItsParts}
 use Rattle.sparse_cycle.proofs.Asked.{Moves, tested}
-use Rattle.sparse_cycle.proofs.Whole.{gave, ms, test, move, ss, given-is, moves-are, moves-here, touched-are}
+use Rattle.sparse_cycle.proofs.Whole.{gave, test, move, given-is, moves-are, moves-here, touched-are}
 
 -- each value of a bag is a record
 records-long : (k : ℕ) (bags : List Bag) → length (flat_map port_records (enumerate_from k bags)) ≡ sum_by (λ (b : Bag). length b) bags

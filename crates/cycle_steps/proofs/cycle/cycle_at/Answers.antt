@@ -1,4 +1,4 @@
-use Rattle.std.proofs.Common.{◌≡◌, ◌∙◌, ap, subst}
+use Rattle.std.proofs.Common.{◌≡◌, ◌≤◌, ◌∙◌, length, ap, subst, arith}
 use Rattle.std.proofs.lemmas.Result.{on_ok_weaker}
 use Rattle.record_text.specs.declared.records.Records.{Records}
 use Rattle.sparse_cycle.specs.Sparse.{parts_of}
@@ -25,3 +25,9 @@ returns-clause-cycles g c = λ tree s st run.
           (c.walk.ensures.walks tree p.given (c.in-Ok.ensures.stands tree st) (c.in-Ok.ensures.woken tree s run));
       records_are = on_ok_weaker c.walk.result (λ kept. has) (c.walk.ensures.stands tree (c.in-Ok.ensures.stands tree st));
     }
+
+pub returns-clause-few : goal.returns-clause-few
+returns-clause-few g c = λ tree s run.
+    let half = c.in-Ok.ensures.parts tree s run in
+    let same : length c.first_half.new.moving.items ≡ length (parts_of tree c.args.t s).touched = ap length half.touched_is in
+    omega (arith, same)
