@@ -1,0 +1,5 @@
+pub mod Adding
+pub mod Making
+pub mod Cycles
+pub mod Groups
+pub mod Counting

@@ -1,0 +1,14 @@
+-- The names of files, without where they lie.
+use Rattle.std.specs.Prelude.{Option}
+use Rattle.std.specs.Option.{option_map}
+use Rattle.std.specs.Borrow.{Bor}
+use Rattle.model_tree.specs.Tree.{Word}
+use Rattle.run_files.specs.declared.outputs.Named.{Named}
+use Rattle.run_files.specs.Texts.{Names}
+pub use Rattle.run_files.specs.Texts.{name_at}
+
+abbrev pub name_of : Option (Bor Word) → Option Word
+name_of name = option_map (λ (n : Bor Word). n.now) name
+
+abbrev pub names_of : Named → Names
+names_of n = record { log = name_of n.log; out = name_of n.out; frames = name_of n.frames }

@@ -1,0 +1,84 @@
+-- The files that a run makes, by their names, and what stands in them.
+use Rattle.std.specs.Prelude.{◌≡◌, ◌≢◌, false, Option, Some, None, List, [], ◌∷◌, ◌++◌, ⊤, Contains}
+use Rattle.std.specs.Str.{bytes_eq}
+use Rattle.quantity.specs.Bytes.{Bytes}
+use Rattle.model_tree.specs.Tree.{Word}
+use Rattle.answer_model.specs.Answer.{Files}
+use Rattle.answer_model.specs.Headline.{Begins}
+use Rattle.answer_model.specs.RunFiles.{file_if}
+use Rattle.run_files.specs.declared.outputs.Output.{Output}
+use Rattle.run_files.specs.declared.outputs.Output.TheVariants.{Log, Out, Frames}
+
+-- the names of the log, the output and the frames, where there are to be such
+pub record Names : Type 0 where
+  pub log : Option Word
+  pub out : Option Word
+  pub frames : Option Word
+
+-- what stands in each
+pub record Texts : Type 0 where
+  pub log : Bytes
+  pub out : Bytes
+  pub frames : Bytes
+
+abbrev pub no_texts : Texts
+no_texts = record { log = []; out = []; frames = [] }
+
+-- the texts, and more behind each
+abbrev pub both : Texts → Texts → Texts
+both t more = record { log = t.log ++ more.log; out = t.out ++ more.out; frames = t.frames ++ more.frames }
+
+-- bytes for one of the files
+abbrev pub only : Output → Bytes → Texts
+only Log bytes = record { log = bytes; out = []; frames = [] }
+only Out bytes = record { log = []; out = bytes; frames = [] }
+only Frames bytes = record { log = []; out = []; frames = bytes }
+
+abbrev pub name_at : Names → Output → Option Word
+name_at n Log = n.log
+name_at n Out = n.out
+name_at n Frames = n.frames
+
+abbrev pub text_at : Texts → Output → Bytes
+text_at t Log = t.log
+text_at t Out = t.out
+text_at t Frames = t.frames
+
+-- the files in the order of their making
+abbrev pub files : Names → Texts → Files
+files n t = file_if n.log t.log ++ file_if n.out t.out ++ file_if n.frames t.frames
+
+-- those that are made before this one, all empty
+abbrev pub made_before : Names → Output → Files
+made_before n Log = []
+made_before n Out = file_if n.log []
+made_before n Frames = file_if n.log [] ++ file_if n.out []
+
+-- two names differ, where both are given
+abbrev pub Differ : Option Word → Option Word → Type 0
+Differ None b = ⊤
+Differ (Some a) None = ⊤
+Differ (Some a) (Some b) = bytes_eq a b ≡ false
+
+-- no two files have one name
+pub record AreApart (n : Names) : Type 0 where
+  pub log_out : Differ n.log n.out
+  pub log_frames : Differ n.log n.frames
+  pub out_frames : Differ n.out n.frames
+
+-- a name is among these, where it is given
+abbrev pub IsAmong : Option Word → List Word → Type 0
+IsAmong None names = ⊤
+IsAmong (Some name) names = Contains names name
+
+-- all files were made
+pub record AreCreated (n : Names) (created : List Word) : Type 0 where
+  pub log_there : IsAmong n.log created
+  pub out_there : IsAmong n.out created
+  pub frames_there : IsAmong n.frames created
+
+-- a beginning of each text
+pub record BeginTexts (part whole : Texts) : Type 0 where
+  pub log_begins : Begins part.log whole.log
+  pub out_begins : Begins part.out whole.out
+  pub frames_begin : Begins part.frames whole.frames

@@ -1,0 +1,171 @@
+// What a cycle adds to the files.
+ghost use Rattle.std.specs.Prelude.{◌≡◌, [], ◌∷◌, map, OnOk};
+ghost use Rattle.std.specs.Option.{option_map};
+ghost use Rattle.model_tree.specs.Leaves.{OfTree};
+ghost use Rattle.run_model.specs.Run.{Cycle};
+ghost use Rattle.text_forms.specs.Lines as forms;
+ghost use Rattle.record_text.specs.Held.{Holds};
+ghost use Rattle.record_text.specs.Chosen.{letters_of};
+ghost use Rattle.record_text.specs.Named.{NamesLeaves};
+ghost use Rattle.run_files.specs.declared.outputs.Output.TheVariants.{Log, Out, Frames as frames};
+ghost use Rattle.run_files.specs.AskedFiles.{names_of};
+ghost use Rattle.run_files.specs.Texts.{only, AreApart, AreCreated};
+ghost use Rattle.run_files.specs.Showing.{took, plain, ended, ended_before, is_begun_before, after_cycle, frame_before, last_frame, cycle_texts, BeginsAt};
+ghost use Rattle.run_files.specs.Written.{Writes};
+
+use crate::drawn::Drawn;
+use crate::outputs::{Named, Output, Unwritten};
+use crate::write::write_to;
+use model_tree::Model;
+use quantity::{OutOfMemory, Time};
+use record_text::{Records, YRecord, log_bytes, out_bytes};
+use room_edge::Room;
+
+/// Adds what a cycle gave: the frame of the instant before, where this one begins another; the lines of the
+/// log; and the lines of the output. `piece` is room that each call uses again.
+pub fn write_cycle<R: Room>(
+    room: &mut R,
+    named: &Named<'_>,
+    drawn: &mut Option<Drawn>,
+    model: &Model,
+    records: &Records,
+    at: Time,
+    piece: &mut Vec<u8>,
+) -> Result<(), Unwritten>
+    requires apart { AreApart (names_of named.now) }
+    requires created { AreCreated (names_of named.now) (R.outside room.old).created }
+    requires leaves { NamesLeaves model.now records.now }
+    // For the cycle whose records these are.
+    ensures texts { (c : Cycle) → Holds records.now c → c.time ≡ at → OfTree model.now (λ tree.
+        Writes (names_of named.now) (cycle_texts tree (letters_of named.now.letters) drawn.old c)
+            (R.outside room.old) (R.outside room.new) result) }
+    ensures drawn { OnOk result ((c : Cycle) → Holds records.now c → c.time ≡ at →
+        drawn.new ≡ option_map (after_cycle c) drawn.old) }
+{
+    write_before(room, named, drawn, at, piece)?;
+    write_log(room, named, model, records, piece)?;
+    write_out(room, named, model, records, piece)?;
+    take(drawn, at, &records.y);
+    Ok(())
+}
+
+/// Adds the frame of the instant that was begun, where a run ends.
+pub fn write_last<R: Room>(
+    room: &mut R,
+    named: &Named<'_>,
+    drawn: &mut Option<Drawn>,
+    piece: &mut Vec<u8>,
+) -> Result<(), Unwritten>
+    requires apart { AreApart (names_of named.now) }
+    requires created { AreCreated (names_of named.now) (R.outside room.old).created }
+    ensures texts { Writes (names_of named.now) (only frames (last_frame drawn.old))
+        (R.outside room.old) (R.outside room.new) result }
+    ensures drawn { OnOk result (drawn.new ≡ option_map ended drawn.old) }
+{
+    if draw_last(drawn, piece).is_err() {
+        return Err(Unwritten::Memory);
+    }
+    write_to(room, named, Output::Frames, piece)
+}
+
+/// The frame of the instant that was begun stands in `piece`, and that instant is over.
+fn draw_last(drawn: &mut Option<Drawn>, piece: &mut Vec<u8>) -> Result<(), OutOfMemory>
+    ensures text { OnOk result (piece.new.items ≡ last_frame drawn.old) }
+    ensures drawn { OnOk result (drawn.new ≡ option_map ended drawn.old) }
+{
+    piece.clear();
+    match drawn {
+        None => Ok(()),
+        Some(drawn) => drawn.finish(piece),
+    }
+}
+
+/// Adds the frame of an instant that is over, where this one begins another.
+fn write_before<R: Room>(
+    room: &mut R,
+    named: &Named<'_>,
+    drawn: &mut Option<Drawn>,
+    at: Time,
+    piece: &mut Vec<u8>,
+) -> Result<(), Unwritten>
+    requires apart { AreApart (names_of named.now) }
+    requires created { AreCreated (names_of named.now) (R.outside room.old).created }
+    ensures texts { Writes (names_of named.now) (only frames (frame_before at drawn.old))
+        (R.outside room.old) (R.outside room.new) result }
+    ensures drawn { OnOk result (drawn.new ≡ option_map (ended_before at) drawn.old) }
+{
+    if has_begun_before(drawn, at) {
+        write_last(room, named, drawn, piece)
+    } else {
+        Ok(())
+    }
+}
+
+/// An instant was begun, and it is another than this.
+fn has_begun_before(drawn: &Option<Drawn>, at: Time) -> bool
+    ensures { result ≡ is_begun_before at drawn.now }
+{
+    match drawn {
+        None => false,
+        Some(drawn) => drawn.has_begun_before(at),
+    }
+}
+
+/// Adds the lines of the log.
+fn write_log<R: Room>(
+    room: &mut R,
+    named: &Named<'_>,
+    model: &Model,
+    records: &Records,
+    piece: &mut Vec<u8>,
+) -> Result<(), Unwritten>
+    requires apart { AreApart (names_of named.now) }
+    requires created { AreCreated (names_of named.now) (R.outside room.old).created }
+    requires leaves { NamesLeaves model.now records.now }
+    ensures { (c : Cycle) → Holds records.now c → OfTree model.now (λ tree.
+        Writes (names_of named.now) (only Log (forms.log_bytes tree (letters_of named.now.letters) (c ∷ [])))
+            (R.outside room.old) (R.outside room.new) result) }
+{
+    if named.log.is_none() {
+        return Ok(());
+    }
+    piece.clear();
+    if log_bytes(records, &named.letters, model, piece).is_err() {
+        return Err(Unwritten::Memory);
+    }
+    write_to(room, named, Output::Log, piece)
+}
+
+/// Adds the lines of the output.
+fn write_out<R: Room>(
+    room: &mut R,
+    named: &Named<'_>,
+    model: &Model,
+    records: &Records,
+    piece: &mut Vec<u8>,
+) -> Result<(), Unwritten>
+    requires apart { AreApart (names_of named.now) }
+    requires created { AreCreated (names_of named.now) (R.outside room.old).created }
+    ensures { (c : Cycle) → Holds records.now c → OfTree model.now (λ tree.
+        Writes (names_of named.now) (only Out (forms.out_bytes tree (c ∷ [])))
+            (R.outside room.old) (R.outside room.new) result) }
+{
+    if named.out.is_none() {
+        return Ok(());
+    }
+    piece.clear();
+    if out_bytes(records, model, piece).is_err() {
+        return Err(Unwritten::Memory);
+    }
+    write_to(room, named, Output::Out, piece)
+}
+
+/// Takes what a cycle shows of the group that is drawn.
+fn take(drawn: &mut Option<Drawn>, at: Time, given: &[YRecord])
+    requires { BeginsAt at drawn.old }
+    ensures { drawn.new ≡ option_map (took at (map plain given.now)) drawn.old }
+{
+    if let Some(drawn) = drawn {
+        drawn.take(at, given);
+    }
+}

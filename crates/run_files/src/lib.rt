@@ -1,0 +1,18 @@
+//! The files that a run makes: its log, its output and its frames, which grow cycle by cycle.
+#![tactic(auto)]
+
+mod counted;
+mod create;
+mod cycle;
+mod drawn;
+mod group;
+mod outputs;
+mod tell;
+mod write;
+
+pub use counted::{Counted, count, counting};
+pub use create::create_files;
+pub use cycle::{write_cycle, write_last};
+pub use drawn::Drawn;
+pub use outputs::{FramesFile, Named, Output, Outputs, Unwritten};
+pub use tell::tell_unwritten;

@@ -1,0 +1,66 @@
+// What is asked of a run's files and of its last line.
+ghost use Rattle.std.specs.Prelude.{◌≡◌};
+ghost use Rattle.run_files.specs.AskedFiles.{name_of, names_of, name_at};
+
+use quantity::Time;
+use record_text::Letters;
+
+/// The files that a run makes, or none of them; and what its last line and its complaints tell.
+#[derive(Clone, Copy)]
+pub struct Outputs<'a> {
+    /// The size of a model that is made, or None where it is read of a file.
+    pub made: Option<u32>,
+    pub end: Time,
+    pub log: Option<&'a str>,
+    pub out: Option<&'a str>,
+    pub frames: Option<FramesFile<'a>>,
+    pub letters: Letters,
+    pub limit: u32,
+}
+
+/// A file of frames: its name, the group and its plane, and how values are drawn.
+#[derive(Clone, Copy)]
+pub struct FramesFile<'a> {
+    pub name: &'a str,
+    pub group: &'a str,
+    pub plane: u32,
+    pub width: u8,
+    pub decimals: u8,
+}
+
+/// One of the files.
+#[derive(Clone, Copy, PartialEq, Eq, Debug)]
+pub enum Output {
+    Log,
+    Out,
+    Frames,
+}
+
+/// Why not all was written: a file could not be, or there is no memory.
+#[derive(Clone, Copy, PartialEq, Eq, Debug)]
+pub enum Unwritten {
+    Fault(Output),
+    Memory,
+}
+
+/// The names of the files that are made, and the letters of the log's lines.
+#[derive(Clone, Copy)]
+pub struct Named<'a> {
+    pub log: Option<&'a str>,
+    pub out: Option<&'a str>,
+    pub frames: Option<&'a str>,
+    pub letters: Letters,
+}
+
+impl<'a> Named<'a> {
+    /// The name of one of the files, where there is to be one.
+    pub fn name(&self, file: Output) -> Option<&'a str>
+        ensures { name_of result ≡ name_at (names_of self.now) file }
+    {
+        match file {
+            Output::Log => self.log,
+            Output::Out => self.out,
+            Output::Frames => self.frames,
+        }
+    }
+}

@@ -1,0 +1,30 @@
+// What is told of a file that could not be written.
+ghost use Rattle.run_files.specs.AskedFiles.{names_of};
+ghost use Rattle.run_files.specs.Written.{Tells, Blames};
+
+use crate::outputs::{Named, Unwritten};
+use room_edge::Room;
+use std::alloc::Global;
+use told_lines::status::NO_MEMORY;
+use told_lines::write_fault;
+
+/// Tells of the file that could not be written. For want of memory there is no line.
+pub fn tell_unwritten<R: Room>(
+    alloc: Global,
+    room: &mut R,
+    named: &Named<'_>,
+    why: Unwritten,
+) -> u8
+    requires { Blames (names_of named.now) why }
+    ensures { Tells (names_of named.now) why (R.outside room.old) (R.outside room.new) result }
+{
+    match why {
+        Unwritten::Fault(file) => {
+            let Some(name) = named.name(file) else {
+                unreachable!()
+            };
+            write_fault(alloc, room, name)
+        }
+        Unwritten::Memory => NO_MEMORY,
+    }
+}

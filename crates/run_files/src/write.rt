@@ -1,0 +1,28 @@
+// Bytes for one of the files.
+ghost use Rattle.run_files.specs.AskedFiles.{names_of};
+ghost use Rattle.run_files.specs.Texts.{only, AreApart, AreCreated};
+ghost use Rattle.run_files.specs.Written.{Writes};
+
+use crate::outputs::{Named, Output, Unwritten};
+use room_edge::{Room, WriteAll, write_all};
+
+/// Adds bytes to one of the files, where it is made. They are handed over in one piece.
+pub(crate) fn write_to<R: Room>(
+    room: &mut R,
+    named: &Named<'_>,
+    file: Output,
+    piece: &[u8],
+) -> Result<(), Unwritten>
+    requires apart { AreApart (names_of named.now) }
+    requires created { AreCreated (names_of named.now) (R.outside room.old).created }
+    ensures { Writes (names_of named.now) (only file piece.now) (R.outside room.old) (R.outside room.new) result }
+{
+    let Some(name) = named.name(file) else {
+        return Ok(());
+    };
+    match write_all(room, name, piece) {
+        Ok(()) => Ok(()),
+        Err(WriteAll::WriteFault(_)) => Err(Unwritten::Fault(file)),
+        Err(WriteAll::Memory(_)) => Err(Unwritten::Memory),
+    }
+}

@@ -1,0 +1,45 @@
+// What is said of a fault or a refusal.
+ghost use Rattle.std.specs.Prelude.{◌++◌};
+ghost use Rattle.text_forms.specs.Lines.{ended};
+ghost use Rattle.answer_model.specs.Answer.{write_fault_line};
+ghost use Rattle.answer_model.specs.Endings.{Says};
+
+use crate::lines::named_line;
+use crate::status::{NO_MEMORY, WRITE_FAULT};
+use room_edge::{Room, WriteAll, complain_all};
+use std::alloc::Global;
+
+/// Complains by one line. The status is the given one, or that of a write fault or of want of
+/// memory where the line can't be written.
+pub fn complain<R: Room>(room: &mut R, line: &[u8], status: u8) -> u8
+    ensures { Says line.now status (R.outside room.old) (R.outside room.new) result }
+{
+    match complain_all(room, line) {
+        Ok(()) => status,
+        Err(WriteAll::WriteFault(_)) => WRITE_FAULT,
+        Err(WriteAll::Memory(_)) => NO_MEMORY,
+    }
+}
+
+/// Complains of a file or a stream.
+pub fn complain_named<R: Room>(
+    alloc: Global,
+    room: &mut R,
+    what: &[u8],
+    name: &str,
+    status: u8,
+) -> u8
+    ensures { Says (ended (what.now ++ name.now)) status (R.outside room.old) (R.outside room.new) result }
+{
+    let Ok(line) = named_line(alloc, what, name) else {
+        return NO_MEMORY;
+    };
+    complain(room, &line, status)
+}
+
+/// Tells of a write that failed, as far as it can.
+pub fn write_fault<R: Room>(alloc: Global, room: &mut R, name: &str) -> u8
+    ensures { Says (write_fault_line name.now) 5 (R.outside room.old) (R.outside room.new) result }
+{
+    complain_named(alloc, room, b"write fault: ", name, WRITE_FAULT)
+}
