@@ -1,0 +1,41 @@
+-- When the outputs of a run are what the words ask for.
+use Rattle.std.specs.Prelude.{◌≡◌, ℕ, Option, Some, None, List, ◌++◌, map, ⊤, IsTrue}
+use Rattle.std.specs.Option.{option_map, option_to_list}
+use Rattle.model_tree.specs.Tree.{Word}
+use Rattle.record_text.specs.Chosen.{letters_of}
+use Rattle.answer_model.specs.Asked as asked
+use Rattle.answer_model.specs.Asked.{Source, file, made, Asked, is_among, differ_all}
+use Rattle.run_files.specs.declared.outputs.FramesFile.{FramesFile}
+use Rattle.run_files.specs.declared.outputs.Outputs.{Outputs}
+use Rattle.run_files.specs.AskedFiles.{name_of}
+
+-- the model is read of a file, or is made with this size
+abbrev pub IsSource : Option ℕ → Source → Type 0
+IsSource None (file name) = ⊤
+IsSource (Some size) (file name) = ⊥
+IsSource None (made n) = ⊥
+IsSource (Some size) (made n) = n ≡ size
+
+abbrev pub frames_file_of : FramesFile → asked.FramesFile
+frames_file_of f = record { name = f.name.now; drawing = record { group = f.group.now; plane = f.plane }; width = f.width; decimals = f.decimals }
+
+-- the outputs are those of what is asked for, and no seed, saved state or state is
+pub record AreOutputsOf (a : Asked) (o : Outputs) : Type 0 where
+  pub source : IsSource o.made a.source
+  pub end : a.end ≡ o.end
+  pub log : a.log ≡ name_of o.log
+  pub out : a.out ≡ name_of o.out
+  pub frames : a.frames ≡ option_map frames_file_of o.frames
+  pub letters : (c : ℕ) → is_among c a.letters ≡ is_among c (letters_of o.letters)
+  pub limit : a.limit ≡ o.limit
+  pub seed : a.seed ≡ None
+  pub save : a.save ≡ None
+  pub state : a.state ≡ None
+
+-- the name of a file of frames
+abbrev pub frames_name : Option FramesFile → Option Word
+frames_name frames = option_map (λ (f : FramesFile). f.name.now) frames
+
+-- the names of the files that a run is asked to make
+abbrev pub names_asked : Outputs → List Word
+names_asked o = option_to_list (name_of o.log) ++ option_to_list (name_of o.out) ++ option_to_list (frames_name o.frames)

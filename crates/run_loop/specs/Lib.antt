@@ -1,0 +1,6 @@
+pub mod Asks
+pub mod Answers
+pub mod Known
+pub mod Left
+pub mod Ends
+pub mod Ran

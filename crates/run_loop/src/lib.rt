@@ -1,0 +1,12 @@
+//! All of the program after its inputs are read: the files are made, the run goes on cycle by cycle, and how it
+//! ended is told.
+#![tactic(auto)]
+
+mod ending;
+pub mod laws;
+mod lines;
+mod run;
+mod stage;
+
+pub use run_files::{FramesFile, Outputs};
+pub use stage::run_and_tell;
