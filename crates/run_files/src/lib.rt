@@ -10,9 +10,10 @@ mod outputs;
 mod tell;
 mod write;
 
-pub use counted::{Counted, count, counting};
+pub use counted::{Counted, count};
 pub use create::create_files;
 pub use cycle::{write_cycle, write_last};
 pub use drawn::Drawn;
+pub use group::drawn_at_start;
 pub use outputs::{FramesFile, Named, Output, Outputs, Unwritten};
 pub use tell::tell_unwritten;

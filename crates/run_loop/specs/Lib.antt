@@ -4,3 +4,4 @@ pub mod Known
 pub mod Left
 pub mod Ends
 pub mod Ran
+pub mod Stopping

@@ -3,6 +3,7 @@
 #![tactic(auto)]
 
 mod ending;
+mod going;
 pub mod laws;
 mod lines;
 mod run;

@@ -1,11 +1,11 @@
 //! What a program tells: lines that are shown and complained, and the statuses that it ends with.
 #![tactic(auto)]
 
-mod complain;
+mod complaints;
 mod lines;
-mod show;
+mod shown;
 pub mod status;
 
-pub use complain::{complain, complain_named, write_fault};
+pub use complaints::{complain, complain_named, write_fault};
 pub use lines::named_line;
-pub use show::show;
+pub use shown::show;

@@ -1,6 +1,6 @@
 use Rattle.std.proofs.Common.{refl}
 use Rattle.answer_model.proofs.Said.{shown_whole, shown_stopped, shown_part}
-use Rattle.told_lines.proofs.show.show.Goals as goal
+use Rattle.told_lines.proofs.shown.show.Goals as goal
 
 pub returns-in-Ok : goal.returns-in-Ok
 returns-in-Ok g c =

@@ -1,7 +1,7 @@
 // What is shown at the end.
 ghost use Rattle.answer_model.specs.Endings.{ShowsEnd};
 
-use crate::complain::write_fault;
+use crate::complaints::write_fault;
 use crate::status::{DONE, NO_MEMORY};
 use room_edge::{Room, WriteAll, show_all};
 use std::alloc::Global;

@@ -1,0 +1,176 @@
+-- The group whose frames are drawn: leaves one after another.
+use Rattle.std.proofs.Common.{◌≡◌, ℕ, zero, suc, ◌+◌, ◌-◌, ◌<◌, ◌≤◌, Bool, true, false, cond, Option, Some, None, List, [], ◌∷◌, ◌++◌, length, map, drop, refl, sym, ap, ◌∙◌, subst, arith}
+use Rattle.std.specs.Prelude.{⊤, ℤ, slice_get}
+use Rattle.std.specs.List.{range_with_len}
+use Rattle.std.specs.Str.{bytes_eq}
+use Rattle.std.proofs.lemmas.Option.{slice_get_within}
+use Rattle.std.proofs.Math.Seq.{drop-length}
+use Rattle.cell_grid.specs.Space.{Space, cell_count, plane_count}
+use Rattle.model_tree.specs.declared.leaves.LeafAt.{LeafAt}
+use Rattle.model_tree.specs.declared.leaves.LeafAt.TheVariants as at
+use Rattle.model_tree.specs.declared.table.Model.{Model}
+use Rattle.model_tree.specs.Tree.{Word, Group, Tree, Trees, coupled, cells, atomic, nil, cons, Leaf, atomic_leaf, cell_leaf, leaf_count, leaf_counts, leaves_from, all_leaves_from, leaves, groups}
+use Rattle.model_tree.specs.Models.{tree_of}
+use Rattle.model_tree.specs.Leaves.{Settings, no_settings, IsLeafOf, HasBox, IsCellIn, IsPlaceOf}
+use Rattle.model_tree.proofs.Read.{leaves-length, leaf-there}
+use Rattle.answer_model.specs.RunFiles.{group_at}
+use Rattle.frame_draw.specs.Drawing.{CanDraw}
+use Rattle.run_files.specs.declared.outputs.FramesFile.{FramesFile}
+use Rattle.run_files.specs.declared.group.GroupAt.{GroupAt}
+use Rattle.run_files.specs.Groups.{IsGroup, IsCellOf, IsNoCellOf, IsPassed, begun_at, CanDrawOf, picture_of}
+use Rattle.run_files.specs.Showing.{Showing, showing_none}
+
+-- ---- the number of a cell's leaf
+
+-- a cell's leaf is as far behind the leaf of its group's first cell as the cell is behind that
+abbrev pub IsNumbered : ℕ → Leaf → Type 0
+IsNumbered k (atomic_leaf name class settings) = ⊤
+IsNumbered k (cell_leaf g first cell) = first + cell ≡ k
+
+abbrev AreNumbered : ℕ → List Leaf → Type 0
+AreNumbered k [] = ⊤
+AreNumbered k (l ∷ ls) = IsNumbered k l × AreNumbered (k + 1) ls
+
+numbered_append : (k : ℕ) (xs ys : List Leaf) → AreNumbered k xs → AreNumbered (k + length xs) ys → AreNumbered k (xs ++ ys)
+numbered_append k [] ys a b = subst (λ (n : ℕ). AreNumbered n ys) (none k) b
+  where
+    none : (k : ℕ) → k + 0 ≡ k
+    none k = omega arith
+numbered_append k (x ∷ xs) ys a b = (a.0, numbered_append (k + 1) xs ys a.1 (subst (λ (n : ℕ). AreNumbered n ys) (one k (length xs)) b))
+  where
+    one : (k n : ℕ) → k + suc n ≡ (k + 1) + n
+    one k n = omega arith
+
+cells_numbered : (g : Group) (first a n : ℕ) → AreNumbered (first + a) (map (cell_leaf g first) (range_with_len a n))
+cells_numbered g first a zero = tt
+cells_numbered g first a (suc n) =
+    (refl, subst (λ (k : ℕ). AreNumbered k (map (cell_leaf g first) (range_with_len (a + 1) n))) (one first a) (cells_numbered g first (a + 1) n))
+  where
+    one : (b a : ℕ) → b + (a + 1) ≡ (b + a) + 1
+    one b a = omega arith
+
+mutual
+  leaves_numbered : (t : Tree) (first : ℕ) → AreNumbered first (leaves_from t first)
+  leaves_numbered (coupled name ins outs children links) first = all_numbered children first
+  leaves_numbered (cells g) first =
+      subst (λ (k : ℕ). AreNumbered k (map (cell_leaf g first) (range_with_len 0 (cell_count g.space)))) (zero_more first) (cells_numbered g first 0 (cell_count g.space))
+  leaves_numbered (atomic name class settings) first = (tt, tt)
+
+  all_numbered : (ts : Trees) (first : ℕ) → AreNumbered first (all_leaves_from ts first)
+  all_numbered nil first = tt
+  all_numbered (cons c rest) first =
+      numbered_append first (leaves_from c first) (all_leaves_from rest (first + leaf_count c)) (leaves_numbered c first)
+      (subst (λ (n : ℕ). AreNumbered (first + n) (all_leaves_from rest (first + leaf_count c))) (sym (leaves-length c first)) (all_numbered rest (first + leaf_count c)))
+
+  zero_more : (k : ℕ) → k + 0 ≡ k
+  zero_more k = omega arith
+
+numbered_at : (k i : ℕ) (ls : List Leaf) (l : Leaf) → AreNumbered k ls → slice_get ls i ≡ Some l → IsNumbered (k + i) l
+numbered_at k i [] l a e = absurd (cc)
+numbered_at k zero (x ∷ xs) l a e =
+    let same : x ≡ l = cc in
+    subst (λ (n : ℕ). IsNumbered n l) (none k) (subst (IsNumbered k) same a.0)
+  where
+    none : (k : ℕ) → k ≡ k + 0
+    none k = omega arith
+numbered_at k (suc i) (x ∷ xs) l a e = subst (λ (n : ℕ). IsNumbered n l) (one k i) (numbered_at (k + 1) i xs l a.1 e)
+  where
+    one : (k i : ℕ) → (k + 1) + i ≡ k + suc i
+    one k i = omega arith
+
+pub leaf_numbered : (t : Tree) (k : ℕ) (l : Leaf) → slice_get (leaves t) k ≡ Some l → IsNumbered k l
+leaf_numbered t k l e = subst (λ (n : ℕ). IsNumbered n l) (from_zero k) (numbered_at 0 k (leaves t) l (leaves_numbered t 0) e)
+  where
+    from_zero : (k : ℕ) → 0 + k ≡ k
+    from_zero k = omega arith
+
+-- ---- the search goes on, and finds
+
+group_next : (name : Word) (ls : List Leaf) (i : ℕ) (l : Leaf) → slice_get ls i ≡ Some l → IsNoCellOf name l → group_at name (drop i ls) ≡ group_at name (drop (suc i) ls)
+group_next name [] i l e other = absurd (cc)
+group_next name (x ∷ xs) zero l e other = let same : x ≡ l = cc in passes x (subst (IsNoCellOf name) (sym same) other)
+  where
+    passes : (x : Leaf) → IsNoCellOf name x → group_at name (x ∷ xs) ≡ group_at name xs
+    passes (atomic_leaf n class settings) h = refl
+    passes (cell_leaf g first cell) h = ap (λ b. cond b (Some (first, g)) (group_at name xs)) h
+group_next name (x ∷ xs) (suc i) l e other = group_next name xs i l e other
+
+pub group_passes : (name : Word) (ls : List Leaf) (i : ℕ) (l : Leaf) → slice_get ls i ≡ Some l → IsNoCellOf name l → group_at name ls ≡ group_at name (drop i ls) → group_at name ls ≡ group_at name (drop (i + 1) ls)
+group_passes name ls i l e other so = so ∙ group_next name ls i l e other ∙ ap (λ (k : ℕ). group_at name (drop k ls)) (one i)
+  where
+    one : (i : ℕ) → suc i ≡ i + 1
+    one i = omega arith
+
+group_here : (name : Word) (p : GroupAt) (ls : List Leaf) (i : ℕ) (l : Leaf) → slice_get ls i ≡ Some l → IsCellOf name p l → IsGroup (Some p) (group_at name (drop i ls))
+group_here name p [] i l e here = absurd (cc)
+group_here name p (x ∷ xs) zero l e here = let same : x ≡ l = cc in finds x (subst (IsCellOf name p) (sym same) here)
+  where
+    finds : (x : Leaf) → IsCellOf name p x → IsGroup (Some p) (group_at name (x ∷ xs))
+    finds (atomic_leaf n class settings) h = absurd h
+    finds (cell_leaf g first cell) h =
+        subst (IsGroup (Some p)) (sym (ap (λ b. cond b (Some (first, g)) (group_at name xs)) h.0)) (h.1, h.2)
+group_here name p (x ∷ xs) (suc i) l e here = group_here name p xs i l e here
+
+pub group_found : (name : Word) (p : GroupAt) (ls : List Leaf) (i : ℕ) (l : Leaf) → slice_get ls i ≡ Some l → IsCellOf name p l → group_at name ls ≡ group_at name (drop i ls) → IsGroup (Some p) (group_at name ls)
+group_found name p ls i l e here so = subst (IsGroup (Some p)) (sym so) (group_here name p ls i l e here)
+
+pub group_none : (name : Word) (ls : List Leaf) (n : ℕ) → n ≡ length ls → group_at name ls ≡ group_at name (drop n ls) → IsGroup None (group_at name ls)
+group_none name ls n all so = subst (IsGroup None) (sym (so ∙ ap (λ (k : ℕ). group_at name (drop k ls)) all ∙ ap (group_at name) (drop-length ls))) tt
+
+-- ---- one leaf
+
+-- a cell of a group that was passed
+pub passed_cell : (name : Word) (gs : List Group) (number cell : ℕ) (l : Leaf) → IsCellIn (slice_get gs number) cell l → ((g : Group) → slice_get gs number ≡ Some g → bytes_eq g.name name ≡ false) → IsNoCellOf name l
+passed_cell name gs number cell l h other = by (slice_get gs number) refl l h
+  where
+    by : (o : Option Group) → slice_get gs number ≡ o → (l : Leaf) → IsCellIn o cell l → IsNoCellOf name l
+    by o e (atomic_leaf n class settings) h = absurd h
+    by None e (cell_leaf g first n) h = absurd h
+    by (Some k) e (cell_leaf g first n) h = other g (e ∙ ap (λ (x : Group). Some x) (sym h.0))
+
+-- a cell of the group of this name
+pub named_cell : (name : Word) (p : GroupAt) (gs : List Group) (number cell leaf : ℕ) (h : Group) (l : Leaf) → IsCellIn (slice_get gs number) cell l → slice_get gs number ≡ Some h → IsNumbered leaf l → bytes_eq h.name name ≡ true → p.first ≡ leaf - cell → p.grid ≡ h.space
+    → IsCellOf name p l
+named_cell name p gs number cell leaf h l here is numbered same first grid = by l (subst (λ (o : Option Group). IsCellIn o cell l) is here) numbered
+  where
+    by : (l : Leaf) → IsCellIn (Some h) cell l → IsNumbered leaf l → IsCellOf name p l
+    by (atomic_leaf n class settings) q k = absurd q
+    by (cell_leaf g f n) q k =
+        (ap (λ (x : Group). bytes_eq x.name name) q.0 ∙ same, let e = q.1 in omega (arith, first, k, e), grid ∙ ap (λ (x : Group). x.space) (sym q.0))
+
+pub cell_within : (leaf cell number : ℕ) (gs : List Group) (l : Leaf) → IsCellIn (slice_get gs number) cell l → IsNumbered leaf l → cell ≤ leaf
+cell_within leaf cell number gs l here numbered = by (slice_get gs number) l here numbered
+  where
+    by : (o : Option Group) (l : Leaf) → IsCellIn o cell l → IsNumbered leaf l → cell ≤ leaf
+    by o (atomic_leaf n class settings) q k = absurd q
+    by None (cell_leaf g f n) q k = absurd q
+    by (Some h) (cell_leaf g f n) q k = let e = q.1 in omega (arith, k, e)
+
+pub group_within : (gs : List Group) (number cell : ℕ) (l : Leaf) → IsCellIn (slice_get gs number) cell l → number < length gs
+group_within gs number cell l here = by (slice_get gs number) refl l here
+  where
+    by : (o : Option Group) → slice_get gs number ≡ o → (l : Leaf) → IsCellIn o cell l → number < length gs
+    by o e (atomic_leaf n class settings) h = absurd h
+    by None e (cell_leaf g f n) h = absurd h
+    by (Some k) e (cell_leaf g f n) h = slice_get_within gs number k e
+
+-- a leaf of an atomic component is no cell
+pub box_no_cell : (name : Word) (words : List ℤ) (l : Leaf) → HasBox words l → IsNoCellOf name l
+box_no_cell name words (atomic_leaf n class settings) h = tt
+box_no_cell name words (cell_leaf g first cell) h = absurd h
+
+-- ---- how the frames begin
+
+pub none_shown : (f : FramesFile) (g : Option (ℕ × Group)) → IsGroup None g → None ≡ begun_at f g
+none_shown f None h = refl
+none_shown f (Some g) h = absurd h
+
+pub shown_from : (f : FramesFile) (p : GroupAt) (g : Option (ℕ × Group)) (w : Showing) → IsGroup (Some p) g → w ≡ showing_none p.first (picture_of f p.grid) → Some w ≡ begun_at f g
+shown_from f p None w h is = absurd h
+shown_from f p (Some g) w h is =
+    ap (λ (x : Showing). Some x) (is ∙ (λ i. showing_none (h.0 i) (picture_of f (h.1 i))))
+
+pub can_draw : (f : FramesFile) (p : GroupAt) (g : Option (ℕ × Group)) → IsGroup (Some p) g → CanDrawOf f g → CanDraw p.grid f.plane f.width f.decimals
+can_draw f p None h can = absurd h
+can_draw f p (Some g) h can =
+    subst (λ (s : Space). CanDraw s f.plane f.width f.decimals) (sym h.1) (record { plane_inside = can.plane_inside g refl; some_width = can.some_width; narrow = can.narrow; short = can.short })

@@ -1,0 +1,14 @@
+-- A stop ends a run, but for want of memory.
+use Rattle.std.specs.Prelude.{◌≡◌, Result, Ok, Err}
+use Rattle.flat_run.specs.declared.progress.Stop.{Stop}
+use Rattle.flat_run.specs.declared.progress.Stop.TheVariants as stops
+use Rattle.run_files.specs.declared.outputs.Unwritten.{Unwritten}
+use Rattle.run_files.specs.declared.outputs.Unwritten.TheVariants.{Fault, Memory}
+use Rattle.run_loop.specs.declared.ending.Ending.{Ending}
+use Rattle.run_loop.specs.declared.ending.Ending.TheVariants.{Done, Stopped}
+
+abbrev pub StopsAs : Stop → Result Ending Unwritten → Type 0
+StopsAs stop (Ok Done) = ⊥
+StopsAs stop (Ok (Stopped s)) = (s ≡ stop) × ¬ (stop ≡ stops.Memory)
+StopsAs stop (Err (Fault file)) = ⊥
+StopsAs stop (Err Memory) = stop ≡ stops.Memory

@@ -1,0 +1,158 @@
+// How a run ended, and what is told of it.
+ghost use Rattle.std.specs.Prelude.{◌≡◌, ◌++◌, List, codes, IfOk};
+ghost use Rattle.quantity.specs.ValueTexts.{text5};
+ghost use Rattle.model_tree.specs.Leaves.{OfTree};
+ghost use Rattle.run_model.specs.Run.{Cycle, Verdict};
+ghost use Rattle.text_forms.specs.Lines.{ended};
+ghost use Rattle.answer_model.specs.Endings.{Says, ShowsEnd};
+ghost use Rattle.answer_model.specs.RunEnd.{many_line, stopped_at};
+ghost use Rattle.run_loop.specs.declared.ending.Ending.TheVariants.{Stopped};
+ghost use Rattle.run_loop.specs.Ends.{IsVerdict, TellsEnd, HasCounted, done_text};
+
+use crate::going::Going;
+use crate::lines::{delay_line, end_line, made_line, many_cycles_line, stopped_line};
+use flat_run::Stop;
+use model_tree::Model;
+use quantity::{OutOfMemory, Time, Value};
+use room_edge::Room;
+use run_files::Outputs;
+use std::alloc::Global;
+use told_lines::status::{BAD_DELAY, NO_MEMORY, NO_TRUE_RULE, OVERFLOW, TOO_MANY_CYCLES};
+use told_lines::{complain, show};
+
+/// The run is done, or it stopped.
+#[derive(Clone, Copy, PartialEq, Eq, Debug)]
+pub(crate) enum Ending {
+    Done,
+    Stopped(Stop),
+}
+
+/// Tells how a run ended: shows its last line where it is done, and else complains of the stop.
+pub(crate) fn tell_ending<R: Room>(
+    alloc: Global,
+    room: &mut R,
+    outputs: &Outputs<'_>,
+    model: &Model,
+    going: &Going,
+    ending: Ending,
+) -> u8
+    // For the cycles and the verdict of the run.
+    ensures { OfTree model.now (λ tree. (cycles : List Cycle) (v : Verdict) → IsVerdict ending v
+        → HasCounted outputs.now tree cycles going.now
+        → TellsEnd outputs.now tree cycles v (R.outside room.old) (R.outside room.new) result) }
+{
+    match ending {
+        Ending::Done => show_done(alloc, room, outputs, model, going),
+        Ending::Stopped(stop) => complain_stop(alloc, room, outputs, model, stop),
+    }
+}
+
+/// Shows the last line of a run that is done.
+fn show_done<R: Room>(
+    alloc: Global,
+    room: &mut R,
+    outputs: &Outputs<'_>,
+    model: &Model,
+    going: &Going,
+) -> u8
+    ensures { OfTree model.now (λ tree. (cycles : List Cycle) → HasCounted outputs.now tree cycles going.now
+        → ShowsEnd (ended (done_text outputs.now.made outputs.now.end tree cycles)) 0
+            (R.outside room.old) (R.outside room.new) result) }
+{
+    let Ok(line) = done_line(alloc, outputs, model, going) else {
+        return NO_MEMORY;
+    };
+    show(alloc, room, &line)
+}
+
+/// The last line of a run that is done.
+fn done_line(
+    alloc: Global,
+    outputs: &Outputs<'_>,
+    model: &Model,
+    going: &Going,
+) -> Result<Vec<u8>, OutOfMemory>
+    ensures { IfOk result (λ line. OfTree model.now (λ tree. (cycles : List Cycle)
+        → HasCounted outputs.now tree cycles going.now
+        → line.items ≡ ended (done_text outputs.now.made outputs.now.end tree cycles))) }
+{
+    let Some(size) = outputs.made else {
+        return end_line(alloc, outputs.end, going.cycles);
+    };
+    let Some(counted) = &going.counted else {
+        return Err(OutOfMemory);
+    };
+    made_line(alloc, size, model.leaves(), going.cycles, counted)
+}
+
+/// Complains of a stop. For want of memory there is no line.
+fn complain_stop<R: Room>(
+    alloc: Global,
+    room: &mut R,
+    outputs: &Outputs<'_>,
+    model: &Model,
+    stop: Stop,
+) -> u8
+    ensures { OfTree model.now (λ tree. (cycles : List Cycle) (v : Verdict) → IsVerdict (Stopped stop) v
+        → TellsEnd outputs.now tree cycles v (R.outside room.old) (R.outside room.new) result) }
+{
+    match stop {
+        Stop::NoTrueRule(leaf, t) => {
+            complain_at(alloc, room, model, b"no true rule", leaf, t, NO_TRUE_RULE)
+        }
+        Stop::Overflow(leaf, t) => {
+            complain_at(alloc, room, model, b"overflow", leaf, t, OVERFLOW)
+        }
+        Stop::BadDelay(leaf, t, delay) => complain_delay(alloc, room, model, leaf, t, delay),
+        Stop::TooManyCycles(t) => complain_many(alloc, room, outputs.limit, t),
+        Stop::Memory => NO_MEMORY,
+    }
+}
+
+/// Complains of a leaf that stops the run.
+fn complain_at<R: Room>(
+    alloc: Global,
+    room: &mut R,
+    model: &Model,
+    what: &[u8],
+    leaf: u32,
+    t: Time,
+    status: u8,
+) -> u8
+    ensures { OfTree model.now (λ tree.
+        Says (ended (stopped_at what.now tree leaf t)) status (R.outside room.old) (R.outside room.new) result) }
+{
+    let Ok(line) = stopped_line(alloc, model, what, leaf, t) else {
+        return NO_MEMORY;
+    };
+    complain(room, &line, status)
+}
+
+/// Complains of a leaf that stops the run by a delay that is none.
+fn complain_delay<R: Room>(
+    alloc: Global,
+    room: &mut R,
+    model: &Model,
+    leaf: u32,
+    t: Time,
+    delay: Value,
+) -> u8
+    ensures { OfTree model.now (λ tree.
+        Says (ended (stopped_at (codes "bad delay") tree leaf t ++ codes ": " ++ text5 delay)) 10
+            (R.outside room.old) (R.outside room.new) result) }
+{
+    let Ok(line) = delay_line(alloc, model, leaf, t, delay) else {
+        return NO_MEMORY;
+    };
+    complain(room, &line, BAD_DELAY)
+}
+
+/// Tells of an instant with too many cycles.
+fn complain_many<R: Room>(alloc: Global, room: &mut R, limit: u32, t: Time) -> u8
+    ensures { Says (ended (many_line limit t)) 11 (R.outside room.old) (R.outside room.new) result }
+{
+    let Ok(line) = many_cycles_line(alloc, limit, t) else {
+        return NO_MEMORY;
+    };
+    complain(room, &line, TOO_MANY_CYCLES)
+}

@@ -1,0 +1,67 @@
+// What changes while a run goes on.
+ghost use Rattle.std.specs.Prelude.{◌≡◌, ◌+◌, ◌<◌, ◌^◌, OnOk};
+ghost use Rattle.std.specs.Option.{option_map};
+ghost use Rattle.model_tree.specs.Leaves.{OfTree};
+ghost use Rattle.run_model.specs.Run.{Cycle};
+ghost use Rattle.record_text.specs.Held.{Holds};
+ghost use Rattle.record_text.specs.Chosen.{letters_of};
+ghost use Rattle.record_text.specs.Named.{NamesLeaves};
+ghost use Rattle.run_files.specs.AskedFiles.{names_of};
+ghost use Rattle.run_files.specs.Texts.{AreApart, AreCreated};
+ghost use Rattle.run_files.specs.Showing.{after_cycle, cycle_texts};
+ghost use Rattle.run_files.specs.Counts.{counts_after};
+ghost use Rattle.run_files.specs.Written.{Writes};
+
+use model_tree::Model;
+use quantity::Time;
+use record_text::Records;
+use room_edge::Room;
+use run_files::{Counted, Drawn, Named, Unwritten, count, write_cycle};
+
+/// The frames that are drawn, what is counted for the last line, the number of cycles, and room that each cycle
+/// uses again: its records, and the piece that is written.
+#[derive(Drop)]
+pub(crate) struct Going {
+    pub(crate) drawn: Option<Drawn>,
+    pub(crate) counted: Option<Counted>,
+    pub(crate) cycles: u64,
+    pub(crate) records: Records,
+    pub(crate) piece: Vec<u8>,
+}
+
+/// Writes and counts the cycle whose records are held.
+pub(crate) fn write_next<R: Room>(
+    room: &mut R,
+    named: &Named<'_>,
+    going: &mut Going,
+    model: &Model,
+    at: Time,
+) -> Result<(), Unwritten>
+    requires apart { AreApart (names_of named.now) }
+    requires created { AreCreated (names_of named.now) (R.outside room.old).created }
+    requires leaves { NamesLeaves model.now going.old.records }
+    requires few { going.old.cycles + 1 < 2 ^ 64 }
+    ensures texts { (c : Cycle) → Holds going.old.records c → c.time ≡ at → OfTree model.now (λ tree.
+        Writes (names_of named.now) (cycle_texts tree (letters_of named.now.letters) going.old.drawn c)
+            (R.outside room.old) (R.outside room.new) result) }
+    ensures drawn { OnOk result ((c : Cycle) → Holds going.old.records c → c.time ≡ at →
+        going.new.drawn ≡ option_map (after_cycle c) going.old.drawn) }
+    ensures counted { OnOk result ((c : Cycle) → Holds going.old.records c →
+        going.new.counted ≡ option_map (counts_after c) going.old.counted) }
+    ensures cycles { OnOk result (going.new.cycles ≡ going.old.cycles + 1) }
+{
+    write_cycle(
+        room,
+        named,
+        &mut going.drawn,
+        model,
+        &going.records,
+        at,
+        &mut going.piece,
+    )?;
+    if count(&mut going.counted, &going.records).is_err() {
+        return Err(Unwritten::Memory);
+    }
+    going.cycles += 1;
+    Ok(())
+}
