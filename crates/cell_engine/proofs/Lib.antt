@@ -5,3 +5,9 @@ pub mod Made
 pub mod Put
 pub mod Took
 pub mod Pieces
+pub mod Computing
+pub mod Choosing
+pub mod Looking
+pub mod Ruling
+pub mod Takes
+pub mod Moving

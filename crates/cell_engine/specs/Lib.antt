@@ -2,3 +2,4 @@ pub mod Layout
 pub mod Cells
 pub mod Laws
 pub mod Store
+pub mod Step

@@ -1,9 +1,12 @@
 //! The cells of a group, and what one step makes of a cell.
 #![tactic(auto)]
 
+mod bag;
 pub mod laws;
 mod make;
 mod plan;
+mod sight;
+mod step;
 mod steps;
 pub mod stop;
 pub mod store;

@@ -13,8 +13,10 @@ ghost use Rattle.cell_table.specs.Told.{cell_at, Tells, bag_of_given, OnlyCell};
 ghost use Rattle.cell_table.specs.Saved.{cell_of_saved};
 ghost use Rattle.cell_engine.specs.Cells.{Cells, with_cell, computed_at, Computes, CanBePut};
 
+use crate::bag::advance;
 use crate::make::{deepest_of_sets, plan_of, table_of};
 use crate::plan::Plan;
+use crate::sight::{look, view};
 use crate::{Cell, CellState, CellStop, Steps};
 use atomic_face::PortNo;
 use cell_table::CellTable;
@@ -116,7 +118,6 @@ impl CellStore {
     /// A cell after its emission moves: where it is woken its rules are evaluated over what the cells gave, and then each
     /// value of its bag is treated. `ports` are the names of the cell's input ports by number. One visit, and one for each
     /// offset. After a stop nothing is promised of this cell but what it has emitted.
-    // Not built yet: every call answers want of memory.
     pub fn compute<L: Ledger>(
         &mut self,
         i: u32,
@@ -138,7 +139,25 @@ impl CellStore {
     {
         steps.tick();
         steps.count(self.neighbours.len());
-        Err(CellStop::Memory)
+        look(
+            &self.plan,
+            &self.table,
+            i,
+            &mut self.neighbours,
+            &mut self.seen,
+        );
+        let base = view(&self.plan, &self.table, i, t, &self.seen);
+        advance(
+            &self.plan,
+            &base,
+            i,
+            woken,
+            bag,
+            ports,
+            &mut self.table,
+            &mut self.changed,
+            &mut self.stack,
+        )
     }
 
     /// The state of a cell.

@@ -1,0 +1,86 @@
+-- The parts of a cell's step. Only private clauses name these.
+use Rattle.std.specs.Prelude.{◌≡◌, ℕ, ◌+◌, ◌<◌, ◌&&◌, ◌==◌, Bool, true, Option, Some, None, List, [], map, replicate, IfSome, if◌then◌else◌}
+use Rattle.std.specs.List.{All, list_all, flat_map}
+use Rattle.std.specs.Str.{bytes_eq}
+use Rattle.std.specs.declared.result.Result.TheVariants.{Ok}
+use Rattle.quantity.specs.declared.delay.DelayKind.{DelayKind}
+use Rattle.quantity.specs.declared.value.Value.{Value}
+use Rattle.quantity.specs.declared.value.Value.TheVariants.{Undefined}
+use Rattle.rule_tree.specs.Expression.{Expr, Rule}
+use Rattle.rule_tree.specs.Meaning.{Sight}
+use Rattle.rule_tree.specs.Scope.{differ}
+use Rattle.rule_tree.specs.Ports.{by_port}
+use Rattle.rule_tree.specs.Chosen.{chosen}
+use Rattle.rule_eval.specs.RuleCodes.{Codes, codes_of}
+use Rattle.rule_eval.specs.declared.view.View.{View}
+use Rattle.cell_grid.specs.Space.{place_of, dims_of}
+use Rattle.cell_grid.specs.Neighbourhoods.{Neighbourhood, neighbours}
+use Rattle.model_tree.specs.declared.group.PortRule.{PortRule}
+use Rattle.model_tree.specs.Tree.{Word, Group}
+use Rattle.model_tree.specs.Pull.{cell_ports}
+use Rattle.model_tree.specs.Sound.{is_sound_group}
+use Rattle.run_model.specs.CellStep.{CellState, Stepped, and_took, by_rules, cell_rules}
+use Rattle.cell_table.specs.Table.{Table}
+use Rattle.cell_table.specs.Told.{cell_at, emitted_of}
+use Rattle.cell_engine.specs.Layout.{Layout, StandsFor}
+
+-- ---- what a cell sees
+
+-- what a neighbour gave at each of its ports, and `?` for one outside the space
+abbrev pub given_by : Table → Option ℕ → List Value
+given_by t None = replicate t.width Undefined
+given_by t (Some n) = emitted_of (cell_at t.cells n)
+
+-- each is a cell, or none
+abbrev pub AreCells : ℕ → List (Option ℕ) → Type 0
+AreCells count ns = All (λ (o : Option ℕ). IfSome o (λ n. n < count)) ns
+
+-- the neighbourhood that is kept
+abbrev pub near : Layout → Neighbourhood
+near l = record { space = l.space; offsets = l.offsets }
+
+-- a view of what a cell sees, but for its variables
+pub record LooksAt (v : View) (t : ℕ) (l : Layout) (tb : Table) (i : ℕ) : Type 0 where
+  pub time : v.time ≡ t
+  pub place : v.place ≡ place_of l.space i
+  pub dims : v.dims ≡ dims_of l.space
+  pub seen : v.neighbours.now ≡ flat_map (given_by tb) (neighbours (near l) i)
+  pub ports : v.ports + 1 ≡ tb.width
+  pub port : v.port ≡ Undefined
+  pub variables : v.variables.now ≡ []
+
+-- ---- what a cell takes
+
+-- these values at different ports are given port by port
+pub record AreGiven (gs : List (ℕ × Value)) (values : List (Option Value)) : Type 0 where
+  pub values_are : values ≡ by_port gs
+  pub apart : differ (map (λ (g : ℕ × Value). g.0) gs) ≡ true
+
+-- a rule gives at different ports
+abbrev pub gives_apart : Rule → Bool
+gives_apart r = differ (map (λ (g : ℕ × Expr). g.0) r.gives)
+
+-- codes are those of rules of which each gives at different ports
+pub record StandForRules (codes : List Codes) (rules : List Rule) : Type 0 where
+  pub codes_are : codes ≡ map codes_of rules
+  pub apart : list_all gives_apart rules ≡ true
+
+-- a cell after the first true rule over what it sees
+abbrev pub ruled : DelayKind → Sight → List Rule → CellState → Stepped
+ruled kind sight rules c = and_took kind sight.time c (chosen rules (record sight { variables = c.variables }))
+
+-- ---- the group
+
+-- a cell after its rules, where it is woken
+abbrev pub woken_at : Group → ℕ → Bool → Sight → ℕ → CellState → Stepped
+woken_at g t woken sight i c = if woken then by_rules g t sight (cell_rules g i) c else Ok c
+
+-- a rule is one for this port of this cell
+abbrev pub is_for : ℕ → Word → PortRule → Bool
+is_for cell port r = bytes_eq r.port port && (r.cell == cell)
+
+-- a sound group of which this is kept, and the names of a cell's ports
+pub record IsOfGroup (g : Group) (l : Layout) (ports : List Word) (i : ℕ) : Type 0 where
+  pub stands : StandsFor g l
+  pub sound : is_sound_group g ≡ true
+  pub ports_are : ports ≡ cell_ports g i
