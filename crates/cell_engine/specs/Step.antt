@@ -1,5 +1,5 @@
 -- The parts of a cell's step. Only private clauses name these.
-use Rattle.std.specs.Prelude.{◌≡◌, ℕ, ◌+◌, ◌<◌, ◌&&◌, ◌==◌, Bool, true, Option, Some, None, List, [], map, replicate, IfSome, if◌then◌else◌}
+use Rattle.std.specs.Prelude.{◌≡◌, ℕ, ◌+◌, ◌<◌, ◌≤◌, ◌&&◌, ◌==◌, Bool, true, Option, Some, None, List, [], map, replicate, IfSome, if◌then◌else◌}
 use Rattle.std.specs.List.{All, list_all, flat_map}
 use Rattle.std.specs.Str.{bytes_eq}
 use Rattle.std.specs.declared.result.Result.TheVariants.{Ok}
@@ -11,7 +11,7 @@ use Rattle.rule_tree.specs.Meaning.{Sight}
 use Rattle.rule_tree.specs.Scope.{differ}
 use Rattle.rule_tree.specs.Ports.{by_port}
 use Rattle.rule_tree.specs.Chosen.{chosen}
-use Rattle.rule_eval.specs.RuleCodes.{Codes, codes_of}
+use Rattle.rule_eval.specs.RuleCodes.{Codes, codes_of, rule_depth}
 use Rattle.rule_eval.specs.declared.view.View.{View}
 use Rattle.cell_grid.specs.Space.{place_of, dims_of}
 use Rattle.cell_grid.specs.Neighbourhoods.{Neighbourhood, neighbours}
@@ -68,6 +68,10 @@ pub record StandForRules (codes : List Codes) (rules : List Rule) : Type 0 where
 -- a cell after the first true rule over what it sees
 abbrev pub ruled : DelayKind → Sight → List Rule → CellState → Stepped
 ruled kind sight rules c = and_took kind sight.time c (chosen rules (record sight { variables = c.variables }))
+
+-- all rules are evaluated with so many answers on the stack
+abbrev pub NeedAtMost : ℕ → List (List Codes) → Type 0
+NeedAtMost depth codes = All (λ (rules : List Codes). All (λ (rule : Codes). rule_depth rule ≤ depth) rules) codes
 
 -- ---- the group
 

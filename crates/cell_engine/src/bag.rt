@@ -1,10 +1,10 @@
-// What one cell takes of a bag, and one step of it.
-ghost use Rattle.std.specs.Prelude.{◌≡◌, ◌<◌, ◌≤◌, Bool, Option, None, List, [], length, slice_index_or, IfSome, IsTrue};
+// One step of a cell: its rules where it is woken, and what it takes of its bag.
+ghost use Rattle.std.specs.Prelude.{◌≡◌, ◌<◌, ◌≤◌, Option, None, []};
+ghost use Rattle.std.specs.Prelude.{length, slice_index_or, IfSome, IsTrue};
 ghost use Rattle.std.specs.List.{All, find};
 ghost use Rattle.std.specs.Option.{option_map};
 ghost use Rattle.quantity.specs.declared.value.Value.{Value as AnyValue};
 ghost use Rattle.rule_tree.specs.Meaning.{Sight};
-ghost use Rattle.rule_eval.specs.RuleCodes.{Codes, rule_depth};
 ghost use Rattle.rule_eval.specs.Seen.{IsView, sight_of};
 ghost use Rattle.atomic_face.specs.declared.class.PortNo.{PortNo as Port};
 ghost use Rattle.cell_grid.specs.Space.{cell_count};
@@ -16,7 +16,7 @@ ghost use Rattle.cell_table.specs.Table.{HasShape};
 ghost use Rattle.cell_table.specs.Told.{cell_at, OnlyCell};
 ghost use Rattle.cell_engine.specs.Cells.{Computes};
 ghost use Rattle.cell_engine.specs.Layout.{StandsFor};
-ghost use Rattle.cell_engine.specs.Step.{IsOfGroup, is_for, woken_at};
+ghost use Rattle.cell_engine.specs.Step.{IsOfGroup, NeedAtMost, is_for, woken_at};
 
 use crate::CellStop;
 use crate::plan::Plan;
@@ -27,7 +27,8 @@ use model_tree::PortRule;
 use quantity::{Name, Time, Value};
 use rule_eval::{Given, RuleCode, Stack, View};
 
-/// A cell after its emission moves: where it is woken its rules are evaluated, and then each value of its bag is treated.
+/// A cell after its emission moves: where it is woken its rules are evaluated, and then each value
+/// of its bag is treated. `base` is what it sees but for its variables.
 pub(crate) fn advance(
     plan: &Plan,
     base: &View,
@@ -44,10 +45,12 @@ pub(crate) fn advance(
     requires cell { i < length table.old.cells }
     requires space { i < cell_count plan.now.space }
     requires changed { length changed.old ≡ table.old.variables }
-    requires depth { All (λ (rules : List Codes). All (λ rule. rule_depth rule ≤ stack.old.depth) rules) plan.now.codes }
+    requires depth { NeedAtMost stack.old.depth plan.now.codes }
     requires ports { All (λ (o : Port × AnyValue). o.0.0 < length ports.now) bag.now }
-    ensures cell { (g : Group) → IsOfGroup g plan.now ports.now i → Computes i table.old.cells table.new.cells
-        (cell_moved g i base.now.time woken (sight_of base.now) bag.now (cell_at table.old.cells i)) result }
+    ensures cell { (g : Group) → IsOfGroup g plan.now ports.now i
+        → Computes i table.old.cells table.new.cells
+        (cell_moved g i base.now.time woken (sight_of base.now) bag.now
+        (cell_at table.old.cells i)) result }
     ensures only { OnlyCell i table.old.cells table.new.cells }
     ensures shape { HasShape table.old table.new }
     ensures stack { stack.new ≡ stack.old }
@@ -71,9 +74,11 @@ fn wake(
     requires cell { i < length table.old.cells }
     requires space { i < cell_count plan.now.space }
     requires changed { length changed.old ≡ table.old.variables }
-    requires depth { All (λ (rules : List Codes). All (λ rule. rule_depth rule ≤ stack.old.depth) rules) plan.now.codes }
-    ensures cell { (g : Group) → StandsFor g plan.now → IsTrue (is_sound_group g) → Computes i table.old.cells table.new.cells
-        (woken_at g base.now.time woken (sight_of base.now) i (cell_at table.old.cells i)) result }
+    requires depth { NeedAtMost stack.old.depth plan.now.codes }
+    ensures cell { (g : Group) → StandsFor g plan.now → IsTrue (is_sound_group g)
+        → Computes i table.old.cells table.new.cells
+        (woken_at g base.now.time woken (sight_of base.now) i
+        (cell_at table.old.cells i)) result }
     ensures only { OnlyCell i table.old.cells table.new.cells }
     ensures shape { HasShape table.old table.new }
     ensures stack { stack.new ≡ stack.old }
@@ -101,10 +106,12 @@ fn treat_all(
     requires time { base.now.time ≤ 359999999 }
     requires cell { i < length table.old.cells }
     requires changed { length changed.old ≡ table.old.variables }
-    requires depth { All (λ (rules : List Codes). All (λ rule. rule_depth rule ≤ stack.old.depth) rules) plan.now.codes }
+    requires depth { NeedAtMost stack.old.depth plan.now.codes }
     requires ports { All (λ (o : Port × AnyValue). o.0.0 < length ports.now) bag.now }
-    ensures cell { (g : Group) → IsOfGroup g plan.now ports.now i → Computes i table.old.cells table.new.cells
-        (all_treated g i base.now.time (sight_of base.now) bag.now (cell_at table.old.cells i)) result }
+    ensures cell { (g : Group) → IsOfGroup g plan.now ports.now i
+        → Computes i table.old.cells table.new.cells
+        (all_treated g i base.now.time (sight_of base.now) bag.now
+        (cell_at table.old.cells i)) result }
     ensures only { OnlyCell i table.old.cells table.new.cells }
     ensures shape { HasShape table.old table.new }
     ensures stack { stack.new ≡ stack.old }
@@ -133,10 +140,12 @@ fn treat_one(
     requires time { base.now.time ≤ 359999999 }
     requires cell { i < length table.old.cells }
     requires changed { length changed.old ≡ table.old.variables }
-    requires depth { All (λ (rules : List Codes). All (λ rule. rule_depth rule ≤ stack.old.depth) rules) plan.now.codes }
+    requires depth { NeedAtMost stack.old.depth plan.now.codes }
     requires port { input.now.0.0 < length ports.now }
-    ensures cell { (g : Group) → IsOfGroup g plan.now ports.now i → Computes i table.old.cells table.new.cells
-        (treated g i base.now.time (sight_of base.now) input.now (cell_at table.old.cells i)) result }
+    ensures cell { (g : Group) → IsOfGroup g plan.now ports.now i
+        → Computes i table.old.cells table.new.cells
+        (treated g i base.now.time (sight_of base.now) input.now
+        (cell_at table.old.cells i)) result }
     ensures only { OnlyCell i table.old.cells table.new.cells }
     ensures shape { HasShape table.old table.new }
     ensures stack { stack.new ≡ stack.old }
@@ -146,7 +155,8 @@ fn treat_one(
     treat(plan, base, i, name, input.1, table, changed, stack)
 }
 
-/// A value at a port of a cell: the rules for that port with the value there, or the value itself after the default delay.
+/// A value at a port of a cell: the rules for that port with the value there, or the value itself
+/// after the default delay.
 fn treat(
     plan: &Plan,
     base: &View,
@@ -161,9 +171,11 @@ fn treat(
     requires time { base.now.time ≤ 359999999 }
     requires cell { i < length table.old.cells }
     requires changed { length changed.old ≡ table.old.variables }
-    requires depth { All (λ (rules : List Codes). All (λ rule. rule_depth rule ≤ stack.old.depth) rules) plan.now.codes }
-    ensures cell { (g : Group) → StandsFor g plan.now → IsTrue (is_sound_group g) → Computes i table.old.cells table.new.cells
-        (by_port g base.now.time (sight_of base.now) value (port_rules g i port.now) (cell_at table.old.cells i)) result }
+    requires depth { NeedAtMost stack.old.depth plan.now.codes }
+    ensures cell { (g : Group) → StandsFor g plan.now → IsTrue (is_sound_group g)
+        → Computes i table.old.cells table.new.cells
+        (by_port g base.now.time (sight_of base.now) value (port_rules g i port.now)
+        (cell_at table.old.cells i)) result }
     ensures only { OnlyCell i table.old.cells table.new.cells }
     ensures shape { HasShape table.old table.new }
     ensures stack { stack.new ≡ stack.old }
@@ -196,7 +208,8 @@ fn take_itself(
 ) -> Result<(), CellStop>
     requires time { t ≤ 359999999 }
     requires cell { i < length table.old.cells }
-    ensures cell { (g : Group) → StandsFor g plan.now → (sight : Sight) → Computes i table.old.cells table.new.cells
+    ensures cell { (g : Group) → StandsFor g plan.now → (sight : Sight)
+        → Computes i table.old.cells table.new.cells
         (by_port g t sight value None (cell_at table.old.cells i)) result }
     ensures only { OnlyCell i table.old.cells table.new.cells }
     ensures shape { HasShape table.old table.new }
@@ -230,7 +243,8 @@ fn codes_at(plan: &Plan, set: usize) -> &[RuleCode]
 
 /// The number of the rule set for a port of a cell, where there is one.
 fn rules_for(plan: &Plan, cell: u32, port: &Name) -> Option<usize>
-    ensures value { result ≡ option_map (λ (r : Ruling). r.rules) (find (is_for cell port.now) plan.now.port_rules) }
+    ensures value { result ≡ option_map (λ (r : Ruling). r.rules)
+        (find (is_for cell port.now) plan.now.port_rules) }
     ensures within { IfSome result (λ k. k < length plan.now.codes) }
 {
     for rule in &plan.port_rules {

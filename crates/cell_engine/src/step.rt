@@ -1,5 +1,6 @@
 // What one cell takes by a set of rules.
-ghost use Rattle.std.specs.Prelude.{◌≡◌, ℕ, ◌+◌, ◌<◌, ◌≤◌, List, length, OnOk, OnErr, slice_set};
+ghost use Rattle.std.specs.Prelude.{◌≡◌, ℕ, ◌+◌, ◌<◌, ◌≤◌, List, length};
+ghost use Rattle.std.specs.Prelude.{OnOk, OnErr, slice_set};
 ghost use Rattle.std.specs.List.{All};
 ghost use Rattle.quantity.specs.declared.value.Value.{Value as AnyValue};
 ghost use Rattle.rule_tree.specs.Expression.{Rule};
@@ -17,7 +18,8 @@ use quantity::{DelayKind, OutOfMemory, Time, Value};
 use rule_eval::{Given, RuleCode, Stack, View, evaluate};
 use rule_tree::RuleStop;
 
-/// A cell takes what the first true rule gives over what it sees. `base` is what it sees but for its variables.
+/// A cell takes what the first true rule gives over what it sees. `base` is what it sees but for its
+/// variables.
 pub(crate) fn by_rules(
     rules: &[RuleCode],
     base: &View,
@@ -33,7 +35,8 @@ pub(crate) fn by_rules(
     requires changed { length changed.old ≡ table.old.variables }
     requires depth { All (λ rule. rule_depth rule ≤ stack.old.depth) rules.now }
     // For all rules that the codes stand for.
-    ensures cell { (trees : List Rule) → StandForRules rules.now trees → Computes i table.old.cells table.new.cells
+    ensures cell { (trees : List Rule) → StandForRules rules.now trees
+        → Computes i table.old.cells table.new.cells
         (ruled kind (sight_of base.now) trees (cell_at table.old.cells i)) result }
     ensures only { OnlyCell i table.old.cells table.new.cells }
     ensures shape { HasShape table.old table.new }
@@ -57,7 +60,8 @@ pub(crate) fn by_rules(
     }
 }
 
-/// The time that is so much later, for a delay that a rule may have.
+/// The time that is so much later, for a delay that a rule may have. No other comes here, but what
+/// evaluation promises of a delay is said only of rules that stand for the codes.
 fn later(t: Time, delay: Time) -> Time
     requires { t ≤ 359999999 }
     ensures { delay ≤ 359999999 → result ≡ t + delay }
@@ -90,8 +94,11 @@ fn take_made(
 ) -> Result<(), CellStop>
     requires cell { i < length table.old.cells }
     requires variables { length variables.now ≡ table.old.variables }
-    ensures cell { (gs : List (ℕ × AnyValue)) → AreGiven gs given.now.values → OnOk result (table.new.cells
-        ≡ slice_set table.old.cells i (record { ports = took kind at gs (cell_at table.old.cells i).ports; variables = variables.now })) }
+    ensures cell { (gs : List (ℕ × AnyValue)) → AreGiven gs given.now.values
+        → OnOk result (table.new.cells ≡ slice_set table.old.cells i (record {
+          ports = took kind at gs (cell_at table.old.cells i).ports;
+          variables = variables.now;
+        })) }
     ensures memory { OnErr result (result ≡ Err CellStop.Memory) }
     ensures only { OnlyCell i table.old.cells table.new.cells }
     ensures shape { HasShape table.old table.new }
