@@ -1,10 +1,10 @@
 -- The cells of groups, counted one after another.
-use Rattle.std.proofs.Common.{◌≡◌, ℕ, ◌+◌, ◌<◌, ◌≤◌, Bool, true, false, cond, Option, Some, None, List, [], ◌∷◌, length, get_or, drop, nat_lt, refl, sym, ap, ◌∙◌, Bor, arith}
+use Rattle.std.proofs.Common.{◌≡◌, ℕ, ◌+◌, ◌<◌, ◌≤◌, true, false, cond, Option, Some, None, List, length, get_or, drop, nat_lt, sym, ap, ◌∙◌, Bor, arith}
 use Rattle.std.specs.Option.{option_or}
 use Rattle.std.proofs.lemmas.Bool.Decides.{nat_tests}
 use Rattle.cell_grid.specs.Space.{cell_count}
 use Rattle.ma_lines.specs.declared.section.Section as code
-use Rattle.ma_lines.specs.Sections.{Section, section_of}
+use Rattle.ma_lines.specs.Sections.{section_of}
 use Rattle.model_text.specs.declared.kind.Kind.TheVariants.{TooLarge}
 use Rattle.model_text.specs.Refusals.{Refusal, refusal}
 use Rattle.model_text.specs.Spaces.{space_of, first_large}

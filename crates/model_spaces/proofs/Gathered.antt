@@ -1,5 +1,5 @@
 -- Offsets that are gathered one by one are the first 129 of the different ones.
-use Rattle.std.proofs.Common.{◌≡◌, ℕ, suc, ◌+◌, ◌<◌, ◌≤◌, Bool, true, false, not, cond, ◌||◌, List, [], ◌∷◌, ◌++◌, map, length, take, nat_lt, refl, sym, ap, ◌∙◌, append-nil, append_assoc, arith, length-append}
+use Rattle.std.proofs.Common.{◌≡◌, ◌≤◌, Bool, true, false, not, cond, ◌||◌, List, [], ◌∷◌, ◌++◌, length, take, nat_lt, refl, sym, ap, ◌∙◌, append-nil, append_assoc, arith, length-append}
 use Rattle.std.specs.Prelude.{◌&&◌, ℤ, ◌-ℤ◌}
 use Rattle.std.specs.List.{filter, list_any}
 use Rattle.std.proofs.lemmas.List.{take_all, take-append-le}
@@ -9,7 +9,7 @@ use Rattle.quantity.specs.Arithmetic.{is_zero}
 use Rattle.quantity.specs.declared.place.Offset.{Offset}
 use Rattle.rule_tree.specs.Scope.{same_offset}
 use Rattle.model_text.specs.Spaces.{distinct_offsets}
-use Rattle.model_spaces.specs.Tested.{taken, gathered}
+use Rattle.model_spaces.specs.Tested.{gathered}
 
 abbrev among : List Offset → Offset → Bool
 among found p = list_any (λ q. same_offset q p) found

@@ -1,7 +1,7 @@
 -- What is kept of lists, element by element.
-use Rattle.std.proofs.Common.{◌≡◌, ℕ, suc, ◌+◌, ◌<◌, ◌≤◌, Bool, true, false, cond, Option, Some, None, List, [], ◌∷◌, ◌++◌, map, length, get_or, drop, option_to_list, refl, sym, ap, ◌∙◌, arith}
-use Rattle.std.proofs.lemmas.List.{drop_more, append_assoc, append-nil}
-use Rattle.std.specs.List.{filter, filter_map, cons_option, flat_map, list_all, fold}
+use Rattle.std.proofs.Common.{◌≡◌, ℕ, suc, ◌+◌, ◌<◌, Bool, true, false, cond, Option, Some, None, List, [], ◌∷◌, ◌++◌, map, length, get_or, drop, option_to_list, refl, sym, ap, ◌∙◌, arith}
+use Rattle.std.proofs.lemmas.List.{drop_more, append_assoc}
+use Rattle.std.specs.List.{filter, cons_option, flat_map, list_all}
 use Rattle.std.specs.List.{AllByRecursion}
 use Rattle.std.specs.Prelude.{◌&&◌}
 use Rattle.model_text.specs.Refusals.{Refusal}

@@ -1,6 +1,5 @@
 -- Offsets gathered one by one.
-use Rattle.std.proofs.Common.{◌≡◌, ℕ, ◌+◌, Bool, true, false, List, [], ◌∷◌, ◌++◌, map, refl, sym, ap, ◌∙◌}
-use Rattle.std.specs.List.{filter, flat_map, fold}
+use Rattle.std.proofs.Common.{◌≡◌, List, ◌++◌}
 use Rattle.std.proofs.lemmas.List.Sums.{fold-append}
 use Rattle.quantity.specs.declared.place.Offset.{Offset}
 use Rattle.model_spaces.specs.Tested.{taken, gathered}

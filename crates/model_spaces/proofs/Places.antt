@@ -4,7 +4,6 @@ use Rattle.std.specs.Prelude.{◌&&◌, ℤ}
 use Rattle.std.specs.List.{filter, flat_map, list_all}
 use Rattle.std.specs.Option.{unwrap_or}
 use Rattle.std.specs.Str.{bytes_eq}
-use Rattle.quantity.specs.Bytes.{Bytes}
 use Rattle.quantity.specs.declared.place.Offset.{Offset}
 use Rattle.source_text.specs.declared.tuple.NamedTuple as kept
 use Rattle.source_text.specs.Shown.{numbers_of, named_of}

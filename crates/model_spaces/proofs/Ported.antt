@@ -13,12 +13,12 @@ use Rattle.ma_lines.specs.declared.section.Entry.{Entry}
 use Rattle.ma_lines.specs.Sections.{Section}
 use Rattle.model_text.specs.declared.kind.Kind.TheVariants.{BadValue}
 use Rattle.model_text.specs.Refusals.{Refusal, refusal}
-use Rattle.model_text.specs.Keyed.{Item, least, at_entry}
+use Rattle.model_text.specs.Keyed.{least, at_entry}
 use Rattle.model_text.specs.Rules.{name_at, port_item}
 use Rattle.model_text.specs.Spaces.{PortPlace, port_place, same_cell, same_place, is_new_place, ports_refused}
 use Rattle.model_walk.specs.Least.{merged}
 use Rattle.model_walk.proofs.Orders.{least_step}
-use Rattle.model_spaces.specs.Ported.{cell_port, with_place, in_space, place_in, item_in, port_entries, refused_after, with_port, seen_after, AddsPorts}
+use Rattle.model_spaces.specs.Ported.{cell_port, in_space, place_in, item_in, port_entries, refused_after, with_port, seen_after, AddsPorts}
 use Rattle.model_spaces.specs.declared.placed.PlacedRule.{PlacedRule}
 use Rattle.model_spaces.specs.Placed.{place_shown, rule_shown}
 use Rattle.model_spaces.proofs.Kept.{drop_at, filter-first}

@@ -1,5 +1,5 @@
 -- Groups that are read one after another.
-use Rattle.std.proofs.Common.{◌≡◌, ℕ, ◌+◌, ◌<◌, List, [], ◌∷◌, ◌++◌, map, length, get_or, take, refl, sym, ap, ◌∙◌, Bor}
+use Rattle.std.proofs.Common.{◌≡◌, ℕ, ◌+◌, ◌<◌, List, [], ◌∷◌, ◌++◌, map, length, get_or, take, sym, ap, ◌∙◌, Bor}
 use Rattle.std.proofs.lemmas.List.{map-append, take_more}
 use Rattle.ma_lines.specs.declared.section.Section as code
 use Rattle.ma_lines.specs.Sections.{section_of}

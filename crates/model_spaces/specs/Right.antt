@@ -1,5 +1,5 @@
 -- Private: groups that can be held, and groups whose spaces are right.
-use Rattle.std.specs.Prelude.{◌≡◌, ◌≤◌, None, Some, is_some, Bool, List}
+use Rattle.std.specs.Prelude.{◌≡◌, ◌≤◌, None}
 use Rattle.cell_grid.specs.Space.{CanHold}
 use Rattle.ma_lines.specs.Sections.{Section}
 use Rattle.model_text.specs.Keyed.{least}

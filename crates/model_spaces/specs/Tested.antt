@@ -1,11 +1,10 @@
 -- Private: entries of a group that are tested one by one, and offsets that are gathered one by one.
-use Rattle.std.specs.Prelude.{ℕ, Bool, ◌||◌, nat_lt, List, [], ◌∷◌, ◌++◌, map, length, ℤ, fold, codes, if◌then◌else◌}
+use Rattle.std.specs.Prelude.{Bool, ◌||◌, nat_lt, List, [], ◌∷◌, ◌++◌, map, length, ℤ, fold, codes, if◌then◌else◌}
 use Rattle.std.specs.List.{filter, flat_map, list_all, list_any}
-use Rattle.std.specs.Option.{is_some, unwrap_or}
+use Rattle.std.specs.Option.{is_some}
 use Rattle.std.specs.Str.{bytes_eq}
 use Rattle.quantity.specs.Bytes.{Bytes}
 use Rattle.quantity.specs.declared.place.Offset.{Offset}
-use Rattle.source_text.specs.Tuples.{NamedTuple}
 use Rattle.cell_grid.specs.Space.{Space}
 use Rattle.cell_grid.specs.Places.{is_offset}
 use Rattle.cell_grid.specs.ZoneTexts.{zone_in}

@@ -1,8 +1,6 @@
-use Rattle.std.proofs.Common.{◌≡◌, None, List, map, Bor, ap, ◌∙◌, rules, sym}
+use Rattle.std.proofs.Common.{◌≡◌, None, ap, ◌∙◌, rules, sym}
 use Rattle.std.specs.List.{filter}
 use Rattle.std.specs.Option.{option_map}
-use Rattle.ma_lines.specs.declared.section.Section as code
-use Rattle.ma_lines.specs.Sections.{Section, section_of}
 use Rattle.model_text.specs.Walk.{is_group, groups}
 use Rattle.model_text.specs.Keyed.{least}
 use Rattle.model_walk.specs.Shown.{refusal_of}

@@ -1,4 +1,4 @@
-use Rattle.std.proofs.Common.{◌≡◌, ◌≤◌, ◌<◌, ◌+◌, Some, ap, ◌∙◌, Bor, arith}
+use Rattle.std.proofs.Common.{◌≤◌, ◌<◌, ◌+◌, Some, ap, ◌∙◌, Bor, arith}
 use Rattle.ma_lines.specs.declared.section.Section as code
 use Rattle.ma_lines.specs.Sections.{section_of}
 use Rattle.cell_grid.specs.Space.{cell_count}

@@ -1,4 +1,4 @@
-use Rattle.std.proofs.Common.{◌≡◌, map, take, Bor}
+use Rattle.std.proofs.Common.{◌≡◌, map, take}
 use Rattle.model_walk.specs.declared.item.Item.{Item}
 use Rattle.model_spaces.proofs.keyed.all_names.Given as goal
 

@@ -1,4 +1,4 @@
-use Rattle.std.proofs.Common.{◌∷◌, [], List, drop, take, ap, ◌∙◌, sym, refl}
+use Rattle.std.proofs.Common.{◌∷◌, [], List, ap, ◌∙◌, sym}
 use Rattle.std.proofs.lemmas.List.{drop_all}
 use Rattle.ma_lines.specs.declared.section.Entry.{Entry}
 use Rattle.ma_lines.specs.Sections.{section_of}

@@ -1,4 +1,4 @@
-use Rattle.std.proofs.Common.{List, ap, ◌∙◌, sym}
+use Rattle.std.proofs.Common.{List, ap, ◌∙◌}
 use Rattle.std.specs.List.{list_all}
 use Rattle.source_text.specs.declared.tuple.NamedTuple.{NamedTuple}
 use Rattle.source_text.specs.Shown.{numbers_of}

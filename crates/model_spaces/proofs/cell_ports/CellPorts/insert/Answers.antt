@@ -1,4 +1,4 @@
-use Rattle.std.proofs.Common.{sym, ap, ◌∙◌, not, List, map}
+use Rattle.std.proofs.Common.{ap, ◌∙◌, not, List, map}
 use Rattle.std.specs.List.{list_any}
 use Rattle.model_text.specs.Spaces.{PortPlace, same_place}
 use Rattle.model_spaces.specs.Ported.{cell_port, with_place}
