@@ -1,22 +1,44 @@
 -- A cell that is due gives at least one value.
-use Rattle.std.proofs.Common.{◌≡◌, ℕ, ◌+◌, ◌≤◌, min, Bool, true, false, cond, eqb, eq-eqb, Option, Some, None, List, [], ◌∷◌, ◌++◌, length, refl, sym, ◌∙◌, ap, subst, arith, length-append}
+use Rattle.std.proofs.Common.{◌≡◌, ◌≢◌, ℕ, ◌+◌, ◌≤◌, min, Bool, true, false, true≢false, cond, eqb, eqb-true, eq-eqb, Option, Some, None, List, [], ◌∷◌, ◌++◌, length, refl, sym, ◌∙◌, ap, arith, length-append}
+use Rattle.std.specs.Prelude.{if◌then◌else◌}
 use Rattle.std.specs.List.{flat_map, enumerate_from}
-use Rattle.std.specs.Option.{unwrap_or}
 use Rattle.atomic_face.specs.Classes.{Bag, is_at}
-use Rattle.run_model.specs.CellStep.{PortState, CellState, first_time, least, next_of_ports, cell_next, port_output, cell_output}
+use Rattle.run_model.specs.CellStep.{PortState, CellState, first_time, least, next_of_ports, cell_next, port_emitted, port_output, cell_output}
 use Rattle.run_leaves.proofs.Places.{none-some, some-is}
 
 -- the least of two times is one of them
-least-is : (a b : Option ℕ) (t : ℕ) → least a b ≡ Some t → (P : Type 0) → (a ≡ Some t → P) → (b ≡ Some t → P) → P
-least-is None b t e P left right = right e
-least-is (Some m) None t e P left right = left e
-least-is (Some m) (Some n) t e P left right = by (min m n ≤? m) where
-  by : P → P
-  by p = p
+least-is : (P : Type 0) (a b : Option ℕ) (t : ℕ) → least a b ≡ Some t → (a ≡ Some t → P) → (b ≡ Some t → P) → P
+least-is P None b t e left right = right e
+least-is P (Some m) None t e left right = left e
+least-is P (Some m) (Some n) t e left right = by (eqb m t) refl
+  where
+    low : min m n ≡ t
+    low = some-is (min m n) t e
+
+    by : (b : Bool) → eqb m t ≡ b → P
+    by true is = left (ap Some (eqb-true m t is))
+    by false is =
+        let differ : m ≢ t = λ same. true≢false (sym (eq-eqb m t same) ∙ is) in
+        let other : n ≡ t = omega (arith, low, differ) in
+        right (ap Some other)
 
 at-now : (t : ℕ) (o : Option ℕ) → o ≡ Some t → is_at t o ≡ true
 at-now t None e = absurd (none-some e)
 at-now t (Some n) e = eq-eqb n t (some-is n t e)
 
 first-gives : (t k : ℕ) (p : PortState) → first_time p.pairs ≡ Some t → length (port_output t (k, p)) ≡ 1
-first-gives t k p e = ap (λ b. length (cond b ((record { 0 = k }, _) ∷ []) [])) (at-now t (first_time p.pairs) e)
+first-gives t k p e = ap (λ b. length (one b)) (at-now t (first_time p.pairs) e)
+  where
+    one : Bool → Bag
+    one b = if b then (record { 0 = k }, (port_emitted t p).emitted) ∷ [] else []
+
+ports-give : (t k : ℕ) (ps : List PortState) → next_of_ports ps ≡ Some t → 1 ≤ length (flat_map (port_output t) (enumerate_from k ps))
+ports-give t k [] e = absurd (none-some e)
+ports-give t k (p ∷ ps) e =
+    let long = length-append (port_output t (k, p)) (flat_map (port_output t) (enumerate_from (k + 1) ps)) in
+    least-is (1 ≤ length (port_output t (k, p) ++ flat_map (port_output t) (enumerate_from (k + 1) ps))) (first_time p.pairs) (next_of_ports ps) t e
+    (λ left. let one = first-gives t k p left in omega (arith, long, one))
+    (λ right. let more = ports-give t (k + 1) ps right in omega (arith, long, more))
+
+pub due-gives : (t : ℕ) (c : CellState) → cell_next c ≡ Some t → 1 ≤ length (cell_output t c)
+due-gives t c e = ports-give t 0 c.ports e

@@ -1,3 +1,5 @@
 pub mod Places
 pub mod Moved
 pub mod Emitting
+pub mod Inside
+pub mod Stepped

@@ -72,3 +72,17 @@ pub map-kept : {A B : Type 0} (f : A → B) (xs : List A) (l : ℕ) (x y : A) �
 map-kept f [] l x y at same = refl
 map-kept f (a ∷ xs) zero x y at same = λ i. (same ∙ ap f (sym (some-is a x at))) i ∷ map f xs
 map-kept f (a ∷ xs) (suc l) x y at same = λ i. f a ∷ map-kept f xs l x y at same i
+
+-- an element that was read
+pub read-at : {A : Type 0} (xs : List A) (l : ℕ) (o : A) → l < length xs → o ≡ slice_index_or xs l o → slice_get xs l ≡ Some o
+read-at xs l o lt read = within-get xs l o lt ∙ ap Some (sym read)
+
+-- what stands where something was made of it
+pub get-map-back : {A B : Type 0} (f : A → B) (xs : List A) (l : ℕ) (y : B) (x : A) → slice_get (map f xs) l ≡ Some y → slice_get xs l ≡ Some x → f x ≡ y
+get-map-back f xs l y x made at = some-is (f x) y (sym (get-map f xs l x at) ∙ made)
+
+-- what stands at a place that there is
+pub found-at : {A : Type 0} (xs : List A) (l : ℕ) → l < length xs → (x : A) × (slice_get xs l ≡ Some x)
+found-at [] l lt = absurd (omega (arith, lt))
+found-at (a ∷ xs) zero lt = (a, refl)
+found-at (a ∷ xs) (suc l) lt = found-at xs l (omega (arith, lt))

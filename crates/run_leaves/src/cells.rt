@@ -1,7 +1,8 @@
 // What one cell gives, and how it moves.
-ghost use Rattle.std.specs.Prelude.{◌≡◌, ℕ, ◌+◌, ◌<◌, ◌≤◌, ◌++◌, Some, [], ◌∷◌, length, OnOk, IsTrue, slice_index};
+ghost use Rattle.std.specs.Prelude.{◌≡◌, ℕ, ◌+◌, ◌<◌, ◌≤◌, ◌++◌, Some, [], ◌∷◌, length, OnOk, IsTrue, slice_index_or};
 ghost use Rattle.std.specs.List.{All};
 ghost use Rattle.quantity.specs.declared.value.Value.{Value as AnyValue};
+ghost use Rattle.quantity.specs.declared.value.Value.TheVariants.{Undefined};
 ghost use Rattle.atomic_face.specs.declared.class.PortNo.{PortNo as AnyPort};
 ghost use Rattle.model_tree.specs.Tree.{Group};
 ghost use Rattle.model_tree.specs.Pull.{cell_ports};
@@ -96,7 +97,7 @@ pub(crate) fn move_cell<L: Ledger>(
 
 /// What is told of a cell that moved.
 fn told_of(cell: Cell) -> Told
-    ensures value { result.value ≡ Some (slice_index cell.computed 0) }
+    ensures value { result.value ≡ Some (slice_index_or cell.computed 0 Undefined) }
     ensures next { result.next ≡ cell.next }
 {
     Told {

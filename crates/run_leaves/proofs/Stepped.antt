@@ -1,0 +1,100 @@
+-- A step of one cell or one box, as it is told.
+use Rattle.std.proofs.Common.{◌≡◌, ℕ, suc, ◌<◌, ◌≤◌, Option, Some, None, List, [], ◌∷◌, map, length, Ok, Err, refl, sym, ◌∙◌, ap, subst, arith}
+use Rattle.std.specs.Prelude.{slice_get, slice_set, slice_index_or, ℤ}
+use Rattle.std.specs.List.{HoldsAt}
+use Rattle.std.specs.declared.result.Result.{Result}
+use Rattle.std.proofs.lemmas.List.{get_or-set_same}
+use Rattle.quantity.specs.declared.value.Value.{Value}
+use Rattle.quantity.specs.declared.value.Value.TheVariants.{Undefined}
+use Rattle.rule_tree.specs.declared.outcome.RuleStop.{RuleStop}
+use Rattle.rule_tree.specs.declared.outcome.RuleStop.TheVariants as rules
+use Rattle.atomic_face.specs.Held.{Held}
+use Rattle.atomic_face.specs.Classes.{Bag}
+use Rattle.atomic_face.specs.Moves.{next_of_box, with_state, AdvanceGives}
+use Rattle.atomic_face.specs.StockView.{Stocked}
+use Rattle.atomic_face.specs.Stocked.{ChangesBox}
+use Rattle.run_model.specs.CellStep.{PortState, CellState, Stepped, cell_next}
+use Rattle.run_model.specs.Cycle.{cell_state}
+use Rattle.run_model.specs.Run as run
+use Rattle.cell_engine.specs.declared.cell.Cell.{Cell}
+use Rattle.cell_engine.specs.declared.cell.CellStop.{CellStop}
+use Rattle.cell_engine.specs.declared.cell.CellStop.TheVariants as cell
+use Rattle.cell_engine.specs.Cells.{no_cell, cell_at, computed_of, in_four, Tells, Computes, OnlyCell, emitted_of, stop_of}
+use Rattle.cycle_steps.specs.declared.halt.Told.{Told}
+use Rattle.cycle_steps.specs.declared.halt.LeafStop.{LeafStop}
+use Rattle.run_leaves.specs.Seated.{HasPort}
+use Rattle.run_leaves.specs.Moving.{MovesCell, HasMovedCell, leaf_stop, MovesBox, GoesTo, HasMovedBox, with_box}
+use Rattle.run_leaves.proofs.Places.{get-set, index-get}
+
+-- ---- a cell
+
+first-computed : (ps : List PortState) → 1 ≤ length ps → Some (slice_index_or (in_four (map (λ (p : PortState). p.computed) ps)) 0 Undefined) ≡ run.computed_of (cell_state (record { ports = ps; variables = [] }))
+first-computed [] le = absurd (omega (arith, le))
+first-computed (p ∷ ps) le = refl
+
+ports-long : (old new : List CellState) (i : ℕ) → OnlyCell i old new → length (cell_at new i).ports ≡ length (cell_at old i).ports
+ports-long old new i only =
+    sym (mapped (cell_at new i).ports) ∙ ap (λ (vs : List Value). length vs) only.emitted ∙ mapped (cell_at old i).ports
+  where
+    mapped : (ps : List PortState) → length (map (λ (p : PortState). p.emitted) ps) ≡ length ps
+    mapped [] = refl
+    mapped (p ∷ ps) = ap (λ n. suc n) (mapped ps)
+
+-- a cell keeps its ports, however its step ends
+pub port-stays : (old new : List CellState) (i : ℕ) → OnlyCell i old new → HasPort (cell_at old i) → HasPort (cell_at new i)
+port-stays old new i only has = let long = ports-long old new i only in omega (arith, has, long)
+
+told-by : (old new : List CellState) (i : ℕ) (c : CellState) (told : Cell) (t : Told) → i < length old → HasPort (cell_at new i) → new ≡ slice_set old i c → Tells told (cell_at new i)
+    → t.value ≡ Some (slice_index_or told.computed 0 Undefined) → t.next ≡ told.next → HasMovedCell old new i c t
+told-by old new i c told t lt has made tells value next =
+    let here : cell_at new i ≡ c = ap (λ cs. cell_at cs i) made ∙ get_or-set_same old i c no_cell lt in
+    record {
+      cells = made;
+      value = value ∙ ap (λ (vs : List Value). Some (slice_index_or vs 0 Undefined)) tells.computed ∙ first-computed (cell_at new i).ports has ∙ ap (λ (x : CellState). run.computed_of (cell_state x)) here;
+      next = next ∙ tells.next ∙ ap cell_next here;
+    }
+
+pub moves-ok : {U : Type 0} (u : U) (old new : List CellState) (i : ℕ) (step : Stepped) (told : Cell) (t : Told) → i < length old → HasPort (cell_at old i) → OnlyCell i old new
+    → Computes i old new step (let r : Result U CellStop = Ok u in r) → Tells told (cell_at new i) → t.value ≡ Some (slice_index_or told.computed 0 Undefined) → t.next ≡ told.next → MovesCell old new i step (Ok t)
+moves-ok u old new i (Ok c) told t lt has only made tells value next = told-by old new i c told t lt (port-stays old new i only has) made tells value next
+moves-ok u old new i (Err why) told t lt has only made tells value next = made
+
+stop-is : (why : RuleStop) (stop : CellStop) → stop ≡ stop_of why → leaf_stop stop ≡ leaf_stop (stop_of why)
+stop-is why stop e = ap leaf_stop e
+
+pub moves-err : (U : Type 0) (old new : List CellState) (i : ℕ) (step : Stepped) (stop : CellStop) → Computes i old new step (let r : Result U CellStop = Err stop in r) → MovesCell old new i step (Err (leaf_stop stop))
+moves-err U old new i (Ok c) cell.Memory made = tt
+moves-err U old new i (Ok c) cell.NoTrueRule made = made
+moves-err U old new i (Ok c) cell.Overflow made = made
+moves-err U old new i (Ok c) (cell.BadDelay v) made = made
+moves-err U old new i (Err why) cell.Memory made = tt
+moves-err U old new i (Err rules.NoTrueRule) cell.NoTrueRule made = refl
+moves-err U old new i (Err rules.Overflow) cell.NoTrueRule made = absurd cc
+moves-err U old new i (Err (rules.BadDelay w)) cell.NoTrueRule made = absurd cc
+moves-err U old new i (Err rules.NoTrueRule) cell.Overflow made = absurd cc
+moves-err U old new i (Err rules.Overflow) cell.Overflow made = refl
+moves-err U old new i (Err (rules.BadDelay w)) cell.Overflow made = absurd cc
+moves-err U old new i (Err rules.NoTrueRule) (cell.BadDelay v) made = absurd cc
+moves-err U old new i (Err rules.Overflow) (cell.BadDelay v) made = absurd cc
+moves-err U old new i (Err (rules.BadDelay w)) (cell.BadDelay v) made = ap rules.BadDelay (inner made)
+  where
+    inner : cell.BadDelay v ≡ cell.BadDelay w → v ≡ w
+    inner e = cc
+
+-- ---- a box
+
+pub box-moves : {U : Type 0} (u : U) (t : ℕ) (bag : Bag) (at : ℕ) (old new : List Stocked) (told : Told)
+    → ChangesBox (λ b s. AdvanceGives t bag b s (Ok u)) at old new → told.value ≡ None → HoldsAt (λ (s : Stocked). told.next ≡ next_of_box s.box) new at → MovesBox t bag at old new (Ok told)
+box-moves u t bag at old new told changes value there =
+    let made : Stocked = record changes.before { box = changes.after } in
+    let stands : slice_get new at ≡ Some made = ap (λ ss. slice_get ss at) changes.list ∙ get-set old at changes.before made changes.stood in
+    let box = with_state changes.before.box changes.after.state in
+    record {
+      before = changes.before;
+      stood = changes.stood;
+      goes = subst (λ o. GoesTo old new at changes.before o (Ok told)) (sym changes.made.0) (record {
+        stock = changes.list ∙ ap (λ b. slice_set old at (with_box changes.before b)) changes.made.1;
+        value = value;
+        next = there made ∙ ap (λ (s : Stocked). next_of_box s.box) (index-get new at made made stands) ∙ ap next_of_box changes.made.1;
+      });
+    }
