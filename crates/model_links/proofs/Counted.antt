@@ -1,7 +1,7 @@
 -- How many links there are, section by section.
-use Rattle.std.proofs.Common.{◌≡◌, ℕ, ◌+◌, ◌<◌, ◌≤◌, Bool, true, false, not, cond, List, [], ◌∷◌, ◌++◌, map, length, take, drop, get_or, refl, sym, ap, ◌∙◌, arith, nat_lt, sum, ◌||◌, Option, Some, None, codes, Bor}
+use Rattle.std.proofs.Common.{◌≡◌, ℕ, ◌+◌, ◌<◌, ◌≤◌, Bool, true, false, cond, List, [], ◌∷◌, map, length, take, drop, get_or, refl, sym, ap, ◌∙◌, arith, nat_lt, sum, ◌||◌, Some, None, codes, Bor}
 use Rattle.std.specs.Prelude.{◌&&◌}
-use Rattle.std.specs.List.{filter, count_by, sum_by}
+use Rattle.std.specs.List.{filter, count_by}
 use Rattle.quantity.specs.Bytes.{Bytes}
 use Rattle.ma_lines.specs.declared.section.Section as code
 use Rattle.ma_lines.specs.Sections.{Section, section_of}
@@ -15,7 +15,7 @@ use Rattle.model_text.specs.Links.{links_of, link_entries, link_count}
 use Rattle.model_text.specs.Trees.{group_of, tree_at, tree_of, no_files}
 use Rattle.model_text.specs.ModelOf.{link_limit_refused}
 use Rattle.std.proofs.lemmas.Bool.Decides.{nat_tests}
-use Rattle.std.proofs.lemmas.List.{map-append, take_more, take_all, take-append-drop}
+use Rattle.std.proofs.lemmas.List.{map-append, take_more, take-append-drop}
 use Rattle.std.proofs.lemmas.List.Sums.{sum_by-append, length-filter}
 
 filter-both : {X : Type 0} (p q : X → Bool) (xs : List X) → filter q (filter p xs) ≡ filter (λ x. p x && q x) xs

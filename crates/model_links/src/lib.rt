@@ -10,9 +10,16 @@ ghost use Rattle.model_walk.specs.Shown.{refusal_of};
 ghost use Rattle.model_walk.specs.Met.{IsWalk, met_of};
 ghost use Rattle.model_spaces.specs.Placed.{shown, placed_of};
 
+mod child;
 mod ends;
+mod face;
+mod judge;
+mod lent;
 mod limits;
+mod section;
+mod walked;
 
+use crate::walked::all_links;
 pub use limits::link_limit_refused;
 use ma_lines::Sections;
 use model_spaces::PlacedGroup;
@@ -37,9 +44,9 @@ pub fn links(
     ensures refused { (why : _) → result ≡ Err (Stop.Refused why)
         → L.links_refused sections.now ≡ Some (refusal_of why) }
 {
-    let _alloc = alloc;
-    let _sections = sections;
-    let _walked = walked;
-    let _groups = groups;
-    Err(Stop::Memory)
+    let all = all_links(alloc, sections, &walked.sections, groups)?;
+    match all.refused {
+        Some(why) => Err(Stop::Refused(why)),
+        None => Ok(all.links),
+    }
 }

@@ -1,4 +1,4 @@
-use Rattle.std.proofs.Common.{◌≡◌, ◌+◌, ◌≤◌, map, length, sum, take, drop, Bor, arith, get_or, ap}
+use Rattle.std.proofs.Common.{◌≡◌, ◌+◌, map, length, sum, Bor, arith, get_or, ap}
 use Rattle.ma_lines.specs.declared.section.Section as code
 use Rattle.ma_lines.specs.Sections.{section_of}
 use Rattle.model_text.specs.Links.{link_entries}

@@ -1,0 +1,60 @@
+use Rattle.std.proofs.Common.{◌≡◌, ◌≤◌, Bool, true, false, ◌+◌, ◌++◌, ◌∷◌, [], Some, map, get_or, drop, take, slice_get, sym, ap, ◌∙◌, Bor, arith, rules}
+use Rattle.std.proofs.lemmas.List.{length-take}
+use Rattle.std.proofs.lemmas.Option.{slice_get-map}
+use Rattle.std.specs.Option.{option_map}
+use Rattle.std.specs.Int.{from_bool}
+use Rattle.ma_lines.specs.declared.section.Section as code
+use Rattle.ma_lines.specs.Sections.{section_of}
+use Rattle.cell_grid.specs.Space.{Space}
+use Rattle.model_text.specs.Keyed.{least}
+use Rattle.model_text.specs.Walk.{is_group}
+use Rattle.model_text.specs.Spaces.{space_of}
+use Rattle.model_text.specs.Links.{links_of, of_links}
+use Rattle.model_walk.specs.Shown.{refusal_of}
+use Rattle.model_walk.specs.Least.{merged}
+use Rattle.model_spaces.specs.declared.placed.PlacedGroup.{PlacedGroup}
+use Rattle.model_links.proofs.Whole.{all_refused, groups_few, groups_more, group_at, section_step, links_step}
+use Rattle.model_links.proofs.walked.all_links.Goals as goal
+
+from_bool_small : (b : Bool) → from_bool b ≤ 1
+from_bool_small true = omega arith
+from_bool_small false = omega arith
+
+abbrev grid_in : PlacedGroup → Space
+grid_in g = g.grid
+
+pub grid_of-requires : goal.grid_of-requires
+grid_of-requires c = λ e.
+    let rs = c.args.met.now in
+    let i = c.loop-section.section-index in
+    let r = c.section-item.result in
+    let gs = c.args.groups.now in
+    sym (slice_get-map grid_in gs c.loop-section.next) ∙ ap (slice_get (map grid_in gs)) c.loop-section.invariant.next
+    ∙ group_at rs i r (map grid_in gs) c.loop-section-test.true c.requires (sym (ap (λ (q : Bor code.Section). is_group (section_of q.now)) c.section-item.is) ∙ e)
+    ∙ ap (λ (q : Bor code.Section). Some (space_of (section_of q.now))) (sym c.section-item.is)
+
+pub overflow_add-next : goal.overflow_add-next
+overflow_add-next c =
+    let few = groups_few (take c.loop-section.section-index c.args.met.now) in
+    let front = length-take c.loop-section.section-index c.args.met.now in
+    let one = from_bool_small c.is_group.result in
+    let is = c.from-next.ensures in
+    omega arith
+
+pub loop-section-preserved : goal.loop-section-preserved
+loop-section-preserved c =
+    let rs = c.args.met.now in
+    let i = c.loop-section.section-index in
+    let r = c.section-item.result in
+    let ss = c.args.sections.now in
+    let pushed : c.push.new.self.items ≡ c.loop-section.links.items ++ c.in_ok-read.read.links ∷ [] = search rules in
+    let read = c.in_ok-read.ensures in
+    record {
+      next = ap (λ n. c.loop-section.next + n) (c.from-next.ensures ∙ ap from_bool (c.is_group.ensures ∙ ap (λ (q : Bor code.Section). is_group (section_of q.now)) c.section-item.is))
+          ∙ ap (λ n. n + from_bool (is_group (section_of (get_or rs i r).now))) c.loop-section.invariant.next ∙ sym (groups_more rs i r c.loop-section-test.true);
+      links = links_step rs i r c.loop-section.links.items c.push.new.self.items c.in_ok-read.read.links c.loop-section-test.true pushed
+          (read.links ∙ ap (λ (q : Bor code.Section). links_of (section_of q.now)) c.section-item.is) c.loop-section.invariant.links;
+      refused = ap (λ o. merged o (least (all_refused ss (drop (i + 1) rs)))) c.least-refused.ensures
+          ∙ section_step ss rs i r (option_map refusal_of c.loop-section.refused) (option_map refusal_of c.in_ok-read.read.refused) (least (all_refused ss rs)) c.loop-section-test.true
+          (read.refused ∙ ap (λ (q : Bor code.Section). least (of_links ss (section_of q.now))) c.section-item.is) c.loop-section.invariant.refused;
+    }

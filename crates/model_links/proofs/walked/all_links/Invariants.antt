@@ -1,0 +1,15 @@
+use Rattle.std.proofs.Common.{◌≡◌, map, take, drop}
+use Rattle.std.specs.Option.{option_map}
+use Rattle.model_text.specs.Keyed.{least}
+use Rattle.model_text.specs.Links.{links_of}
+use Rattle.model_walk.specs.Shown.{refusal_of}
+use Rattle.model_walk.specs.Least.{merged}
+use Rattle.model_links.proofs.Whole.{sections, all_refused, groups_in}
+use Rattle.model_links.proofs.walked.all_links.Given as goal
+
+abbrev pub invariant-loop-section : goal.invariant-loop-section
+invariant-loop-section l = record {
+  next : l.next ≡ groups_in (take l.section-index l.met);
+  links : map (λ list. list.items) l.links.items ≡ map links_of (sections (take l.section-index l.met));
+  refused : merged (option_map refusal_of l.refused) (least (all_refused l.sections (drop l.section-index l.met))) ≡ least (all_refused l.sections l.met);
+}

@@ -1,0 +1,70 @@
+// The links of all sections that the walk met.
+ghost use Rattle.std.specs.Prelude.{◌≡◌, true, Some, map, slice_get, IfOk};
+ghost use Rattle.std.specs.List.{filter, flat_map};
+ghost use Rattle.std.specs.Option.{option_map};
+ghost use Rattle.ma_lines.specs.Sections.{section_of};
+ghost use Rattle.model_text.specs.Keyed.{least};
+ghost use Rattle.model_text.specs.Walk as W;
+ghost use Rattle.model_text.specs.Spaces.{space_of};
+ghost use Rattle.model_text.specs.Links as L;
+ghost use Rattle.model_walk.specs.Shown.{refusal_of};
+ghost use Rattle.model_links.specs.Around.{IsSpaceOf};
+
+use crate::section::section_links;
+use cell_grid::Grid;
+use ma_lines::{Section, Sections};
+use model_spaces::PlacedGroup;
+use model_tree::Link;
+use model_walk::Refused;
+use model_walk::entries::is_group;
+use model_walk::least::least;
+use quantity::OutOfMemory;
+use std::alloc::{AllocError, Global};
+
+/// The links of each section, and the least refusal of all.
+#[derive(Drop)]
+pub(crate) struct AllLinks {
+    pub(crate) links: Vec<Vec<Link>>,
+    pub(crate) refused: Option<Refused>,
+}
+
+/// Reads and judges the links of these sections. Their groups stand in the same order.
+pub(crate) fn all_links(
+    alloc: Global,
+    sections: &Sections,
+    met: &[&Section],
+    groups: &[PlacedGroup<'_>],
+) -> Result<AllLinks, OutOfMemory>
+    requires { map (λ g. g.grid) groups.now
+        ≡ map space_of (filter W.is_group (map (λ r. section_of r.now) met.now)) }
+    ensures links { IfOk result (λ all. map (λ list. list.items) all.links.items
+        ≡ map L.links_of (map (λ r. section_of r.now) met.now)) }
+    ensures refused { IfOk result (λ all. option_map refusal_of all.refused
+        ≡ least (flat_map (L.of_links sections.now) (map (λ r. section_of r.now) met.now))) }
+{
+    let mut links = Vec::with_capacity(alloc, met.len())?;
+    let mut refused = None;
+    let mut next: usize = 0;
+    for section in met {
+        let read = section_links(alloc, sections, section, grid_of(section, groups, next))?;
+        refused = least(refused, read.refused);
+        links.push(read.links).map_err(AllocError::from)?;
+        next += usize::from(is_group(section));
+    }
+    Ok(AllLinks { links, refused })
+}
+
+/// The grid of a group's section, for which the next group is; None for that of a coupled component.
+fn grid_of<'a>(section: &Section, groups: &'a [PlacedGroup<'_>], next: usize) -> Option<&'a Grid>
+    requires { let s = section_of section.now in
+        W.is_group s ≡ true → option_map (λ g. g.grid) (slice_get groups.now next) ≡ Some (space_of s) }
+    ensures { IsSpaceOf (section_of section.now) result }
+{
+    if !is_group(section) {
+        return None;
+    }
+    match groups.get(next) {
+        None => None,
+        Some(group) => Some(&group.grid),
+    }
+}
