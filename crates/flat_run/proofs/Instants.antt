@@ -1,7 +1,8 @@
 -- The next instant of a run, and what comes at it.
 use Rattle.std.proofs.Common.{◌≡◌, ℕ, zero, suc, ◌+◌, ◌≤◌, ◌<◌, min, Bool, true, false, cond, Option, Some, None, List, [], ◌∷◌, refl, sym, ◌∙◌, ap, subst, arith}
 use Rattle.std.specs.Prelude.{nat_lt, nat_le, if◌then◌else◌, IfSome}
-use Rattle.std.specs.List.{All}
+use Rattle.std.specs.List.{All, filter}
+use Rattle.std.proofs.lemmas.List.Elements.{All-filter}
 use Rattle.event_list.specs.Events.{Event}
 use Rattle.event_list.specs.Shown.{first_time}
 use Rattle.model_tree.specs.Tree.{Tree}
@@ -31,6 +32,11 @@ first-event (e ∷ es) all = least-first e.time (first_event es) (none-before e.
     least-first t None h = refl
     least-first t (Some u) h = let m : min t u ≡ t = omega (arith, h) in ap Some m
 
+-- the same of a time that is told
+pub first-event-of : (es : List Event) (o : Option ℕ) → o ≡ first_time es → IfSome o (λ t. All (λ (e : Event). t ≤ e.time) es) → o ≡ first_event es
+first-event-of es o told all =
+    told ∙ sym (first-event es (subst (λ (x : Option ℕ). IfSome x (λ t. All (λ (e : Event). t ≤ e.time) es)) told all))
+
 least-right : (a b : Option ℕ) (t : ℕ) → least a b ≡ Some t → IfSome b (λ u. t ≤ u)
 least-right a None t e = tt
 least-right None (Some u) t e = let s : u ≡ t = ap (λ o. unwrap o t) e in omega (arith, s)
@@ -44,18 +50,22 @@ least-right (Some m) (Some u) t e = let s : min m u ≡ t = ap (λ o. unwrap o t
     unwrap None d = d
     unwrap (Some n) d = n
 
+least-parts : (t u : ℕ) (o : Option ℕ) → IfSome (least (Some u) o) (λ v. t ≤ v) → (t ≤ u) × IfSome o (λ v. t ≤ v)
+least-parts t u None h = (h, tt)
+least-parts t u (Some v) h = (omega (arith, h), omega (arith, h))
+
 each-later : (es : List Event) (t : ℕ) → IfSome (first_event es) (λ u. t ≤ u) → All (λ (e : Event). t ≤ e.time) es
 each-later [] t h k d lt = absurd (omega (arith, lt))
-each-later (e ∷ es) t h zero d lt = (parts e.time (first_event es) h).0
-each-later (e ∷ es) t h (suc k) d lt = each-later es t (parts e.time (first_event es) h).1 k d (omega (arith, lt))
-  where
-    parts : (u : ℕ) (o : Option ℕ) → IfSome (least (Some u) o) (λ v. t ≤ v) → (t ≤ u) × IfSome o (λ v. t ≤ v)
-    parts u None h = (h, tt)
-    parts u (Some v) h = (omega (arith, h), omega (arith, h))
+each-later (e ∷ es) t h zero d lt = (least-parts t e.time (first_event es) h).0
+each-later (e ∷ es) t h (suc k) d lt = each-later es t (least-parts t e.time (first_event es) h).1 k d (omega (arith, lt))
 
 -- no event is before the next instant
 pub events-later : (s : RunState) (t : ℕ) → next_instant s ≡ Some t → All (λ (e : Event). t ≤ e.time) s.events
 events-later s t next = each-later s.events t (least-right (next_of_all s.leaf_states) (first_event s.events) t next)
+
+-- a property of all events holds of those that are left
+pub all-left : (P : Event → Type 0) (p : Event → Bool) (es : List Event) → All P es → All P (filter p es)
+all-left P p es all = All-filter p P es all
 
 -- ---- verdicts
 

@@ -127,6 +127,7 @@ impl<Q: TimeQueue, M: AtomicModel> FlatRun<Q, M> {
         requires { self.now.stopped ≡ None }
         ensures { result ≡ next_instant self.now.state }
     {
+        sparse_cycle::laws::leaves_move_one_after_another();
         earlier(self.queue.least(), self.events.next())
     }
 
@@ -183,7 +184,6 @@ impl<Q: TimeQueue, M: AtomicModel> FlatRun<Q, M> {
         ensures ok { OnOk result (self.new ≡ with_leaf_state self.old leaf (cell_state (cell_of_saved state.now))) }
         ensures err { OnErr result (self.new ≡ self.old) }
     {
-        let _ = (leaf, state);
         Err(OutOfMemory)
     }
 
@@ -196,7 +196,6 @@ impl<Q: TimeQueue, M: AtomicModel> FlatRun<Q, M> {
         ensures { (b : Held) → leaf_of self.old.state.leaf_states leaf ≡ box_state b
             → (c : Held) × RestoreGives words.now b c result × (self.new ≡ with_leaf_state self.old leaf (box_state c)) }
     {
-        let _ = (leaf, words);
         Err(RestoreRefusal::Memory)
     }
 
