@@ -2,8 +2,12 @@
 use Rattle.std.proofs.Common.{◌≡◌, ◌≢◌, ℕ, ◌+◌, ◌≤◌, min, Bool, true, false, true≢false, cond, eqb, eqb-true, eq-eqb, Option, Some, None, List, [], ◌∷◌, ◌++◌, length, refl, sym, ◌∙◌, ap, arith, length-append}
 use Rattle.std.specs.Prelude.{if◌then◌else◌}
 use Rattle.std.specs.List.{flat_map, enumerate_from}
+use Rattle.std.proofs.lemmas.List.{length-map}
+use Rattle.atomic_face.specs.Held.{Held}
 use Rattle.atomic_face.specs.Classes.{Bag, is_at}
-use Rattle.run_model.specs.CellStep.{PortState, CellState, first_time, least, next_of_ports, cell_next, port_emitted, port_output, cell_output}
+use Rattle.atomic_face.specs.Moves.{next_of_box, output_of_box}
+use Rattle.run_model.specs.CellStep.{PortState, CellState, first_time, least, next_of_ports, cell_next, cell_emitted, port_emitted, port_output, cell_output}
+use Rattle.run_model.specs.Cycle.{box_state, collected_of}
 use Rattle.run_leaves.proofs.Places.{none-some, some-is}
 
 -- the least of two times is one of them
@@ -42,3 +46,11 @@ ports-give t k (p ∷ ps) e =
 
 pub due-gives : (t : ℕ) (c : CellState) → cell_next c ≡ Some t → 1 ≤ length (cell_output t c)
 due-gives t c e = ports-give t 0 c.ports e
+
+-- a cell keeps its ports where it gives
+pub emitted-port : (t : ℕ) (c : CellState) → 1 ≤ length c.ports → 1 ≤ length (cell_emitted t c).ports
+emitted-port t c le = let long = length-map c.ports (port_emitted t) in omega (arith, le, long)
+
+-- what a box gives that is due
+pub box-collected : (t : ℕ) (b : Held) → next_of_box b ≡ Some t → collected_of t (box_state b) ≡ output_of_box b
+box-collected t b e = ap (λ x. if x then output_of_box b else []) (at-now t (next_of_box b) e)

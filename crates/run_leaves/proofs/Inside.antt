@@ -11,7 +11,7 @@ use Rattle.model_tree.specs.declared.leaves.LeafAt.{LeafAt}
 use Rattle.model_tree.specs.declared.leaves.LeafAt.TheVariants.{Atomic, Cell}
 use Rattle.model_tree.specs.Tree.{Tree}
 use Rattle.run_model.specs.CellStep.{CellState}
-use Rattle.run_model.specs.Cycle.{LeafState, box_state, cell_state}
+use Rattle.run_model.specs.Cycle.{LeafState, box_state, cell_state, leaf_next}
 use Rattle.cell_engine.specs.Cells.{Cells, no_cell, cell_at}
 use Rattle.cell_engine.specs.Layout.{Layout}
 use Rattle.sparse_cycle.specs.Sparse.{leaf_of, no_leaf}
@@ -23,6 +23,12 @@ pub box-within : (f : LeafAt → LeafState) (seats : List LeafAt) (l : ℕ) → 
 box-within f [] l e = absurd cc
 box-within f (a ∷ rest) zero e = omega arith
 box-within f (a ∷ rest) (suc l) e = let on = box-within f rest l e in omega (arith, on)
+
+-- and so does a leaf that waits
+pub due-within : (f : LeafAt → LeafState) (seats : List LeafAt) (l t : ℕ) → leaf_next (leaf_of (map f seats) l) ≡ Some t → l < length seats
+due-within f [] l t e = absurd cc
+due-within f (a ∷ rest) zero t e = omega arith
+due-within f (a ∷ rest) (suc l) t e = let on = due-within f rest l t e in omega (arith, on)
 
 -- the state at a place
 pub state-at : (f : LeafAt → LeafState) (seats : List LeafAt) (l : ℕ) (a : LeafAt) → slice_get seats l ≡ Some a → leaf_of (map f seats) l ≡ f a

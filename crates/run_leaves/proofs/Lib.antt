@@ -3,3 +3,4 @@ pub mod Moved
 pub mod Emitting
 pub mod Inside
 pub mod Stepped
+pub mod Given

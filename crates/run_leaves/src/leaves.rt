@@ -10,6 +10,7 @@ ghost use Rattle.cycle_steps.specs.Moving.{Moves};
 ghost use Rattle.run_leaves.specs.Seated.{is_box, ports_at, visits_at, tree_at};
 ghost use Rattle.run_leaves.specs.Moving.{with_state, StaysAs};
 
+use crate::cells::give_of_cell;
 use atomic_face::{AtomicModel, PortNo, Stock};
 use cell_engine::{CellStore, Steps};
 use cycle_steps::halt::{LeafStop, Told};
@@ -86,7 +87,12 @@ impl<M: AtomicModel> FlatLeaves<M> {
         ensures visits { steps.new
             ≤ steps.old + length (collected_of t (leaf_of self.old.states leaf)) }
     {
-        Err(OutOfMemory)
+        match self.seats[leaf as usize] {
+            LeafAt::Atomic(at) => self.stock.output(at, into),
+            LeafAt::Cell { group, cell } => {
+                give_of_cell(&mut self.stores[group as usize], cell, t, into, steps)
+            }
+        }
     }
 
     /// A leaf after its emission moves over the states as they stand. After a stop, and without memory, its state may be
