@@ -4,3 +4,4 @@ pub mod Emitting
 pub mod Inside
 pub mod Stepped
 pub mod Given
+pub mod Steps

@@ -10,7 +10,8 @@ ghost use Rattle.cycle_steps.specs.Moving.{Moves};
 ghost use Rattle.run_leaves.specs.Seated.{is_box, ports_at, visits_at, tree_at};
 ghost use Rattle.run_leaves.specs.Moving.{with_state, StaysAs};
 
-use crate::cells::give_of_cell;
+use crate::boxes::move_box;
+use crate::cells::{give_of_cell, move_cell};
 use atomic_face::{AtomicModel, PortNo, Stock};
 use cell_engine::{CellStore, Steps};
 use cycle_steps::halt::{LeafStop, Told};
@@ -115,7 +116,14 @@ impl<M: AtomicModel> FlatLeaves<M> {
         ensures kept { StaysAs self.old self.new }
         ensures visits { steps.new ≤ steps.old + visits_at self.old leaf }
     {
-        Err(LeafStop::Memory)
+        cell_engine::laws::a_cell_sees_its_group();
+        match self.seats[leaf as usize] {
+            LeafAt::Atomic(at) => move_box(&mut self.stock, at, t, bag),
+            LeafAt::Cell { group, cell } => {
+                let ports = self.model.ports_at(leaf);
+                move_cell(&mut self.stores[group as usize], cell, t, woken, bag, ports, steps)
+            }
+        }
     }
 }
 
