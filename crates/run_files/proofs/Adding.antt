@@ -1,6 +1,6 @@
 -- Bytes that are added to one of the files, and texts that are added one after another.
-use Rattle.std.proofs.Common.{◌≡◌, ◌≢◌, ℕ, ◌<◌, Bool, true, false, Option, Some, None, List, [], ◌∷◌, ◌++◌, length, take, refl, sym, ap, ◌∙◌, subst, append_assoc, length-append, arith, rules}
-use Rattle.std.specs.Prelude.{Contains, IsSome, ◌||◌}
+use Rattle.std.proofs.Common.{◌≡◌, ◌≢◌, ℕ, ◌<◌, Bool, false, Option, Some, None, [], ◌∷◌, ◌++◌, length, take, refl, sym, ap, ◌∙◌, subst, append_assoc, length-append, arith, rules}
+use Rattle.std.specs.Prelude.{Contains, IsSome, ◌||◌, Result, Ok, Err}
 use Rattle.std.specs.Str.{bytes_eq}
 use Rattle.std.proofs.lemmas.List.{append-nil, append_cancel_left}
 use Rattle.std.proofs.lemmas.List.Elements.{Contains-append_right}
@@ -10,7 +10,7 @@ use Rattle.quantity.specs.Bytes.{Bytes}
 use Rattle.model_tree.specs.Tree.{Word}
 use Rattle.room_edge.specs.Faults.{WriteFaultCounted, KeepsWriteFaults}
 use Rattle.room_edge.specs.Outside.{Outside, OnlyMade, adds}
-use Rattle.answer_model.specs.Answer.{Files, Answer}
+use Rattle.answer_model.specs.Answer.{Files}
 use Rattle.answer_model.specs.Headline.{Begins}
 use Rattle.answer_model.specs.RunFiles.{file_if}
 use Rattle.answer_model.specs.Steps.{is_made, grown}
@@ -22,8 +22,8 @@ use Rattle.run_files.specs.declared.outputs.Output.{Output}
 use Rattle.run_files.specs.declared.outputs.Output.TheVariants.{Log, Out, Frames}
 use Rattle.run_files.specs.declared.outputs.Unwritten.{Unwritten}
 use Rattle.run_files.specs.declared.outputs.Unwritten.TheVariants.{Fault, Memory}
-use Rattle.run_files.specs.Texts.{Names, Texts, both, only, files, name_at, text_at, Differ, AreApart, IsAmong, AreCreated, BeginTexts}
-use Rattle.run_files.specs.Written.{Adds, Falls, LacksIn, FaultCounted}
+use Rattle.run_files.specs.Texts.{Names, Texts, both, only, files, name_at, text_at, Differ, AreApart, AreCreated, BeginTexts}
+use Rattle.run_files.specs.Written.{Adds, Falls, LacksIn, FaultCounted, Writes}
 
 -- ---- texts
 
@@ -54,23 +54,23 @@ differs_back : (a b : Word) → bytes_eq a b ≡ false → bytes_eq b a ≡ fals
 differs_back a b e = search (rules, bytes_eq-Decides)
 
 -- the name is no other's
-not_if : (name : Word) (o : Option Word) (bytes : Bytes) → Differ (Some name) o → is_made name (file_if o bytes) ≡ false
+pub not_if : (name : Word) (o : Option Word) (bytes : Bytes) → Differ (Some name) o → is_made name (file_if o bytes) ≡ false
 not_if name None bytes d = refl
 not_if name (Some other) bytes d = ap (λ b. b || false) (differs_back name other d)
 
-not_after : (name : Word) (o : Option Word) (bytes : Bytes) → Differ o (Some name) → is_made name (file_if o bytes) ≡ false
+pub not_after : (name : Word) (o : Option Word) (bytes : Bytes) → Differ o (Some name) → is_made name (file_if o bytes) ≡ false
 not_after name None bytes d = refl
 not_after name (Some other) bytes d = ap (λ b. b || false) d
 
 both_off : (p q : Bool) → p ≡ false → q ≡ false → (p || q) ≡ false
 both_off p q a b = rw (a, b) refl
 
-not_both : (name : Word) (fs gs : Files) → is_made name fs ≡ false → is_made name gs ≡ false → is_made name (fs ++ gs) ≡ false
+pub not_both : (name : Word) (fs gs : Files) → is_made name fs ≡ false → is_made name gs ≡ false → is_made name (fs ++ gs) ≡ false
 not_both name fs gs a b = list_any-append (λ (f : Word × Bytes). bytes_eq f.0 name) fs gs ∙ both_off (is_made name fs) (is_made name gs) a b
 
 -- ---- one of the files grows
 
-abbrev named : Option Word → Option Word → Option Word → Names
+abbrev pub named : Option Word → Option Word → Option Word → Names
 named l o f = record { log = l; out = o; frames = f }
 
 grown_log : (l : Word) (o f : Option Word) (t : Texts) (bytes : Bytes) → Differ (Some l) o → Differ (Some l) f
@@ -213,7 +213,7 @@ fell n file name bytes k old new apart is made lt created only_made keeps rose =
     record {
       part = only file (take k bytes);
       begins = begins_only file (take k bytes) bytes short.0;
-      lacks = (subst IsSome (sym is) tt, λ e. short.1 (sym (text_only file (take k bytes)) ∙ e ∙ text_only file bytes));
+      lacks = (subst IsSome (sym is) refl, λ e. short.1 (sym (text_only file (take k bytes)) ∙ e ∙ text_only file bytes));
       adds = added n file name (take k bytes) old new apart is made created only_made keeps;
       fault = rose;
     }
@@ -299,3 +299,22 @@ falls_before n why whole more old new f =
 
 pub falls_as : (n : Names) (why : Unwritten) (first second : Texts) (old new : Outside) → first ≡ second → Falls n why first old new → Falls n why second old new
 falls_as n why first second old new is f = subst (λ (u : Texts). Falls n why u old new) is f
+
+-- memory ran out after all was added
+pub all_fell : (n : Names) (whole : Texts) (old new : Outside) → Adds n whole old new → Falls n Memory whole old new
+all_fell n whole old new p =
+    record {
+      part = whole;
+      begins = record { log_begins = all whole.log; out_begins = all whole.out; frames_begin = all whole.frames };
+      lacks = tt;
+      adds = p;
+      fault = tt;
+    }
+  where
+    all : (bytes : Bytes) → Begins bytes bytes
+    all bytes = ([], sym (append-nil bytes))
+
+-- whatever was written, the same files were made
+pub writes_created : {T : Type 0} (n : Names) (whole : Texts) (old new : Outside) (r : Result T Unwritten) → Writes n whole old new r → new.created ≡ old.created
+writes_created n whole old new (Ok x) p = p.created
+writes_created n whole old new (Err why) f = f.adds.created

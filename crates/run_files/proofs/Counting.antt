@@ -1,24 +1,32 @@
 -- The counts of a run, cycle by cycle, are those of its last line.
-use Rattle.std.proofs.Common.{◌≡◌, ℕ, zero, suc, ◌+◌, ◌<◌, ◌==◌, Bool, true, false, cond, Option, Some, None, List, [], ◌∷◌, ◌++◌, length, map, replicate, get_or, set, refl, sym, ap, ◌∙◌, subst, arith, length-set, get_or-set_same, get_or-set_other}
-use Rattle.std.specs.Prelude.{count_by}
+use Rattle.std.proofs.Common.{◌≡◌, ℕ, zero, suc, ◌+◌, ◌<◌, ◌≤◌, drop, ◌==◌, Bool, true, false, cond, Option, Some, None, List, [], ◌∷◌, ◌++◌, length, map, replicate, get_or, set, refl, sym, ap, ◌∙◌, subst, arith, length-set, get_or-set_same, get_or-set_other}
+use Rattle.std.specs.Prelude.{count_by, if◌then◌else◌}
 use Rattle.std.specs.List.{range_with_len, sum_by, flat_map, filter_map, last_or, cons_option}
+use Rattle.std.proofs.lemmas.List.{at_drop_more, at_drop_all, length-map}
+use Rattle.std.proofs.lemmas.List.Sums.{sum_by-cons}
 use Rattle.std.proofs.lemmas.Bool.Decides.{nat_tests}
 use Rattle.quantity.specs.declared.value.Value.{Value}
 use Rattle.quantity.specs.Arithmetic.{same_value}
 use Rattle.rule_tree.specs.Meaning.{whole}
 use Rattle.run_model.specs.Run.{PortRecord, Cycle}
 use Rattle.answer_model.specs.RunEnd.{is_one_last}
+use Rattle.record_text.specs.declared.records.YRecord.{YRecord}
+use Rattle.record_text.specs.declared.records.SRecord.{SRecord}
+use Rattle.record_text.specs.declared.records.Records.{Records}
+use Rattle.record_text.specs.Held.{Holds, y_at, s_at}
+use Rattle.run_files.proofs.Cycles.{plain_back}
+use Rattle.run_files.specs.Showing.{plain}
 use Rattle.run_files.specs.Counts.{Counts, no_counts, ones_after, counts_after, counts_of}
 
 -- ---- sums
 
 pub counts_y : (cs : List Cycle) (k : Counts) → (counts_of cs k).y ≡ k.y + sum_by (λ (c : Cycle). length c.y) cs
 counts_y [] k = omega arith
-counts_y (c ∷ cs) k = let more = counts_y cs (counts_after c k) in omega (arith, more)
+counts_y (c ∷ cs) k = let more = counts_y cs (counts_after c k) in omega (arith, more, sum_by-cons (λ (d : Cycle). length d.y) c cs)
 
 pub counts_s : (cs : List Cycle) (k : Counts) → (counts_of cs k).s ≡ k.s + sum_by (λ (c : Cycle). length c.s) cs
 counts_s [] k = omega arith
-counts_s (c ∷ cs) k = let more = counts_s cs (counts_after c k) in omega (arith, more)
+counts_s (c ∷ cs) k = let more = counts_s cs (counts_after c k) in omega (arith, more, sum_by-cons (λ (d : Cycle). length d.s) c cs)
 
 ones_append : (ones : List Bool) (xs ys : List PortRecord) → ones_after ones (xs ++ ys) ≡ ones_after (ones_after ones xs) ys
 ones_append ones [] ys = refl
@@ -77,7 +85,9 @@ count_marks p [] a same = refl
 count_marks p (b ∷ bs) a same =
     let here : b ≡ p a = same 0 (omega arith) ∙ ap p (omega arith) in
     let more = count_marks p bs (a + 1) (λ k lt. same (suc k) (omega arith) ∙ ap p (omega arith)) in
-    (λ i. cond (here i) 1 0 + more i)
+    let one = λ (q : Bool). cond q 1 0 in
+    let two = λ (k : ℕ). cond (p k) 1 0 in
+    sum_by-cons one b bs ∙ (λ i. cond (here i) 1 0 + more i) ∙ sym (sum_by-cons two a (range_with_len (a + 1) (length bs)))
 
 length-replicate : (n : ℕ) → length (replicate n false) ≡ n
 length-replicate zero = refl
@@ -106,3 +116,27 @@ ones_counted leaves cs =
   where
     zero_more : (k : ℕ) → 0 + k ≡ k
     zero_more k = omega arith
+
+-- ---- records one after another
+
+-- a record more is marked
+pub marked_next : (given : List YRecord) (i : ℕ) (r : YRecord) (ones ones' all : List Bool) → i < length given → r ≡ get_or given i r → ones' ≡ set ones r.leaf (same_value r.value (whole 1))
+    → ones_after ones (map plain (drop i given)) ≡ all → ones_after ones' (map plain (drop (i + 1) given)) ≡ all
+marked_next given i r ones ones' all lt is next so =
+    ap (λ os. ones_after os (map plain (drop (i + 1) given))) next
+    ∙ ap (λ (q : YRecord). ones_after (set ones q.leaf (same_value q.value (whole 1))) (map plain (drop (i + 1) given))) is
+    ∙ sym (at_drop_more (λ rs. ones_after ones (map plain rs)) given i r lt) ∙ so
+
+pub marked_all : (given : List YRecord) (n : ℕ) (ones all : List Bool) → length given ≤ n → ones_after ones (map plain (drop n given)) ≡ all → ones ≡ all
+marked_all given n ones all le so = sym (at_drop_all (λ rs. ones_after ones (map plain rs)) given n le) ∙ so
+
+-- the records of a cycle are counted
+pub counts_added : (c : Cycle) (records : Records) (k : Counts) (y s : ℕ) (ones : List Bool) → Holds records c → y ≡ k.y + length records.y.items → s ≡ k.s + length records.s.items → ones ≡ ones_after k.ones (map plain records.y.items)
+    → (let n : Counts = record { y = y; s = s; ones = ones } in n) ≡ counts_after c k
+counts_added c records k y s ones h y_is s_is ones_is =
+    let ys = ap (length {A = YRecord}) h.y ∙ length-map c.y (y_at c.time) in
+    let ss = ap (length {A = SRecord}) h.s ∙ length-map c.s (s_at c.time) in
+    let yn : y ≡ k.y + length c.y = y_is ∙ ap (λ n. k.y + n) ys in
+    let sn : s ≡ k.s + length c.s = s_is ∙ ap (λ n. k.s + n) ss in
+    let on : ones ≡ ones_after k.ones c.y = ones_is ∙ ap (λ rs. ones_after k.ones rs) (ap (map plain) h.y ∙ plain_back c.time c.y) in
+    λ i. record { y = yn i; s = sn i; ones = on i }

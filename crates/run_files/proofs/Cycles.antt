@@ -1,9 +1,9 @@
 -- What a cycle adds to the files, piece by piece, and to the frames.
-use Rattle.std.proofs.Common.{◌≡◌, ℕ, ◌==◌, not, Bool, true, false, Option, Some, None, List, [], ◌∷◌, ◌++◌, map, refl, sym, ap, ◌∙◌, subst, arith}
-use Rattle.std.specs.Prelude.{⊤, if◌then◌else◌}
+use Rattle.std.proofs.Common.{◌≡◌, ℕ, ◌+◌, ◌<◌, ◌≤◌, length, get_or, drop, ◌==◌, not, Bool, true, false, Option, Some, None, List, [], ◌∷◌, map, refl, sym, ap, ◌∙◌, arith}
+use Rattle.std.specs.Prelude.{if◌then◌else◌}
 use Rattle.std.specs.Option.{ForSome, option_map}
+use Rattle.std.proofs.lemmas.List.{at_drop_more, at_drop_all}
 use Rattle.std.proofs.lemmas.Bool.Decides.{nat_tests}
-use Rattle.quantity.specs.Bytes.{Bytes}
 use Rattle.model_tree.specs.Tree.{Tree}
 use Rattle.run_model.specs.Run.{PortRecord, Cycle}
 use Rattle.record_text.specs.Held.{y_at}
@@ -14,7 +14,7 @@ use Rattle.room_edge.specs.Outside.{Outside}
 use Rattle.run_files.specs.declared.outputs.Output.TheVariants.{Log, Out, Frames}
 use Rattle.run_files.specs.declared.outputs.Unwritten.{Unwritten}
 use Rattle.run_files.specs.Texts.{Names, Texts, both, only}
-use Rattle.run_files.specs.Showing.{Showing, took, plain, ended, ended_before, after_cycle, frame_before, cycle_texts, BeginsAt}
+use Rattle.run_files.specs.Showing.{Showing, with_taken, shown_of, took, plain, ended, ended_before, after_cycle, frame_before, cycle_texts, BeginsAt}
 use Rattle.run_files.specs.Written.{Adds, Falls}
 use Rattle.run_files.proofs.Adding.{three_parts, adds_both, adds_as, falls_after, falls_before, falls_as}
 
@@ -35,8 +35,8 @@ taken_cycle c at given (Some w) time is =
     (ap (λ rs. took at rs (ended_before at w)) records ∙ ap (λ t. took t c.y (ended_before t w)) (sym time))
 
 same_instant : (o : Option ℕ) (at : ℕ) → is_other o at ≡ false → ForSome o (λ t. t ≡ at)
-same_instant None at e = tt
-same_instant (Some t) at e = equal t at e
+same_instant None at e = λ x q. absurd (cc)
+same_instant (Some t) at e = λ x q. let same : t ≡ x = cc in sym same ∙ equal t at e
   where
     equal : (t at : ℕ) → not (t == at) ≡ false → t ≡ at
     equal t at e = grind (arith, nat_tests)
@@ -47,7 +47,7 @@ may_begin at None = tt
 may_begin at (Some w) = by (is_other w.drawing.begun at) refl
   where
     by : (b : Bool) → is_other w.drawing.begun at ≡ b → ForSome (if b then ended w else w).drawing.begun (λ t. t ≡ at)
-    by true e = tt
+    by true e = λ x q. absurd (cc)
     by false e = same_instant w.drawing.begun at e
 
 -- ---- the three pieces of a cycle
@@ -87,3 +87,16 @@ module _ (n : Names) (tree : Tree) (letters : List ℕ) (w : Option Showing) (c 
   outputs_fell why old first second new f l o =
       falls_as n why (both (both frame lines) outputs) (cycle_texts tree letters w c) old new (pieces tree letters w c at time)
       (falls_after n why (both frame lines) outputs old second new (adds_both n frame lines old first second f l) o)
+
+-- ---- records one after another
+
+-- a record more is taken
+pub taken_next : (at : ℕ) (given : List YRecord) (i : ℕ) (r : YRecord) (w w' all : Showing) → i < length given → r ≡ get_or given i r → w' ≡ with_taken (shown_of w at (plain r)) w
+    → took at (map plain (drop i given)) w ≡ all → took at (map plain (drop (i + 1) given)) w' ≡ all
+taken_next at given i r w w' all lt is next so =
+    ap (took at (map plain (drop (i + 1) given))) next
+    ∙ ap (λ (q : YRecord). took at (map plain (drop (i + 1) given)) (with_taken (shown_of w at (plain q)) w)) is
+    ∙ sym (at_drop_more (λ rs. took at (map plain rs) w) given i r lt) ∙ so
+
+pub taken_all : (at : ℕ) (given : List YRecord) (n : ℕ) (w all : Showing) → length given ≤ n → took at (map plain (drop n given)) w ≡ all → w ≡ all
+taken_all at given n w all le so = sym (at_drop_all (λ rs. took at (map plain rs) w) given n le) ∙ so

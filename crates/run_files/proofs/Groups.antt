@@ -1,23 +1,22 @@
 -- The group whose frames are drawn: leaves one after another.
-use Rattle.std.proofs.Common.{◌≡◌, ℕ, zero, suc, ◌+◌, ◌-◌, ◌<◌, ◌≤◌, Bool, true, false, cond, Option, Some, None, List, [], ◌∷◌, ◌++◌, length, map, drop, refl, sym, ap, ◌∙◌, subst, arith}
-use Rattle.std.specs.Prelude.{⊤, ℤ, slice_get}
+use Rattle.std.proofs.Common.{◌≡◌, ℕ, zero, suc, ◌+◌, ◌-◌, ◌<◌, ◌≤◌, Bool, true, false, cond, Option, Some, None, List, [], ◌∷◌, ◌++◌, length, map, drop, get_or, refl, sym, ap, ◌∙◌, subst, arith}
+use Rattle.std.specs.Prelude.{⊤, ℤ, slice_get, nat_eq, not}
+use Rattle.std.specs.Option.{option_eq}
+use Rattle.std.proofs.lemmas.Bool.Decides.{nat_tests}
 use Rattle.std.specs.List.{range_with_len}
 use Rattle.std.specs.Str.{bytes_eq}
-use Rattle.std.proofs.lemmas.Option.{slice_get_within}
+use Rattle.std.proofs.lemmas.Option.{slice_get_within, slice_get-get_or}
 use Rattle.std.proofs.Math.Seq.{drop-length}
-use Rattle.cell_grid.specs.Space.{Space, cell_count, plane_count}
-use Rattle.model_tree.specs.declared.leaves.LeafAt.{LeafAt}
-use Rattle.model_tree.specs.declared.leaves.LeafAt.TheVariants as at
-use Rattle.model_tree.specs.declared.table.Model.{Model}
-use Rattle.model_tree.specs.Tree.{Word, Group, Tree, Trees, coupled, cells, atomic, nil, cons, Leaf, atomic_leaf, cell_leaf, leaf_count, leaf_counts, leaves_from, all_leaves_from, leaves, groups}
-use Rattle.model_tree.specs.Models.{tree_of}
-use Rattle.model_tree.specs.Leaves.{Settings, no_settings, IsLeafOf, HasBox, IsCellIn, IsPlaceOf}
-use Rattle.model_tree.proofs.Read.{leaves-length, leaf-there}
+use Rattle.atomic_face.specs.declared.class.Class.TheVariants.{Queue}
+use Rattle.cell_grid.specs.Space.{Space, cell_count}
+use Rattle.model_tree.specs.Tree.{Word, Group, Tree, Trees, coupled, cells, atomic, nil, cons, Leaf, atomic_leaf, cell_leaf, leaf_count, leaves_from, all_leaves_from, leaves}
+use Rattle.model_tree.specs.Leaves.{HasBox, IsCellIn}
+use Rattle.model_tree.proofs.Read.{leaves-length}
 use Rattle.answer_model.specs.RunFiles.{group_at}
 use Rattle.frame_draw.specs.Drawing.{CanDraw}
 use Rattle.run_files.specs.declared.outputs.FramesFile.{FramesFile}
 use Rattle.run_files.specs.declared.group.GroupAt.{GroupAt}
-use Rattle.run_files.specs.Groups.{IsGroup, IsCellOf, IsNoCellOf, IsPassed, begun_at, CanDrawOf, picture_of}
+use Rattle.run_files.specs.Groups.{IsGroup, IsCellOf, IsNoCellOf, begun_at, CanDrawOf, picture_of}
 use Rattle.run_files.specs.Showing.{Showing, showing_none}
 
 -- ---- the number of a cell's leaf
@@ -49,6 +48,9 @@ cells_numbered g first a (suc n) =
     one : (b a : ℕ) → b + (a + 1) ≡ (b + a) + 1
     one b a = omega arith
 
+zero_more : (k : ℕ) → k + 0 ≡ k
+zero_more k = omega arith
+
 mutual
   leaves_numbered : (t : Tree) (first : ℕ) → AreNumbered first (leaves_from t first)
   leaves_numbered (coupled name ins outs children links) first = all_numbered children first
@@ -61,9 +63,6 @@ mutual
   all_numbered (cons c rest) first =
       numbered_append first (leaves_from c first) (all_leaves_from rest (first + leaf_count c)) (leaves_numbered c first)
       (subst (λ (n : ℕ). AreNumbered (first + n) (all_leaves_from rest (first + leaf_count c))) (sym (leaves-length c first)) (all_numbered rest (first + leaf_count c)))
-
-  zero_more : (k : ℕ) → k + 0 ≡ k
-  zero_more k = omega arith
 
 numbered_at : (k i : ℕ) (ls : List Leaf) (l : Leaf) → AreNumbered k ls → slice_get ls i ≡ Some l → IsNumbered (k + i) l
 numbered_at k i [] l a e = absurd (cc)
@@ -153,6 +152,41 @@ group_within gs number cell l here = by (slice_get gs number) refl l here
     by o e (atomic_leaf n class settings) h = absurd h
     by None e (cell_leaf g f n) h = absurd h
     by (Some k) e (cell_leaf g f n) h = slice_get_within gs number k e
+
+-- a cell of a group of another name
+pub other_named : (name : Word) (gs : List Group) (number cell : ℕ) (h : Group) (l : Leaf) → IsCellIn (slice_get gs number) cell l → slice_get gs number ≡ Some h → bytes_eq h.name name ≡ false → IsNoCellOf name l
+other_named name gs number cell h l here is other = by l (subst (λ (o : Option Group). IsCellIn o cell l) is here)
+  where
+    by : (l : Leaf) → IsCellIn (Some h) cell l → IsNoCellOf name l
+    by (atomic_leaf n class settings) q = tt
+    by (cell_leaf g f n) q = ap (λ (x : Group). bytes_eq x.name name) q.0 ∙ other
+
+-- the leaf that there is
+pub leaf_in : (t : Tree) (k : ℕ) → k < leaf_count t → (l : Leaf) × (slice_get (leaves t) k ≡ Some l)
+leaf_in t k lt =
+    let d = atomic_leaf [] Queue [] in
+    (get_or (leaves t) k d, slice_get-get_or (leaves t) k d (omega (arith, lt, leaves-length t 0)))
+
+pub same_passed : (o : Option ℕ) (n : ℕ) → true ≡ option_eq nat_eq o (Some n) → o ≡ Some n
+same_passed None n e = absurd (cc)
+same_passed (Some m) n e = ap (λ (k : ℕ). Some k) (same m n e)
+  where
+    same : (m n : ℕ) → true ≡ nat_eq m n → m ≡ n
+    same m n e = grind (arith, nat_tests)
+
+pub names_differ : (x y u v : Word) → true ≡ not (bytes_eq x y) → x ≡ u → y ≡ v → bytes_eq u v ≡ false
+names_differ x y u v e p q = sym (λ i. bytes_eq (p i) (q i)) ∙ off (bytes_eq x y) e
+  where
+    off : (b : Bool) → true ≡ not b → b ≡ false
+    off true e = absurd (cc)
+    off false e = refl
+
+pub names_agree : (x y u v : Word) → false ≡ not (bytes_eq x y) → x ≡ u → y ≡ v → bytes_eq u v ≡ true
+names_agree x y u v e p q = sym (λ i. bytes_eq (p i) (q i)) ∙ on (bytes_eq x y) e
+  where
+    on : (b : Bool) → false ≡ not b → b ≡ true
+    on true e = refl
+    on false e = absurd (cc)
 
 -- a leaf of an atomic component is no cell
 pub box_no_cell : (name : Word) (words : List ℤ) (l : Leaf) → HasBox words l → IsNoCellOf name l

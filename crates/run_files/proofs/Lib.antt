@@ -1,5 +1,6 @@
 pub mod Adding
 pub mod Making
 pub mod Cycles
+pub mod Turns
 pub mod Groups
 pub mod Counting

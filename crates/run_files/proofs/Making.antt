@@ -1,5 +1,5 @@
 -- Files that are made, and what follows where one could not be made or lacks bytes.
-use Rattle.std.proofs.Common.{◌≡◌, ◌≢◌, ℕ, Bool, true, false, Option, Some, None, List, [], ◌∷◌, ◌++◌, refl, sym, ap, ◌∙◌, subst, arith}
+use Rattle.std.proofs.Common.{◌≡◌, ◌≢◌, ℕ, false, Option, Some, None, List, [], ◌∷◌, ◌++◌, refl, sym, ap, ◌∙◌, subst, arith}
 use Rattle.std.specs.Prelude.{Contains, IsSome, IfSome, Result, Ok, Err}
 use Rattle.std.specs.Option.{option_to_list}
 use Rattle.std.proofs.lemmas.List.{append-nil}
@@ -10,7 +10,7 @@ use Rattle.room_edge.specs.Faults.{WriteFaultCounted, KeepsWriteFaults}
 use Rattle.room_edge.specs.Outside.{Outside, OnlyMade, puts}
 use Rattle.answer_model.specs.Answer.{Files, Answer, write_fault_line}
 use Rattle.answer_model.specs.Headline.{Begins, BeginFiles}
-use Rattle.answer_model.specs.Outcome.{IsBegun, Lacks}
+use Rattle.answer_model.specs.Outcome.{Lacks}
 use Rattle.answer_model.specs.RunFiles.{file_if}
 use Rattle.answer_model.specs.Steps.{is_made}
 use Rattle.answer_model.specs.Endings.{Says, made_after, looked_for, LeadsTo, EndsWith}
@@ -21,8 +21,8 @@ use Rattle.run_files.specs.declared.outputs.Output.{Output}
 use Rattle.run_files.specs.declared.outputs.Output.TheVariants.{Log, Out, Frames}
 use Rattle.run_files.specs.declared.outputs.Unwritten.{Unwritten}
 use Rattle.run_files.specs.declared.outputs.Unwritten.TheVariants.{Fault, Memory}
-use Rattle.run_files.specs.Texts.{Names, Texts, no_texts, both, files, name_at, text_at, made_before, Differ, AreApart, IsAmong, AreCreated, BeginTexts}
-use Rattle.run_files.specs.Written.{Adds, Falls, FaultCounted, Makes, MakesNone, IsThere, MakesOne, MakesAll, FallsMaking, MakesFiles, Tells, Blames}
+use Rattle.run_files.specs.Texts.{Names, Texts, no_texts, files, name_at, text_at, made_before, AreApart, IsAmong, AreCreated, BeginTexts}
+use Rattle.run_files.specs.Written.{Falls, FaultCounted, Makes, MakesNone, IsThere, MakesOne, MakesAll, FallsMaking, MakesFiles, Tells, Blames}
 use Rattle.run_files.proofs.Adding.{named, not_if, not_after, not_both, has_file}
 
 -- ---- one file
@@ -195,7 +195,7 @@ unmade_before l o (Some f) Frames name apart is =
 -- ---- endings
 
 some_of : {A : Type 0} (o : Option A) → IsSome o → (x : A) × (o ≡ Some x)
-some_of None h = absurd h
+some_of None h = absurd (cc)
 some_of (Some x) h = (x, refl)
 
 if_some : {A : Type 0} (o : Option A) (P : A → Type 0) (x : A) → o ≡ Some x → IfSome o P → P x

@@ -1,11 +1,11 @@
 -- The group whose frames are drawn.
-use Rattle.std.specs.Prelude.{◌≡◌, ℕ, ◌<◌, ◌≤◌, Bool, true, false, Option, Some, None, List, ⊤, slice_get}
+use Rattle.std.specs.Prelude.{◌≡◌, ℕ, ◌<◌, ◌≤◌, true, false, Option, Some, None, ⊤, slice_get}
 use Rattle.std.specs.Str.{bytes_eq}
 use Rattle.cell_grid.specs.Space.{Space, plane_count}
 use Rattle.model_tree.specs.declared.table.Model.{Model}
 use Rattle.model_tree.specs.Tree.{Word, Group, Tree, Leaf, atomic_leaf, cell_leaf, leaves, groups}
 use Rattle.model_tree.specs.Models.{tree_of}
-use Rattle.model_tree.specs.Leaves.{Settings, OfTree}
+use Rattle.model_tree.specs.Leaves.{Settings}
 use Rattle.text_forms.specs.Frames.{Picture}
 use Rattle.answer_model.specs.RunFiles.{group_at}
 use Rattle.run_files.specs.declared.outputs.FramesFile.{FramesFile}

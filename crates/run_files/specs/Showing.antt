@@ -1,8 +1,7 @@
 -- The frames that are drawn while a run goes on, and what its cycles add to each file.
-use Rattle.std.specs.Prelude.{◌≡◌, ℕ, ⊤, Bool, false, Option, Some, None, List, [], ◌∷◌, ◌++◌, map, if◌then◌else◌}
+use Rattle.std.specs.Prelude.{◌≡◌, ℕ, ◌≤◌, ⊤, Bool, false, Option, Some, None, List, [], ◌∷◌, if◌then◌else◌}
 use Rattle.std.specs.Option.{ForSome}
 use Rattle.quantity.specs.Bytes.{Bytes}
-use Rattle.cell_grid.specs.Space.{Space}
 use Rattle.model_tree.specs.Tree.{Tree}
 use Rattle.run_model.specs.Run.{PortRecord, Cycle}
 use Rattle.record_text.specs.declared.records.YRecord.{YRecord}
@@ -92,3 +91,8 @@ is_begun_before at (Some w) = is_other w.drawing.begun at
 abbrev pub BeginsAt : ℕ → Option Showing → Type 0
 BeginsAt at None = ⊤
 BeginsAt at (Some w) = ForSome w.drawing.begun (λ t. t ≡ at)
+
+-- no instant after this one was begun
+abbrev pub IsBegunBy : ℕ → Option Showing → Type 0
+IsBegunBy t None = ⊤
+IsBegunBy t (Some w) = ForSome w.drawing.begun (λ u. u ≤ t)

@@ -1,5 +1,5 @@
 -- The files that a run makes, by their names, and what stands in them.
-use Rattle.std.specs.Prelude.{◌≡◌, ◌≢◌, false, Option, Some, None, List, [], ◌∷◌, ◌++◌, ⊤, Contains}
+use Rattle.std.specs.Prelude.{◌≡◌, false, Option, Some, None, List, [], ◌++◌, ⊤, Contains}
 use Rattle.std.specs.Str.{bytes_eq}
 use Rattle.quantity.specs.Bytes.{Bytes}
 use Rattle.model_tree.specs.Tree.{Word}

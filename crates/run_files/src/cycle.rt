@@ -122,17 +122,18 @@ fn write_log<R: Room>(
     requires apart { AreApart (names_of named.now) }
     requires created { AreCreated (names_of named.now) (R.outside room.old).created }
     requires leaves { NamesLeaves model.now records.now }
-    ensures { (c : Cycle) → Holds records.now c → OfTree model.now (λ tree.
+    ensures texts { (c : Cycle) → Holds records.now c → OfTree model.now (λ tree.
         Writes (names_of named.now) (only Log (forms.log_bytes tree (letters_of named.now.letters) (c ∷ [])))
             (R.outside room.old) (R.outside room.new) result) }
+    ensures created { (R.outside room.new).created ≡ (R.outside room.old).created }
 {
     if named.log.is_none() {
         return Ok(());
     }
     piece.clear();
-    if log_bytes(records, &named.letters, model, piece).is_err() {
+    let Ok(()) = log_bytes(records, &named.letters, model, piece) else {
         return Err(Unwritten::Memory);
-    }
+    };
     write_to(room, named, Output::Log, piece)
 }
 
@@ -146,17 +147,18 @@ fn write_out<R: Room>(
 ) -> Result<(), Unwritten>
     requires apart { AreApart (names_of named.now) }
     requires created { AreCreated (names_of named.now) (R.outside room.old).created }
-    ensures { (c : Cycle) → Holds records.now c → OfTree model.now (λ tree.
+    ensures texts { (c : Cycle) → Holds records.now c → OfTree model.now (λ tree.
         Writes (names_of named.now) (only Out (forms.out_bytes tree (c ∷ [])))
             (R.outside room.old) (R.outside room.new) result) }
+    ensures created { (R.outside room.new).created ≡ (R.outside room.old).created }
 {
     if named.out.is_none() {
         return Ok(());
     }
     piece.clear();
-    if out_bytes(records, model, piece).is_err() {
+    let Ok(()) = out_bytes(records, model, piece) else {
         return Err(Unwritten::Memory);
-    }
+    };
     write_to(room, named, Output::Out, piece)
 }
 

@@ -76,8 +76,8 @@ impl Drawn {
         requires { ForSome self.old.drawing.begun (λ t. t ≡ at) }
         ensures { self.new ≡ took at (map plain given.now) self.old }
     {
-        for record in given {
-            self.take_one(at, record);
+        for one in given {
+            self.take_one(at, one);
         }
     }
 

@@ -1,6 +1,5 @@
 -- What is left of a run from where it stands.
-use Rattle.std.specs.Prelude.{◌≡◌, ℕ, ◌≤◌, Option, Some, None, List, ⊤, slice_get}
-use Rattle.std.specs.Option.{ForSome}
+use Rattle.std.specs.Prelude.{◌≡◌, ℕ, Option, Some, List, slice_get}
 use Rattle.std.specs.List.{All}
 use Rattle.model_tree.specs.Tree.{Tree, Leaf, leaves}
 use Rattle.run_model.specs.Run.{Cycle, Run, run_from}
@@ -8,16 +7,11 @@ use Rattle.run_model.specs.Instants.{InstantsNeverFall}
 use Rattle.run_model.specs.Fitting.{NamesItsParts}
 use Rattle.record_text.specs.CycleNames.{HasPortValues}
 use Rattle.flat_run.specs.Standing.{Standing, tree_in}
-use Rattle.run_files.specs.Showing.{Showing}
+use Rattle.run_files.specs.Showing.{Showing, IsBegunBy}
 
 -- at most n cycles from where a run stands
 abbrev pub run_of : ℕ → Standing → Run
 run_of n s = run_from n (tree_in s) s.end s.limit s.state
-
--- no instant after this one was begun
-abbrev pub IsBegunBy : ℕ → Option Showing → Type 0
-IsBegunBy t None = ⊤
-IsBegunBy t (Some w) = ForSome w.drawing.begun (λ u. u ≤ t)
 
 -- each further port of a cell of the model has a value at the start
 abbrev pub HaveValues : Tree → Type 0

@@ -5,3 +5,5 @@ pub mod Left
 pub mod Ends
 pub mod Ran
 pub mod Stopping
+pub mod Begins
+pub mod ToBe

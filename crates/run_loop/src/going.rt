@@ -59,9 +59,9 @@ pub(crate) fn write_next<R: Room>(
         at,
         &mut going.piece,
     )?;
-    if count(&mut going.counted, &going.records).is_err() {
+    let Ok(()) = count(&mut going.counted, &going.records) else {
         return Err(Unwritten::Memory);
-    }
+    };
     going.cycles += 1;
     Ok(())
 }

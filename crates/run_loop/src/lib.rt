@@ -2,6 +2,7 @@
 //! ended is told.
 #![tactic(auto)]
 
+mod begin;
 mod ending;
 mod going;
 pub mod laws;

@@ -1,0 +1,12 @@
+use Rattle.std.proofs.Common.{◌∙◌, ap, sym}
+use Rattle.run_files.specs.AskedFiles.{name_of, names_of}
+use Rattle.run_files.specs.Texts.{name_at}
+use Rattle.run_files.proofs.Making.{made_file}
+use Rattle.run_files.proofs.create.create.Goals as goal
+
+pub returns-in-Ok : goal.returns-in-Ok
+returns-in-Ok g c =
+    let old = g.R.Room.outside c.args.room.now in
+    let new = g.R.Room.outside c.create.new.self in
+    let e = c.in-Ok.ensures in
+    made_file (name_at (names_of c.args.named.now) c.args.file) c.in-Some.name.now old new (sym c.name.ensures ∙ ap name_of c.in-Some.is) e.made e.created e.only e.faults

@@ -1,0 +1,100 @@
+-- What is told of a run that ended, and the outcome.
+use Rattle.std.proofs.Common.{◌≡◌, ◌≢◌, ℕ, ◌+◌, Option, Some, None, List, [], ◌∷◌, ◌++◌, length, refl, sym, ap, ◌∙◌, subst, arith, lit<}
+use Rattle.std.specs.Prelude.{Contains, decimal, codes, count_by}
+use Rattle.std.specs.Option.{option_map}
+use Rattle.quantity.specs.Bytes.{Bytes}
+use Rattle.rule_tree.specs.declared.outcome.RuleStop.{RuleStop}
+use Rattle.rule_tree.specs.declared.outcome.RuleStop.TheVariants.{NoTrueRule, Overflow, BadDelay}
+use Rattle.model_tree.specs.Tree.{Word, Tree, leaf_count}
+use Rattle.run_model.specs.Run.{Cycle, Verdict, done, too_many, stop}
+use Rattle.text_forms.specs.Lines.{ended}
+use Rattle.room_edge.specs.Faults.{WriteFaultCounted, KeepsWriteFaults}
+use Rattle.room_edge.specs.Outside.{Outside}
+use Rattle.answer_model.specs.Answer.{Answer}
+use Rattle.answer_model.specs.Endings.{Says, ShowsEnd, made_after, EndsWith}
+use Rattle.answer_model.specs.RunEnd.{end_line, made_line, many_line, stop_line, stop_status, stopped_at}
+use Rattle.answer_model.proofs.Endings.{endings_follow}
+use Rattle.answer_model.proofs.Said.{said_among, shown_among}
+use Rattle.answer_model.proofs.Stages.{then_ends, rose_by_said, rose_by_shown}
+use Rattle.run_files.specs.declared.outputs.Outputs.{Outputs}
+use Rattle.run_files.specs.Texts.{Names, Texts, no_texts, files}
+use Rattle.run_files.specs.Written.{Adds}
+use Rattle.run_files.specs.Counts.{Counts, no_counts, counts_of}
+use Rattle.run_files.proofs.Counting.{counts_y, counts_s, ones_counted}
+use Rattle.run_loop.specs.Answers.{run_statuses}
+use Rattle.run_loop.specs.declared.going.Going.{Going}
+use Rattle.run_loop.specs.Ends.{end_text, made_text, done_text, said_by, TellsEnd, HasCounted}
+use Rattle.run_loop.specs.ToBe.{IsAnswerOf}
+
+-- ---- the last line
+
+-- of a model that is read
+pub end_told : (o : Outputs) (tree : Tree) (cycles : List Cycle) (going : Going) (line : Bytes) → o.made ≡ None → HasCounted o tree cycles going → line ≡ ended (end_text o.end going.cycles) → line ≡ ended (done_text o.made o.end tree cycles)
+end_told o tree cycles going line none has is =
+    is ∙ ap (λ n. ended (end_text o.end n)) has.number ∙ sym (ap (λ m. ended (done_text m o.end tree cycles)) none)
+
+none_counted : (o : Outputs) (tree : Tree) (cycles : List Cycle) (going : Going) (size : ℕ) → o.made ≡ Some size → going.counted ≡ None → HasCounted o tree cycles going → ⊥
+none_counted o tree cycles going size some none has =
+    let both : (let x : Option Counts = None in x) ≡ Some (counts_of cycles (no_counts (leaf_count tree))) = sym none ∙ has.counted ∙ ap (option_map (λ (n : ℕ). counts_of cycles (no_counts (leaf_count tree)))) some in
+    cc
+
+pub not_counted : (o : Outputs) (tree : Tree) (cycles : List Cycle) (going : Going) (size : ℕ) → o.made ≡ Some size → going.counted ≡ None → HasCounted o tree cycles going → ⊥
+not_counted = none_counted
+
+made_is : (size : ℕ) (tree : Tree) (cycles : List Cycle) → made_text size (leaf_count tree) (length cycles) (counts_of cycles (no_counts (leaf_count tree))) ≡ made_line size tree cycles
+made_is size tree cycles =
+    let k = counts_of cycles (no_counts (leaf_count tree)) in
+    let y = counts_y cycles (no_counts (leaf_count tree)) ∙ from_zero _ in
+    let s = counts_s cycles (no_counts (leaf_count tree)) ∙ from_zero _ in
+    let ones = ones_counted (leaf_count tree) cycles in
+    λ i. codes "made " ++ decimal size ++ codes " cells " ++ decimal (leaf_count tree) ++ codes " cycles " ++ decimal (length cycles)
+        ++ codes " y " ++ decimal (y i) ++ codes " s " ++ decimal (s i) ++ codes " ones " ++ decimal (ones i)
+  where
+    from_zero : (n : ℕ) → 0 + n ≡ n
+    from_zero n = omega arith
+
+-- of a model that is made
+pub made_told : (o : Outputs) (tree : Tree) (cycles : List Cycle) (going : Going) (line : Bytes) (size cells : ℕ) (k : Counts) → o.made ≡ Some size → going.counted ≡ Some k → cells ≡ leaf_count tree → HasCounted o tree cycles going → line ≡ ended (made_text size cells going.cycles k)
+    → line ≡ ended (done_text o.made o.end tree cycles)
+made_told o tree cycles going line size cells k some counted all has is =
+    let both : Some k ≡ Some (counts_of cycles (no_counts (leaf_count tree))) = sym counted ∙ has.counted ∙ ap (option_map (λ (n : ℕ). counts_of cycles (no_counts (leaf_count tree)))) some in
+    let same : k ≡ counts_of cycles (no_counts (leaf_count tree)) = cc in
+    is ∙ (λ i. ended (made_text size (all i) (has.number i) (same i))) ∙ ap ended (made_is size tree cycles) ∙ sym (ap (λ m. ended (done_text m o.end tree cycles)) some)
+
+-- ---- the outcome
+
+-- all is written, and what is to be said was said
+pub told_ends : (a : Answer) (n : Names) (texts : Texts) (o : Outputs) (tree : Tree) (cycles : List Cycle) (v : Verdict) (inputs : List Word) (old mid new : Outside) (status : ℕ) → IsAnswerOf n texts (said_by o tree cycles v) a → Adds n texts old mid → TellsEnd o tree cycles v mid new status
+    → EndsWith a (made_after inputs (files n no_texts)) old new status
+told_ends a n texts o tree cycles done inputs old mid new status is adds tells =
+    then_ends a (made_after inputs (files n no_texts)) (made_after inputs (files n texts)) old mid new status (adds.leads no_texts a inputs)
+    (endings_follow.ended a (made_after inputs (files n texts)) mid new (ended (done_text o.made o.end tree cycles)) status (sym is.made) is.shown is.complained
+    (subst (λ s. ShowsEnd (ended (done_text o.made o.end tree cycles)) s mid new status) (sym is.status) tells))
+told_ends a n texts o tree cycles (too_many t) inputs old mid new status is adds tells =
+    then_ends a (made_after inputs (files n no_texts)) (made_after inputs (files n texts)) old mid new status (adds.leads no_texts a inputs)
+    (endings_follow.said a (made_after inputs (files n texts)) mid new status (sym is.made) (sym is.shown)
+    (subst (λ l. Says l a.status mid new status) (sym is.complained) (subst (λ s. Says (ended (many_line o.limit t)) s mid new status) (sym is.status) tells)))
+told_ends a n texts o tree cycles (stop leaf t why) inputs old mid new status is adds tells =
+    then_ends a (made_after inputs (files n no_texts)) (made_after inputs (files n texts)) old mid new status (adds.leads no_texts a inputs)
+    (endings_follow.said a (made_after inputs (files n texts)) mid new status (sym is.made) (sym is.shown)
+    (subst (λ l. Says l a.status mid new status) (sym is.complained) (subst (λ s. Says (ended (stop_line tree leaf t why)) s mid new status) (sym is.status) tells)))
+
+-- ---- statuses
+
+abbrev IsOwn : RuleStop → Type 0
+IsOwn why = Contains run_statuses (stop_status why) × (stop_status why ≡ 5 → ⊥)
+
+own : (why : RuleStop) → IsOwn why
+own NoTrueRule = ((2, lit< tt, refl), λ e. absurd (omega (arith, e)))
+own Overflow = ((3, lit< tt, refl), λ e. absurd (omega (arith, e)))
+own (BadDelay d) = ((4, lit< tt, refl), λ e. absurd (omega (arith, e)))
+
+pub told_known : (o : Outputs) (tree : Tree) (cycles : List Cycle) (v : Verdict) (old new : Outside) (status : ℕ) → TellsEnd o tree cycles v old new status → Contains run_statuses status
+told_known o tree cycles done old new status tells = shown_among run_statuses (ended (done_text o.made o.end tree cycles)) 0 old new status (0, lit< tt, refl) (1, lit< tt, refl) (6, lit< tt, refl) tells
+told_known o tree cycles (too_many t) old new status tells = said_among run_statuses (ended (many_line o.limit t)) 11 old new status (5, lit< tt, refl) (1, lit< tt, refl) (6, lit< tt, refl) tells
+told_known o tree cycles (stop leaf t why) old new status tells = said_among run_statuses (ended (stop_line tree leaf t why)) (stop_status why) old new status (own why).0 (1, lit< tt, refl) (6, lit< tt, refl) tells
+
+pub told_rose : (o : Outputs) (tree : Tree) (cycles : List Cycle) (v : Verdict) (old mid new : Outside) (status : ℕ) → KeepsWriteFaults old mid → TellsEnd o tree cycles v mid new status → status ≡ 5 → WriteFaultCounted old new
+told_rose o tree cycles done old mid new status keeps tells five = rose_by_shown (ended (done_text o.made o.end tree cycles)) 0 old mid new status keeps (λ e. absurd (omega (arith, e))) tells five
+told_rose o tree cycles (too_many t) old mid new status keeps tells five = rose_by_said (ended (many_line o.limit t)) 11 old mid new status keeps (λ e. absurd (omega (arith, e))) tells five
+told_rose o tree cycles (stop leaf t why) old mid new status keeps tells five = rose_by_said (ended (stop_line tree leaf t why)) (stop_status why) old mid new status keeps (λ e. absurd ((own why).1 e)) tells five
