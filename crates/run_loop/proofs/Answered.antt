@@ -127,9 +127,9 @@ run_fit o s may fit drawn is =
     }
 
 -- the answer, by its texts and what is said
-pub answer_is : (a : Asked) (o : Outputs) (s : Standing) (inputs : List Word) (drawn : Option Showing) → AreOutputsOf a o → MayRun o s → drawn ≡ showing_at_start (tree_in s) o.frames → AreFit (tree_in s) (showing_at_start (tree_in s) o.frames) (run_of (most_cycles o.end o.limit) s).cycles → InstantsNeverFall 0 (run_of (most_cycles o.end o.limit) s).cycles
+pub answer_is : (a : Asked) (o : Outputs) (s : Standing) (inputs : List Word) (drawn : Option Showing) → AreOutputsOf a o → MayRun o s → drawn ≡ showing_at_start (tree_in s) o.frames → InstantsNeverFall 0 (run_of (most_cycles o.end o.limit) s).cycles
     → IsAnswerOf (names_in o (tree_in s)) (left_texts (tree_in s) (letters_of o.letters) drawn (run_of (most_cycles o.end o.limit) s).cycles) (said_by o (tree_in s) (run_of (most_cycles o.end o.limit) s).cycles (run_of (most_cycles o.end o.limit) s).verdict) (answer_to a s inputs)
-answer_is a o s inputs drawn are may is fit falls =
+answer_is a o s inputs drawn are may is falls =
     let tree = tree_in s in
     let r = run_of (most_cycles o.end o.limit) s in
     let same = run_is a o s are may in
@@ -228,3 +228,19 @@ pub have_values : (t : Tree) → IsTrue (is_sound_model t) → HaveValues t
 have_values t sound k l is =
     let lt = slice_get_within (leaves t) k l is in
     subst HasPortValues (get_or_from_slice_get (leaves t) k l l is) (leaves_have t 0 (sound_part t sound) k l lt)
+
+-- ---- the names of the files
+
+pub names_are : (o : Outputs) (tree : Tree) (n : Names) (b : Bool) (drawn : Option Showing) → n ≡ names_with o b → b ≡ is_some drawn → drawn ≡ showing_at_start tree o.frames → n ≡ names_in o tree
+names_are o tree n b drawn names is same = names ∙ ap (names_with o) (is ∙ ap is_some same)
+
+-- the same answer, as the stage has its names, its letters and its frames
+pub answer_as : (n : Names) (letters : List ℕ) (a : Asked) (o : Outputs) (s : Standing) (inputs : List Word) (drawn : Option Showing) → AreOutputsOf a o → MayRun o s → RunsAreFit → n ≡ names_in o (tree_in s) → letters ≡ letters_of o.letters → drawn ≡ showing_at_start (tree_in s) o.frames
+    → IsAnswerOf n (left_texts (tree_in s) letters drawn (run_of (most_cycles o.end o.limit) s).cycles) (said_by o (tree_in s) (run_of (most_cycles o.end o.limit) s).cycles (run_of (most_cycles o.end o.limit) s).verdict) (answer_to a s inputs)
+answer_as n letters a o s inputs drawn are may known names same is =
+    let r = run_of (most_cycles o.end o.limit) s in
+    let cycles = ap (λ (q : Run). q.cycles) (run_is_run o s may) in
+    let falls = subst (InstantsNeverFall 0) cycles (known (tree_in s) s.state.events s.end s.limit).1 in
+    subst (λ (m : Names). IsAnswerOf m (left_texts (tree_in s) letters drawn r.cycles) (said_by o (tree_in s) r.cycles r.verdict) (answer_to a s inputs)) (sym names)
+    (subst (λ (ls : List ℕ). IsAnswerOf (names_in o (tree_in s)) (left_texts (tree_in s) ls drawn r.cycles) (said_by o (tree_in s) r.cycles r.verdict) (answer_to a s inputs)) (sym same)
+    (answer_is a o s inputs drawn are may is falls))

@@ -6,7 +6,7 @@ use Rattle.quantity.specs.Bytes.{Bytes}
 use Rattle.rule_tree.specs.declared.outcome.RuleStop.{RuleStop}
 use Rattle.rule_tree.specs.declared.outcome.RuleStop.TheVariants.{NoTrueRule, Overflow, BadDelay}
 use Rattle.model_tree.specs.Tree.{Word, Tree, leaf_count}
-use Rattle.run_model.specs.Run.{Cycle, Verdict, done, too_many, stop}
+use Rattle.run_model.specs.Run.{Cycle, Run, Verdict, done, too_many, stop}
 use Rattle.text_forms.specs.Lines.{ended}
 use Rattle.room_edge.specs.Faults.{WriteFaultCounted, KeepsWriteFaults}
 use Rattle.room_edge.specs.Outside.{Outside}
@@ -23,7 +23,11 @@ use Rattle.run_files.specs.Counts.{Counts, no_counts, counts_of}
 use Rattle.run_files.proofs.Counting.{counts_y, counts_s, ones_counted}
 use Rattle.run_loop.specs.Answers.{run_statuses}
 use Rattle.run_loop.specs.declared.going.Going.{Going}
-use Rattle.run_loop.specs.Ends.{end_text, made_text, done_text, said_by, TellsEnd, HasCounted}
+use Rattle.run_files.specs.Showing.{left_texts}
+use Rattle.run_loop.specs.declared.ending.Ending.{Ending}
+use Rattle.run_loop.specs.Begins.{BeginsWith}
+use Rattle.run_loop.specs.Ran.{HasEnded}
+use Rattle.run_loop.specs.Ends.{IsVerdict, end_text, made_text, done_text, said_by, TellsEnd, HasCounted}
 use Rattle.run_loop.specs.ToBe.{IsAnswerOf}
 
 -- ---- the last line
@@ -98,3 +102,33 @@ pub told_rose : (o : Outputs) (tree : Tree) (cycles : List Cycle) (v : Verdict) 
 told_rose o tree cycles done old mid new status keeps tells five = rose_by_shown (ended (done_text o.made o.end tree cycles)) 0 old mid new status keeps (λ e. absurd (omega (arith, e))) tells five
 told_rose o tree cycles (too_many t) old mid new status keeps tells five = rose_by_said (ended (many_line o.limit t)) 11 old mid new status keeps (λ e. absurd (omega (arith, e))) tells five
 told_rose o tree cycles (stop leaf t why) old mid new status keeps tells five = rose_by_said (ended (stop_line tree leaf t why)) (stop_status why) old mid new status keeps (λ e. absurd ((own why).1 e)) tells five
+
+-- ---- a run whose files are made
+
+counted_at_end : (cs : List Cycle) (made : Option ℕ) (leaves : ℕ) → option_map (counts_of cs) (option_map (λ (size : ℕ). no_counts leaves) made) ≡ option_map (λ (size : ℕ). counts_of cs (no_counts leaves)) made
+counted_at_end cs None leaves = refl
+counted_at_end cs (Some size) leaves = refl
+
+has_counted : (o : Outputs) (tree : Tree) (r : Run) (was going : Going) (ending : Ending) → BeginsWith o tree was → HasEnded r was going ending → HasCounted o tree r.cycles going
+has_counted o tree r was going ending begins has =
+    record {
+      number = let n = has.cycles in let z = begins.cycles in omega (arith, n, z);
+      counted = has.counted ∙ ap (option_map (counts_of r.cycles)) begins.counted ∙ counted_at_end r.cycles o.made (leaf_count tree);
+    }
+
+-- what is told of a verdict and of the cycles that were counted
+abbrev pub TellsAny : Outputs → Tree → Going → Ending → Outside → Outside → ℕ → Type 0
+TellsAny o tree going ending old new status = (cycles : List Cycle) (v : Verdict) → IsVerdict ending v → HasCounted o tree cycles going → TellsEnd o tree cycles v old new status
+
+module _ (n : Names) (letters : List ℕ) (o : Outputs) (tree : Tree) (r : Run) (old mid new : Outside) (was going : Going) (ending : Ending) (status : ℕ) (begins : BeginsWith o tree was) (has : HasEnded r was going ending) (adds : Adds n (left_texts tree letters was.drawn r.cycles) old mid) (tells : TellsAny o tree going ending mid new status) where
+  told : TellsEnd o tree r.cycles r.verdict mid new status
+  told = tells r.cycles r.verdict has.verdict (has_counted o tree r was going ending begins has)
+
+  pub created_ends : (a : Answer) (inputs : List Word) → IsAnswerOf n (left_texts tree letters was.drawn r.cycles) (said_by o tree r.cycles r.verdict) a → EndsWith a (made_after inputs (files n no_texts)) old new status
+  created_ends a inputs is = told_ends a n (left_texts tree letters was.drawn r.cycles) o tree r.cycles r.verdict inputs old mid new status is adds told
+
+  pub created_known : Contains run_statuses status
+  created_known = told_known o tree r.cycles r.verdict mid new status told
+
+  pub created_rose : status ≡ 5 → WriteFaultCounted old new
+  created_rose five = told_rose o tree r.cycles r.verdict old mid new status adds.keeps told five

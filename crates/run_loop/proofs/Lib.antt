@@ -1,3 +1,4 @@
-pub mod Going
+pub mod Known
+pub mod GoesOn
 pub mod Ended
 pub mod Answered

@@ -7,7 +7,7 @@ use Rattle.run_files.specs.AskedFiles.{names_of}
 use Rattle.run_loop.specs.declared.ending.Ending.{Ending}
 use Rattle.run_loop.specs.Left.{run_of}
 use Rattle.run_loop.specs.Ran.{RunsWhole}
-use Rattle.run_loop.proofs.Going.{whole_run, last_fell, adds_created}
+use Rattle.run_loop.proofs.GoesOn.{whole_run, last_fell, adds_created}
 use Rattle.run_loop.proofs.run.run_all.Goals as goal
 
 pub returns-in_err-ending-clause-runs : goal.returns-in_err-ending-clause-runs

@@ -11,7 +11,7 @@ use Rattle.run_loop.specs.declared.ending.Ending.{Ending}
 use Rattle.run_loop.specs.declared.ending.Ending.TheVariants.{Done}
 use Rattle.run_loop.specs.Left.{run_of}
 use Rattle.run_loop.specs.Ran.{RunsTo}
-use Rattle.run_loop.proofs.Going.{Stands, stands_first, stands_next, names_due, falls_next, ends_by_verdict, ends_late, stops_here, stop_keeps, keeps-trans, keeps_same, goes_on, made_still}
+use Rattle.run_loop.proofs.GoesOn.{Stands, stands_first, stands_next, names_due, falls_next, ends_by_verdict, ends_late, stops_here, stop_keeps, keeps-trans, keeps_same, goes_on, made_still}
 use Rattle.run_loop.proofs.run.run_cycles.Goals as goal
 
 pub cycles-init : goal.cycles-init

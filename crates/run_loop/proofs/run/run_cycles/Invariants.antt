@@ -1,6 +1,6 @@
 use Rattle.record_text.specs.Chosen.{letters_of}
 use Rattle.run_files.specs.AskedFiles.{names_of}
-use Rattle.run_loop.proofs.Going.{Stands}
+use Rattle.run_loop.proofs.GoesOn.{Stands}
 use Rattle.run_loop.proofs.run.run_cycles.Given as goal
 
 abbrev pub invariant-cycles : goal.invariant-cycles

@@ -1,0 +1,11 @@
+use Rattle.std.proofs.Common.{◌∙◌, subst}
+use Rattle.answer_model.specs.Endings.{Says}
+use Rattle.answer_model.proofs.Said.{said_nothing}
+use Rattle.run_loop.proofs.ending.complain_delay.Goals as goal
+
+pub returns-in_default : goal.returns-in_default
+returns-in_default g c = λ settings. said_nothing _ _ _
+
+pub returns : goal.returns
+returns g c = λ settings.
+    subst (λ line. Says line 10 (g.R.Room.outside c.args.room.now) (g.R.Room.outside c.complain.new.room) c.complain.result) (c.deref.ensures.value ∙ c.in-Ok.ensures settings) c.complain.ensures

@@ -1,0 +1,70 @@
+use Rattle.std.proofs.Common.{◌≡◌, ◌∙◌, refl, sym, ap, subst, lit<}
+use Rattle.record_text.specs.Chosen.{letters_of}
+use Rattle.run_model.specs.Run.{most_cycles}
+use Rattle.model_tree.specs.declared.table.Model.{Model}
+use Rattle.model_tree.specs.Tree.{Tree}
+use Rattle.model_tree.specs.Models.{tree_of}
+use Rattle.answer_model.specs.Endings.{looked_for, made_after}
+use Rattle.answer_model.proofs.Endings.{endings_follow, rose_later}
+use Rattle.answer_model.proofs.Outcomes.{none_begun}
+use Rattle.answer_model.proofs.Stages.{then_ends}
+use Rattle.run_leaves.specs.Seated.{settings_at}
+use Rattle.flat_run.specs.Standing.{tree_in}
+use Rattle.run_files.specs.Texts.{Names, no_texts, files, AreApart}
+use Rattle.run_files.specs.Showing.{left_texts}
+use Rattle.run_files.specs.AskedFiles.{names_of}
+use Rattle.run_files.specs.Groups.{CanShowIn}
+use Rattle.run_files.proofs.Making.{all_created, unmade_ends, making_blames, tells_among, tells_rose}
+use Rattle.run_loop.specs.Answers.{answer_to, run_statuses}
+use Rattle.run_loop.specs.Begins.{BeginsWith}
+use Rattle.run_loop.specs.Left.{run_of}
+use Rattle.run_loop.proofs.Answered.{names_are, names_apart, answer_as, run_fit, have_values}
+use Rattle.run_loop.proofs.stage.run_and_tell.Goals as goal
+
+pub begin-requires : goal.begin-requires
+begin-requires g c =
+    let s = c.args.run.now in
+    subst (λ (m : Model). CanShowIn m c.args.outputs.now.frames) (sym c.model.ensures) (settings_at s.settings, c.requires.shows)
+
+pub returns-in_default-clause-ends : goal.returns-in_default-clause-ends
+returns-in_default-clause-ends g c = λ a inputs are.
+    let x = answer_to a c.args.run.now inputs in
+    endings_follow.memory x (looked_for inputs) (g.R.Room.outside c.args.room.now) (none_begun x (looked_for inputs) refl refl)
+
+pub run_created-requires-clause-apart : goal.run_created-requires-clause-apart
+run_created-requires-clause-apart g c = subst AreApart (sym c.named_of-named.ensures.names) (names_apart c.args.outputs.now c.is_some.result c.requires.names)
+
+pub run_created-requires-clause-created : goal.run_created-requires-clause-created
+run_created-requires-clause-created g c = all_created (names_of c.named_of-named.result) (g.R.Room.outside c.args.room.now) (g.R.Room.outside c.create_files.new.room) c.in-Ok-create_files.ensures
+
+pub run_created-requires-clause-begins : goal.run_created-requires-clause-begins
+run_created-requires-clause-begins g c =
+    let s = c.args.run.now in
+    subst (λ (m : Model). BeginsWith c.args.outputs.now (tree_of m (settings_at s.settings)) c.in-Ok.going) c.model.ensures (c.in-Ok.ensures (settings_at s.settings))
+
+pub run_created-requires-clause-cycles : goal.run_created-requires-clause-cycles
+run_created-requires-clause-cycles g c =
+    let s = c.args.run.now in
+    let begins = subst (λ (m : Model). BeginsWith c.args.outputs.now (tree_of m (settings_at s.settings)) c.in-Ok.going) c.model.ensures (c.in-Ok.ensures (settings_at s.settings)) in
+    run_fit c.args.outputs.now s c.requires c.runs_are_fit.ensures c.in-Ok.going.drawn begins.drawn
+
+pub run_created-requires-clause-values : goal.run_created-requires-clause-values
+run_created-requires-clause-values g c = have_values (tree_in c.args.run.now) c.requires.sound
+
+pub returns-in-Ok-clause-ends : goal.returns-in-Ok-clause-ends
+returns-in-Ok-clause-ends g c = λ a inputs are. ?
+
+pub returns-in-Ok-clause-write_fault : goal.returns-in-Ok-clause-write_fault
+returns-in-Ok-clause-write_fault g c = λ five. ?
+
+pub tell_unwritten-requires : goal.tell_unwritten-requires
+tell_unwritten-requires g c = ?
+
+pub returns-in-Err-clause-ends : goal.returns-in-Err-clause-ends
+returns-in-Err-clause-ends g c = λ a inputs are. ?
+
+pub returns-in-Err-clause-known : goal.returns-in-Err-clause-known
+returns-in-Err-clause-known g c = ?
+
+pub returns-in-Err-clause-write_fault : goal.returns-in-Err-clause-write_fault
+returns-in-Err-clause-write_fault g c = λ five. ?
