@@ -9,7 +9,7 @@ ghost use Rattle.run_model.specs.Run.{start, next_instant};
 ghost use Rattle.run_model.specs.Cycle.{cell_state, leaf_next, box_state};
 ghost use Rattle.record_text.specs.Held.{AreEmpty};
 ghost use Rattle.sparse_cycle.specs.Sparse.{leaf_of};
-ghost use Rattle.cell_engine.specs.Saved.{cell_of_saved};
+ghost use Rattle.cell_table.specs.Saved.{cell_of_saved};
 ghost use Rattle.run_leaves.specs.Seated.{is_box, settings_in};
 ghost use Rattle.flat_run.specs.Standing.{tree_in, next_of};
 ghost use Rattle.flat_run.specs.Steps.{Goes, visits_of};

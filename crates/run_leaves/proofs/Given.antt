@@ -9,7 +9,8 @@ use Rattle.model_tree.specs.declared.leaves.LeafAt.TheVariants.{Atomic, Cell}
 use Rattle.model_tree.specs.Tree.{Tree}
 use Rattle.run_model.specs.CellStep.{CellState, cell_emitted}
 use Rattle.run_model.specs.Cycle.{LeafState, cell_state, leaf_emitted}
-use Rattle.cell_engine.specs.Cells.{Cells, cell_at, with_cell}
+use Rattle.cell_engine.specs.Cells.{Cells, with_cell}
+use Rattle.cell_table.specs.Told.{cell_at}
 use Rattle.sparse_cycle.specs.Sparse.{leaf_of}
 use Rattle.run_leaves.specs.Seated.{Seated, states_in, settings_in, layouts_in, sizes_in, Places, HavePorts, HasPort}
 use Rattle.run_leaves.specs.Moving.{with_state, StaysAs}

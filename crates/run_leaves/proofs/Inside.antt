@@ -12,7 +12,8 @@ use Rattle.model_tree.specs.declared.leaves.LeafAt.TheVariants.{Atomic, Cell}
 use Rattle.model_tree.specs.Tree.{Tree}
 use Rattle.run_model.specs.CellStep.{CellState}
 use Rattle.run_model.specs.Cycle.{LeafState, box_state, cell_state, leaf_next}
-use Rattle.cell_engine.specs.Cells.{Cells, no_cell, cell_at}
+use Rattle.cell_engine.specs.Cells.{Cells}
+use Rattle.cell_table.specs.Told.{no_cell, cell_at}
 use Rattle.cell_engine.specs.Layout.{Layout}
 use Rattle.sparse_cycle.specs.Sparse.{leaf_of, no_leaf}
 use Rattle.run_leaves.specs.Seated.{is_box, box_there, cell_there, state_there, states_in, settings_in, layouts_in, sizes_in, Places, HasPort, HavePorts}

@@ -9,7 +9,8 @@ use Rattle.model_tree.specs.declared.leaves.LeafAt.{LeafAt}
 use Rattle.model_tree.specs.declared.leaves.LeafAt.TheVariants.{Atomic, Cell}
 use Rattle.run_model.specs.CellStep.{CellState}
 use Rattle.run_model.specs.Cycle.{LeafState, box_state, cell_state}
-use Rattle.cell_engine.specs.Cells.{Cells, no_cell, cell_at}
+use Rattle.cell_engine.specs.Cells.{Cells}
+use Rattle.cell_table.specs.Told.{no_cell, cell_at}
 use Rattle.run_leaves.specs.Seated.{box_there, cell_there, state_there, states_in, settings_in}
 use Rattle.run_leaves.specs.Moving.{with_box}
 use Rattle.run_leaves.proofs.Places.{map-set, get-set, get-other, map-kept, set-same}

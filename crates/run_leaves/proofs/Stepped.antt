@@ -16,10 +16,11 @@ use Rattle.atomic_face.specs.Stocked.{ChangesBox}
 use Rattle.run_model.specs.CellStep.{PortState, CellState, Stepped, cell_next}
 use Rattle.run_model.specs.Cycle.{cell_state}
 use Rattle.run_model.specs.Run as run
-use Rattle.cell_engine.specs.declared.cell.Cell.{Cell}
-use Rattle.cell_engine.specs.declared.cell.CellStop.{CellStop}
-use Rattle.cell_engine.specs.declared.cell.CellStop.TheVariants as cell
-use Rattle.cell_engine.specs.Cells.{no_cell, cell_at, computed_of, in_four, Tells, Computes, OnlyCell, emitted_of, stop_of}
+use Rattle.cell_table.specs.declared.cell.Cell.{Cell}
+use Rattle.cell_engine.specs.declared.stop.CellStop.{CellStop}
+use Rattle.cell_engine.specs.declared.stop.CellStop.TheVariants as cell
+use Rattle.cell_table.specs.Told.{no_cell, cell_at, computed_of, in_four, Tells, OnlyCell, emitted_of}
+use Rattle.cell_engine.specs.Cells.{Computes, stop_of}
 use Rattle.cycle_steps.specs.declared.halt.Told.{Told}
 use Rattle.cycle_steps.specs.declared.halt.LeafStop.{LeafStop}
 use Rattle.run_leaves.specs.Seated.{HasPort}

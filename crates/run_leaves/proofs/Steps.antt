@@ -16,7 +16,8 @@ use Rattle.model_tree.specs.declared.leaves.LeafAt.TheVariants.{Atomic, Cell}
 use Rattle.model_tree.specs.Tree.{Word, Tree, Group, Leaf, atomic_leaf, cell_leaf, leaves}
 use Rattle.run_model.specs.CellStep.{CellState, Stepped, cell_moved}
 use Rattle.run_model.specs.Cycle.{LeafState, box_state, cell_state, Moved, box_moved, cell_result, sight_of}
-use Rattle.cell_engine.specs.Cells.{Cells, cell_at, computed_at, sight_in}
+use Rattle.cell_engine.specs.Cells.{Cells, computed_at, sight_in}
+use Rattle.cell_table.specs.Told.{cell_at}
 use Rattle.cell_engine.specs.Laws.{SeesItsGroup, StandAt}
 use Rattle.cell_engine.specs.Layout.{Layout}
 use Rattle.sparse_cycle.specs.Sparse.{leaf_of, move_to}

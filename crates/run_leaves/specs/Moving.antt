@@ -11,8 +11,8 @@ use Rattle.atomic_face.specs.StockView.{Stocked}
 use Rattle.run_model.specs.CellStep.{CellState, Stepped, cell_next}
 use Rattle.run_model.specs.Cycle.{LeafState, cell_state}
 use Rattle.run_model.specs.Run.{computed_of}
-use Rattle.cell_engine.specs.declared.cell.CellStop.{CellStop}
-use Rattle.cell_engine.specs.declared.cell.CellStop.TheVariants as cell
+use Rattle.cell_engine.specs.declared.stop.CellStop.{CellStop}
+use Rattle.cell_engine.specs.declared.stop.CellStop.TheVariants as cell
 use Rattle.cycle_steps.specs.declared.halt.Told.{Told}
 use Rattle.cycle_steps.specs.declared.halt.LeafStop.{LeafStop}
 use Rattle.cycle_steps.specs.declared.halt.LeafStop.TheVariants.{Rule, Memory}

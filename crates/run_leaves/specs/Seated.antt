@@ -14,7 +14,8 @@ use Rattle.model_tree.specs.LeafTexts.{in_ports}
 use Rattle.model_tree.specs.Models.{tree_of}
 use Rattle.run_model.specs.CellStep.{CellState}
 use Rattle.run_model.specs.Cycle.{LeafState, box_state, cell_state}
-use Rattle.cell_engine.specs.Cells.{Cells, cell_at}
+use Rattle.cell_engine.specs.Cells.{Cells}
+use Rattle.cell_table.specs.Told.{cell_at}
 use Rattle.cell_engine.specs.Layout.{Layout, StandsFor}
 use Rattle.sparse_cycle.specs.Sparse.{no_leaf}
 

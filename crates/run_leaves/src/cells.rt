@@ -9,7 +9,8 @@ ghost use Rattle.model_tree.specs.Pull.{cell_ports};
 ghost use Rattle.model_tree.specs.Sound.{is_sound_group};
 ghost use Rattle.run_model.specs.CellStep.{cell_next, cell_emitted, cell_output};
 ghost use Rattle.cell_engine.specs.Layout.{StandsFor};
-ghost use Rattle.cell_engine.specs.Cells.{cell_at, with_cell, bag_of_given, if_given, computed_at, OnlyCell};
+ghost use Rattle.cell_table.specs.Told.{cell_at, bag_of_given, if_given, OnlyCell};
+ghost use Rattle.cell_engine.specs.Cells.{with_cell, computed_at};
 ghost use Rattle.run_leaves.specs.Seated.{HasPort};
 ghost use Rattle.run_leaves.specs.Moving.{MovesCell, leaf_stop};
 

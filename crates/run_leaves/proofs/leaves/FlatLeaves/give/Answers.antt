@@ -5,7 +5,8 @@ use Rattle.atomic_face.specs.StockView.{Stocked}
 use Rattle.model_tree.specs.declared.leaves.LeafAt.TheVariants.{Atomic, Cell}
 use Rattle.run_model.specs.CellStep.{CellState, cell_next, cell_emitted, cell_output}
 use Rattle.run_model.specs.Cycle.{LeafState, cell_state, leaf_next, leaf_emitted, collected_of}
-use Rattle.cell_engine.specs.Cells.{Cells, cell_at}
+use Rattle.cell_engine.specs.Cells.{Cells}
+use Rattle.cell_table.specs.Told.{cell_at}
 use Rattle.sparse_cycle.specs.Sparse.{leaf_of}
 use Rattle.run_leaves.specs.Seated.{Seated, states_in, settings_in, layouts_in}
 use Rattle.run_leaves.specs.Moving.{with_state, StaysAs}

@@ -12,7 +12,8 @@ use Rattle.model_tree.specs.Leaves.{no_settings}
 use Rattle.model_tree.proofs.Read.{rows-length}
 use Rattle.run_model.specs.CellStep.{CellState}
 use Rattle.run_model.specs.Cycle.{LeafState}
-use Rattle.cell_engine.specs.Cells.{Cells, cell_at}
+use Rattle.cell_engine.specs.Cells.{Cells}
+use Rattle.cell_table.specs.Told.{cell_at}
 use Rattle.cell_engine.specs.Layout.{Layout, StandsFor}
 use Rattle.sparse_cycle.specs.Sparse.{leaf_of, move_to}
 use Rattle.cycle_steps.specs.Moving.{Moves}
