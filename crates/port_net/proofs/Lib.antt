@@ -1,0 +1,5 @@
+pub mod Stood
+pub mod Standing
+pub mod Coming
+pub mod Rowed
+pub mod Final

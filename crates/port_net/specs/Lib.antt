@@ -1,2 +1,5 @@
 pub mod Nodes
 pub mod Nets
+pub mod Shown
+pub mod Outside
+pub mod Rows

@@ -1,9 +1,16 @@
 // The ports of a model as a net of numbered nodes.
 #![tactic(auto)]
 
+mod growing;
+mod links;
 pub mod making;
 pub mod net;
+mod nodes;
+mod outputs;
+mod ports;
+mod rows;
 pub mod source;
+mod sources;
 
 pub use making::net_of;
 pub use net::{Net, Node};

@@ -1,0 +1,46 @@
+use Rattle.std.proofs.Common.{rules, ◌≡◌, ◌<◌, ◌+◌, ◌++◌, [], ◌∷◌, ℕ, List, map, take, length, refl, sym, ap, ◌∙◌, subst, arith}
+use Rattle.std.proofs.lemmas.Grind.{common_steps}
+use Rattle.std.proofs.lemmas.List.{take_more}
+use Rattle.model_tree.specs.declared.component.Component.{Component}
+use Rattle.model_tree.specs.declared.link.Link.{Link}
+use Rattle.model_tree.specs.Pull as P
+use Rattle.port_net.specs.declared.ports.Outputs.{Outputs}
+use Rattle.port_net.specs.Shown.{AllGive}
+use Rattle.port_net.specs.Outside.{AllOutputs, leaves_of, given_in}
+use Rattle.port_net.proofs.Stood.{extends-on}
+use Rattle.port_net.proofs.Coming.{coupled-gives, coupled-leaves, outputs-more, leaves-more}
+use Rattle.port_net.proofs.outputs.+outputs.Goals as goal
+
+pub outputs_of_all-loop-child-preserved : goal.outputs_of_all-loop-child-preserved
+outputs_of_all-loop-child-preserved t c =
+    let within : c.loop-child.child-index < length c.args.children.now = search rules in
+    let pushed : c.push.new.self.items ≡ c.loop-child.outs.items ++ c.in_ok-out.out ∷ [] = search rules in
+    let next : c.in_ok-next.next ≡ c.loop-child.next + c.in_ok-out.out.leaves = grind (arith, common_steps) in
+    let took : take (c.loop-child.child-index + 1) c.args.children.now ≡ take c.loop-child.child-index c.args.children.now ++ c.child-item.result ∷ [] =
+    take_more c.args.children.now c.loop-child.child-index c.child-item.result within ∙ ap (λ (x : Component). take c.loop-child.child-index c.args.children.now ++ x ∷ []) (sym c.child-item.is) in
+    let inv = c.loop-child.invariant in
+    record {
+      extends = extends-on c.args.nodes.now.items c.loop-child.nodes.items c.outputs.new.nodes.items inv.extends c.in_ok-out.ensures.extends;
+      ok = outputs-more c.loop-child.nodes.items c.outputs.new.nodes.items c.args.children.now c.loop-child.child-index c.child-item.result c.args.first c.loop-child.next c.loop-child.outs.items c.push.new.self.items c.in_ok-out.out
+          c.in_ok-out.ensures.extends inv.ok inv.next c.in_ok-out.ensures.ok pushed took;
+      next = leaves-more c.args.first c.loop-child.next c.in_ok-next.next c.loop-child.outs.items c.push.new.self.items c.in_ok-out.out inv.next next pushed;
+    }
+
+pub outputs_of_coupled-returns-clause-ok : goal.outputs_of_coupled-returns-clause-ok
+outputs_of_coupled-returns-clause-ok t c =
+    let mid = c.outputs_of_all.new.nodes.items in
+    let new = c.link_nodes.new.nodes.items in
+    let known : AllOutputs c.outputs_of_all.new.nodes.items c.args.coupled.now.children.items c.args.first c.in_ok-outs.outs.items =
+    subst (λ (cs : List Component). AllOutputs c.outputs_of_all.new.nodes.items cs c.args.first c.in_ok-outs.outs.items) c.deref.ensures.value c.in_ok-outs.ensures.ok in
+    let here : AllOutputs c.outputs_of_all.new.nodes.items c.deref-2.result.now c.args.first c.deref-3.result.now =
+    subst (λ (cs : List Component). AllOutputs c.outputs_of_all.new.nodes.items cs c.args.first c.deref-3.result.now) (sym c.deref-2.ensures.value)
+    (subst (λ (os : List Outputs). AllOutputs c.outputs_of_all.new.nodes.items c.args.coupled.now.children.items c.args.first os) (sym c.deref-3.ensures.value) known) in
+    record {
+      first = refl;
+      leaves = λ settings. c.in_ok-leaves.ensures ∙ ap leaves_of c.deref-5.ensures.value ∙ coupled-leaves mid c.args.coupled.now c.args.first c.in_ok-outs.outs.items settings known;
+      gives = λ ins settings port.
+          coupled-gives new c.args.coupled.now c.args.first settings ins c.in_ok-links.links.items port
+          (subst (λ (ls : List Link). AllGive ins new c.in_ok-links.links.items (map (λ (l : Link). P.at_source l.from P.nothing (given_in c.args.coupled.now.children.items settings c.args.first) P.nothing) ls)) c.deref-4.ensures.value
+          (subst (λ (cs : List Component). AllGive ins new c.in_ok-links.links.items (map (λ (l : Link). P.at_source l.from P.nothing (given_in cs settings c.args.first) P.nothing) c.deref-4.result.now)) c.deref-2.ensures.value
+          (c.in_ok-links.ensures.gives ins P.nothing c.args.first settings (λ p. refl) here)));
+    }

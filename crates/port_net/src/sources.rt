@@ -1,0 +1,241 @@
+// The nodes of what stands at ports, and of what links bring.
+ghost use Rattle.std.specs.Prelude.{◌≡◌, ◌<◌, ℕ, ℤ, List, Some, map, length, IfOk, IfSome, OnOk, slice_get};
+ghost use Rattle.model_tree.specs.Tree.{Word, name_of};
+ghost use Rattle.model_tree.specs.Causes.{OfComponent};
+ghost use Rattle.model_tree.specs.Pull.{Source as AnySource};
+ghost use Rattle.port_net.specs.Shown.{Extends, Gives, AllGive};
+ghost use Rattle.port_net.specs.Outside.{PortsAre, InsideIs, AllOutputs, GivesOut, cell_lists, child_lists};
+ghost use Rattle.port_net.specs.Outside.{brought_by, stands_at, given_in, place_from, comes_out};
+
+use crate::links::{pick, same};
+use crate::net::Node;
+use crate::nodes::{counted, give, join};
+use crate::ports::{At, Inside, Outputs, Ports};
+use model_tree::{Component, End, Link};
+use quantity::{Name, OutOfMemory};
+use std::alloc::{AllocError, Global};
+
+/// The node of what stands at a port. An input of top that there is not gives no net.
+pub(crate) fn node_at(
+    alloc: Global,
+    ports: &Ports<'_, '_, '_>,
+    port: &Name,
+    nodes: &mut Vec<Node>,
+) -> Result<u32, OutOfMemory>
+    ensures extends { OnOk result (Extends nodes.old.items nodes.new.items) }
+    ensures gives { IfOk result
+        (λ k. (ins : List Word) (lists : Word → List AnySource)
+        → PortsAre ins nodes.old.items ports.now lists → Gives ins nodes.new.items k (lists port.now)) }
+{
+    match ports {
+        Ports::Nothing => join(nodes, Vec::new(alloc)),
+        Ports::Inputs(names) => place_among(names, port),
+        Ports::Linked(links, ks, at) => {
+            let older = pick(alloc, links, ks, at, port)?;
+            join(nodes, older)
+        }
+    }
+}
+
+/// The place of a name.
+fn place_among(names: &[Name], name: &Name) -> Result<u32, OutOfMemory>
+    ensures { IfOk result (λ k. slice_get names.now k ≡ Some name.now) }
+{
+    for (i, other) in names.iter().enumerate() {
+        if same(other, name) {
+            return counted(i);
+        }
+    }
+    Err(OutOfMemory)
+}
+
+/// The nodes of what stands at ports, one after another.
+pub(crate) fn row(
+    alloc: Global,
+    ports: &Ports<'_, '_, '_>,
+    names: &[Name],
+    nodes: &mut Vec<Node>,
+) -> Result<Vec<u32>, OutOfMemory>
+    ensures extends { OnOk result (Extends nodes.old.items nodes.new.items) }
+    ensures gives { IfOk result
+        (λ ks. (ins : List Word) (lists : Word → List AnySource)
+        → PortsAre ins nodes.old.items ports.now lists
+        → AllGive ins nodes.new.items ks.items (map lists names.now)) }
+{
+    let mut ks = Vec::new(alloc);
+    for name in names {
+        let k = node_at(alloc, ports, name, nodes)?;
+        ks.push(k).map_err(AllocError::from)?;
+    }
+    Ok(ks)
+}
+
+/// The node of each link: of what stands where it begins.
+pub(crate) fn link_nodes(
+    alloc: Global,
+    links: &[Link],
+    own: &Ports<'_, '_, '_>,
+    inside: &Inside<'_, '_>,
+    nodes: &mut Vec<Node>,
+) -> Result<Vec<u32>, OutOfMemory>
+    ensures extends { OnOk result (Extends nodes.old.items nodes.new.items) }
+    ensures gives { IfOk result
+        (λ ks. (ins : List Word) (lists : Word → List AnySource) (first : ℕ) (settings : ℕ → List ℤ)
+        → PortsAre ins nodes.old.items own.now lists → InsideIs nodes.old.items inside.now first
+        → AllGive ins nodes.new.items ks.items
+        (brought_by inside.now settings first lists links.now)) }
+{
+    let mut ks = Vec::new(alloc);
+    for link in links {
+        let k = node_of(alloc, &link.from, own, inside, nodes)?;
+        ks.push(k).map_err(AllocError::from)?;
+    }
+    Ok(ks)
+}
+
+/// The node of what stands at an end of a link.
+fn node_of(
+    alloc: Global,
+    from: &End,
+    own: &Ports<'_, '_, '_>,
+    inside: &Inside<'_, '_>,
+    nodes: &mut Vec<Node>,
+) -> Result<u32, OutOfMemory>
+    ensures extends { OnOk result (Extends nodes.old.items nodes.new.items) }
+    ensures gives { IfOk result
+        (λ k. (ins : List Word) (lists : Word → List AnySource) (first : ℕ) (settings : ℕ → List ℤ)
+        → PortsAre ins nodes.old.items own.now lists → InsideIs nodes.old.items inside.now first
+        → Gives ins nodes.new.items k (stands_at inside.now settings first lists from.now)) }
+{
+    match from {
+        End::Own(port) => node_at(alloc, own, port, nodes),
+        End::Child(port, child) => child_node(alloc, inside, port, child, nodes),
+        End::Cell(_, cell) => cell_node(alloc, inside, *cell, nodes),
+    }
+}
+
+/// The node of a cell of this number.
+fn cell_node(
+    alloc: Global,
+    inside: &Inside<'_, '_>,
+    cell: u32,
+    nodes: &mut Vec<Node>,
+) -> Result<u32, OutOfMemory>
+    ensures extends { OnOk result (Extends nodes.old.items nodes.new.items) }
+    ensures gives { IfOk result
+        (λ k. (ins : List Word) → Gives ins nodes.new.items k (cell_lists inside.now cell)) }
+{
+    match inside {
+        Inside::Children(_, _) => join(nodes, Vec::new(alloc)),
+        Inside::Cells(first) => {
+            let leaf = first.checked_add(cell).ok_or(OutOfMemory)?;
+            give(nodes, leaf)
+        }
+    }
+}
+
+/// The node of what comes out of the child of a name at a port.
+fn child_node(
+    alloc: Global,
+    inside: &Inside<'_, '_>,
+    port: &Name,
+    child: &Name,
+    nodes: &mut Vec<Node>,
+) -> Result<u32, OutOfMemory>
+    ensures extends { OnOk result (Extends nodes.old.items nodes.new.items) }
+    ensures gives { IfOk result
+        (λ k. (ins : List Word) (first : ℕ) (settings : ℕ → List ℤ)
+        → InsideIs nodes.old.items inside.now first
+        → Gives ins nodes.new.items k (child_lists inside.now settings first port.now child.now)) }
+{
+    match inside {
+        Inside::Children(children, outs) => named_node(alloc, children, outs, port, child, nodes),
+        Inside::Cells(_) => join(nodes, Vec::new(alloc)),
+    }
+}
+
+/// The same among these children.
+fn named_node(
+    alloc: Global,
+    children: &[Component],
+    outs: &[Outputs],
+    port: &Name,
+    child: &Name,
+    nodes: &mut Vec<Node>,
+) -> Result<u32, OutOfMemory>
+    ensures extends { OnOk result (Extends nodes.old.items nodes.new.items) }
+    ensures gives { IfOk result
+        (λ k. (ins : List Word) (first : ℕ) (settings : ℕ → List ℤ)
+        → AllOutputs nodes.old.items children.now first outs.now
+        → Gives ins nodes.new.items k (given_in children.now settings first port.now child.now)) }
+{
+    match place_of(children, child) {
+        None => join(nodes, Vec::new(alloc)),
+        Some(place) => match out_at(outs, place) {
+            None => Err(OutOfMemory),
+            Some(out) => out_node(alloc, &children[place], out, port, nodes),
+        },
+    }
+}
+
+/// The outputs at a place, if there are any.
+pub(crate) fn out_at(outs: &[Outputs], place: usize) -> Option<&Outputs>
+    ensures { IfSome result (λ out. slice_get outs.now place ≡ Some out.now) }
+{
+    if place < outs.len() {
+        Some(&outs[place])
+    } else {
+        None
+    }
+}
+
+/// The place of the first child of a name.
+fn place_of(children: &[Component], name: &Name) -> Option<usize>
+    ensures place { (settings : ℕ → List ℤ) → result ≡ place_from children.now settings name.now 0 }
+    ensures within { IfSome result (λ place. place < length children.now) }
+{
+    for (i, child) in children.iter().enumerate() {
+        if same(name_of(child), name) {
+            return Some(i);
+        }
+    }
+    None
+}
+
+/// The name of a component.
+pub(crate) fn name_of(component: &Component) -> &Name
+    ensures { OfComponent component.now (λ t. result.now ≡ name_of t) }
+{
+    match component {
+        Component::Coupled(c) => &c.name,
+        Component::Cells(g) => &g.name,
+        Component::Atomic(a) => &a.name,
+    }
+}
+
+/// The node of what comes out of a component at a port.
+fn out_node(
+    alloc: Global,
+    component: &Component,
+    out: &Outputs,
+    port: &Name,
+    nodes: &mut Vec<Node>,
+) -> Result<u32, OutOfMemory>
+    ensures extends { OnOk result (Extends nodes.old.items nodes.new.items) }
+    ensures gives { IfOk result
+        (λ k. (ins : List Word) (settings : ℕ → List ℤ)
+        → GivesOut nodes.old.items component.now out.now
+        → Gives ins nodes.new.items k (comes_out component.now settings out.now port.now)) }
+{
+    match component {
+        Component::Coupled(c) => {
+            let older = pick(alloc, &c.links, &out.links, &At::Own, port)?;
+            join(nodes, older)
+        }
+        Component::Cells(g) => {
+            let older = pick(alloc, &g.links, &out.links, &At::Own, port)?;
+            join(nodes, older)
+        }
+        Component::Atomic(_) => give(nodes, out.first),
+    }
+}
