@@ -1,10 +1,9 @@
 -- What components give: a coupled component, and some components one after another.
-use Rattle.std.proofs.Common.{◌≡◌, ◌<◌, ◌≤◌, ◌+◌, ◌++◌, ℕ, ℤ, zero, suc, Bool, true, false, List, [], ◌∷◌, map, length, get_or, take, refl, sym, ap, ◌∙◌, subst, arith}
+use Rattle.std.proofs.Common.{◌≡◌, ◌+◌, ◌++◌, ℕ, ℤ, zero, suc, Bool, List, [], ◌∷◌, map, take, refl, sym, ap, ◌∙◌, subst, arith}
 use Rattle.std.specs.Prelude.{slice_get, Some, if◌then◌else◌}
 use Rattle.std.specs.List.{filter, flat_map}
 use Rattle.std.specs.Str.{bytes_eq}
 use Rattle.std.proofs.lemmas.List.Sums.{sum_by-cons}
-use mathlib.Core.Former.{Count}
 use Rattle.model_tree.specs.declared.component.Component.{Component, Row_of-Component, end_of-Component, more_of-Component, items-the_row-Component, items_hidden-the_row-Component-0}
 use Rattle.model_tree.specs.declared.component.Component.TheVariants as in_tree
 use Rattle.model_tree.specs.declared.component.Coupled.{Coupled}
@@ -14,7 +13,7 @@ use Rattle.model_tree.specs.declared.link.End.TheVariants as end
 use Rattle.model_tree.specs.declared.link.Link.{Link}
 use Rattle.model_tree.specs.Tree.{Word, name_of, leaf_count, leaf_counts}
 use Rattle.model_tree.specs.Pull as P
-use Rattle.model_tree.specs.Stands.{group_of, part_of, parts_of}
+use Rattle.model_tree.specs.Stands.{part_of, parts_of}
 use Rattle.model_tree.proofs.Rows.{row_of}
 use Rattle.port_net.specs.declared.net.Node.{Node}
 use Rattle.port_net.specs.declared.ports.Outputs.{Outputs}

@@ -1,11 +1,10 @@
 -- The net of a model, from its nodes and rows.
-use Rattle.std.proofs.Common.{◌≡◌, ◌<◌, ◌≤◌, ◌+◌, ◌++◌, ℕ, ℤ, zero, suc, Bool, true, false, List, [], ◌∷◌, map, length, reverse, get_or, take, drop, refl, sym, ap, ◌∙◌, subst, arith, append_assoc, append-nil}
+use Rattle.std.proofs.Common.{◌≡◌, ◌<◌, ◌≤◌, ◌+◌, ◌++◌, ℕ, zero, suc, Bool, true, false, List, [], ◌∷◌, map, length, reverse, refl, sym, ap, ◌∙◌, subst, arith, append_assoc, append-nil}
 use Rattle.std.specs.Prelude.{◌==◌, ⊤}
 use Rattle.std.specs.List.{All, AllByRecursion, flat_map, range_with_len}
-use Rattle.std.proofs.lemmas.List.{map-append, reverse-append, length-append, length-reverse, length-map}
+use Rattle.std.proofs.lemmas.List.{reverse-append, length-map}
 use Rattle.std.proofs.lemmas.List.FromFn.{length-range_with_len}
-use Rattle.std.proofs.lemmas.List.Elements.{All-nil, All-cons, All-append, All-map}
-use Rattle.std.proofs.lemmas.Bool.Decides.{nat_tests}
+use Rattle.std.proofs.lemmas.List.Elements.{All-nil, All-cons, All-append}
 use Rattle.model_tree.specs.Tree.{Word, Tree, ins_of}
 use Rattle.model_tree.specs.Pull as P
 use Rattle.model_tree.specs.LeafTexts.{name_at}
@@ -17,7 +16,7 @@ use Rattle.port_net.specs.declared.source.Source.TheVariants.{Leaf, TopIn}
 use Rattle.port_net.specs.declared.source.Span.{Span}
 use Rattle.port_net.specs.declared.growing.Growing.{Growing}
 use Rattle.port_net.specs.Nodes.{at_node, stands, list_of, part_at}
-use Rattle.port_net.specs.Nets.{named, IsThere, IsNetOf, RoutesOf, flat_of_net}
+use Rattle.port_net.specs.Nets.{named, IsThere, IsNetOf}
 use Rattle.port_net.specs.Shown.{shown, Gives, AllGive, IsInner, Extends, input_node}
 use Rattle.port_net.specs.Rows.{Shows}
 use Rattle.port_net.proofs.Stood.{at-behind}

@@ -1,35 +1,28 @@
 -- What stands at ports, and what is inside a component, as nodes are put behind.
-use Rattle.std.proofs.Common.{◌≡◌, ◌<◌, ◌≤◌, ◌+◌, ◌++◌, ℕ, ℤ, zero, suc, Bool, true, false, Option, Some, None, List, [], ◌∷◌, map, length, get_or, take, drop, refl, sym, ap, ◌∙◌, subst, arith, append_assoc, append-nil}
+use Rattle.std.proofs.Common.{◌≡◌, ◌<◌, ◌≤◌, ◌+◌, ◌++◌, ℕ, ℤ, zero, suc, Bool, true, false, Option, Some, None, List, [], ◌∷◌, length, get_or, drop, refl, sym, ap, ◌∙◌, subst, arith, append_assoc, append-nil}
 use Rattle.std.specs.Prelude.{slice_get, unwrap_or, if◌then◌else◌}
-use Rattle.std.specs.List.{filter, flat_map}
+use Rattle.std.specs.List.{flat_map}
 use Rattle.std.specs.Str.{bytes_eq}
-use Rattle.std.proofs.lemmas.List.{map_more, take_all, drop_more, drop_all}
-use Rattle.std.proofs.lemmas.List.Sums.{sum_by-cons}
+use Rattle.std.proofs.lemmas.List.{drop_more, drop_all}
 use Rattle.std.proofs.lemmas.Option.{slice_get_within}
-use Rattle.model_tree.specs.declared.component.Component.{Component, Row_of-Component, end_of-Component, more_of-Component, items-the_row-Component, items_hidden-the_row-Component-0}
+use Rattle.model_tree.specs.declared.component.Component.{Component}
 use Rattle.model_tree.specs.declared.component.Component.TheVariants.{Coupled', Cells, Atomic}
-use Rattle.model_tree.specs.declared.component.Component.TheVariants as in_tree
-use Rattle.model_tree.specs.declared.component.Coupled.{Coupled}
-use Rattle.model_tree.specs.declared.group.CellGroup.{CellGroup}
 use Rattle.model_tree.specs.declared.link.End.{End}
-use Rattle.model_tree.specs.declared.link.End.TheVariants as end
 use Rattle.model_tree.specs.declared.link.Link.{Link}
-use Rattle.model_tree.specs.Tree.{Word, name_of, leaf_count, leaf_counts}
+use Rattle.model_tree.specs.Tree.{Word, name_of, leaf_count}
 use Rattle.model_tree.specs.Pull as P
 use Rattle.model_tree.specs.LeafTexts.{name_at}
-use Rattle.model_tree.specs.Stands.{part_of, parts_of}
-use Rattle.model_tree.proofs.Rows.{row_of}
+use Rattle.model_tree.specs.Stands.{part_of}
 use Rattle.port_net.specs.declared.net.Node.{Node}
 use Rattle.port_net.specs.declared.ports.Outputs.{Outputs}
 use Rattle.port_net.specs.declared.ports.At.{At}
-use Rattle.port_net.specs.declared.ports.At.TheVariants as at
 use Rattle.port_net.specs.declared.ports.Ports.{Ports}
 use Rattle.port_net.specs.declared.ports.Ports.TheVariants as ports
 use Rattle.port_net.specs.declared.ports.Inside.{Inside}
 use Rattle.port_net.specs.declared.ports.Inside.TheVariants as inside
-use Rattle.port_net.specs.Shown.{shown, Gives, AllGive, Join, Extends, leaf_list, picked, one_if}
-use Rattle.port_net.specs.Outside.{is_at, InputsAre, PortsAre, given_in, GivesOut, AreOutputs, AllOutputs, leaves_of, child_lists, cell_lists, InsideIs, stands_at, brought_by, place_from, comes_out}
-use Rattle.port_net.proofs.Stood.{gives-kept, join-kept, links-join}
+use Rattle.port_net.specs.Shown.{shown, Gives, Join, Extends, leaf_list, picked, one_if}
+use Rattle.port_net.specs.Outside.{is_at, InputsAre, PortsAre, given_in, GivesOut, AreOutputs, AllOutputs, InsideIs, place_from, comes_out}
+use Rattle.port_net.proofs.Stood.{gives-kept, join-kept}
 
 -- ---- what is known stays known
 
@@ -109,9 +102,10 @@ none-found (c ∷ cs) settings first n port name e =
         rw t (later f)
 
 here-found : (ns : List Node) (d : Component) (cs : List Component) (settings : ℕ → List ℤ) (first : ℕ) (port name : Word) (p : Outputs) (c : Component) (o : Outputs) → AreOutputs ns d first p → bytes_eq (name_of (part_of d settings)) name ≡ true → d ≡ c → p ≡ o → GivesOut ns c o × (given_in (d ∷ cs) settings first port name ≡ comes_out c settings o port)
-here-found ns d cs settings first port name p c o are t e f =
-    (subst (λ (x : Component). GivesOut ns x o) e (subst (GivesOut ns d) f are.gives),
-    rw t (ap (λ (n : ℕ). P.given_out (part_of d settings) n leaf_list port) (sym are.first) ∙ ap (λ (x : Component). comes_out x settings p port) e ∙ ap (λ (x : Outputs). comes_out c settings x port) f))
+here-found ns d cs settings first port name p c o are t e f = (
+  subst (λ (x : Component). GivesOut ns x o) e (subst (GivesOut ns d) f are.gives),
+  rw t (ap (λ (n : ℕ). P.given_out (part_of d settings) n leaf_list port) (sym are.first) ∙ ap (λ (x : Component). comes_out x settings p port) e ∙ ap (λ (x : Outputs). comes_out c settings x port) f),
+)
 
 pub one-found : (ns : List Node) (cs : List Component) (os : List Outputs) (settings : ℕ → List ℤ) (first n j k : ℕ) (port name : Word) (c : Component) (o : Outputs) → AllOutputs ns cs first os → k ≡ n + j → place_from cs settings name n ≡ Some k → slice_get cs j ≡ Some c → slice_get os j ≡ Some o → GivesOut ns c o × (given_in cs settings first port name ≡ comes_out c settings o port)
 one-found ns [] os settings first n j k port name c o h s e f g = absurd (cc)

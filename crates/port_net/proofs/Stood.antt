@@ -1,7 +1,7 @@
 -- What stands at a node that is put behind others, and stays there.
-use Rattle.std.proofs.Common.{◌≡◌, ◌<◌, ◌+◌, ◌++◌, ℕ, Bool, true, false, List, [], ◌∷◌, map, length, reverse, refl, sym, ap, ◌∙◌, subst, arith, append_assoc, append-nil}
-use Rattle.std.specs.Prelude.{◌==◌, ⊤}
-use Rattle.std.specs.List.{AllByRecursion, All, flat_map, filter}
+use Rattle.std.proofs.Common.{◌≡◌, ◌<◌, ◌++◌, ℕ, Bool, true, false, List, [], ◌∷◌, map, length, reverse, refl, sym, ap, ◌∙◌, subst, arith, append_assoc, append-nil}
+use Rattle.std.specs.Prelude.{◌==◌}
+use Rattle.std.specs.List.{AllByRecursion, flat_map, filter}
 use Rattle.std.proofs.lemmas.List.{length-append, length-reverse, reverse-append, map-append}
 use Rattle.std.proofs.lemmas.Bool.Decides.{nat_tests}
 use Rattle.model_tree.specs.declared.link.End.{End}
@@ -9,9 +9,8 @@ use Rattle.model_tree.specs.declared.link.Link.{Link}
 use Rattle.model_tree.specs.Tree.{Word}
 use Rattle.model_tree.specs.Pull as P
 use Rattle.port_net.specs.declared.net.Node.{Node}
-use Rattle.port_net.specs.declared.net.Node.TheVariants.{Given, Joins}
-use Rattle.port_net.specs.declared.source.Source.{Source}
-use Rattle.port_net.specs.declared.source.Source.TheVariants.{Leaf, TopIn}
+use Rattle.port_net.specs.declared.net.Node.TheVariants.{Given}
+use Rattle.port_net.specs.declared.source.Source.TheVariants.{Leaf}
 use Rattle.port_net.specs.Nodes.{at_node, stands, list_of}
 use Rattle.port_net.specs.Nets.{named}
 use Rattle.port_net.specs.Shown.{shown, Gives, AllGive, Join, IsInner, Extends, leaf_list, picked}

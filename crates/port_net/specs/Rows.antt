@@ -7,7 +7,6 @@ use Rattle.model_tree.specs.Tree.{Word, name_of, leaf_count}
 use Rattle.model_tree.specs.Pull as P
 use Rattle.model_tree.specs.Stands.{part_of}
 use Rattle.port_net.specs.declared.net.Node.{Node}
-use Rattle.port_net.specs.declared.source.Span.{Span}
 use Rattle.port_net.specs.declared.growing.Growing.{Growing}
 use Rattle.port_net.specs.Nodes.{part_at}
 use Rattle.port_net.specs.Nets.{AreWithin}

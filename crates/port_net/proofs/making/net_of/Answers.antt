@@ -1,7 +1,7 @@
-use Rattle.std.proofs.Common.{◌≡◌, ◌<◌, ◌≤◌, ℕ, [], ◌∷◌, List, length, refl, sym, ap, ◌∙◌, subst, arith}
+use Rattle.std.proofs.Common.{◌≡◌, ◌<◌, ℕ, [], ◌∷◌, length, refl, sym, ◌∙◌, subst, arith}
 use Rattle.model_tree.specs.declared.component.Component.TheVariants as in_tree
 use Rattle.model_tree.specs.declared.component.Coupled.{Coupled}
-use Rattle.model_tree.specs.Tree.{Word, ins_of}
+use Rattle.model_tree.specs.Tree.{Word}
 use Rattle.model_tree.specs.Pull as P
 use Rattle.model_tree.specs.LeafTexts.{name_at}
 use Rattle.model_tree.specs.Stands.{part_of}

@@ -1,4 +1,4 @@
-use Rattle.std.proofs.Common.{◌≡◌, ◌+◌, [], ℕ, List, map, refl, subst}
+use Rattle.std.proofs.Common.{◌+◌, [], List, map, refl, subst}
 use Rattle.model_tree.specs.declared.link.Link.{Link}
 use Rattle.model_tree.specs.Pull as P
 use Rattle.port_net.specs.Shown.{AllGive, leaf_list}

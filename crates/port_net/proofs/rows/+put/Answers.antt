@@ -1,4 +1,4 @@
-use Rattle.std.proofs.Common.{rules, ◌≡◌, ◌≤◌, ◌<◌, ◌+◌, ◌++◌, [], ◌∷◌, ℕ, List, map, take, length, refl, sym, ap, ◌∙◌, subst, arith}
+use Rattle.std.proofs.Common.{◌≡◌, ◌≤◌, ◌<◌, ◌+◌, ◌++◌, [], ◌∷◌, ℕ, List, map, take, length, refl, sym, ap, ◌∙◌, subst, arith}
 use Rattle.std.proofs.lemmas.List.{take_more, take_all}
 use Rattle.std.proofs.lemmas.Result.{on_ok_weaker}
 use Rattle.model_tree.specs.declared.component.Component.{Component}
@@ -7,12 +7,12 @@ use Rattle.model_tree.specs.Tree.{Word, name_of}
 use Rattle.model_tree.specs.Pull as P
 use Rattle.model_tree.specs.Stands.{part_of}
 use Rattle.port_net.specs.declared.ports.Outputs.{Outputs}
-use Rattle.port_net.specs.Shown.{AllGive, Extends, Join, leaf_list, picked}
+use Rattle.port_net.specs.Shown.{AllGive, Extends, Join, picked}
 use Rattle.port_net.specs.Outside.{AllOutputs, given_in}
 use Rattle.port_net.specs.Rows.{Takes, taken_by}
 use Rattle.port_net.proofs.Stood.{extends-on, join-kept}
 use Rattle.port_net.proofs.Standing.{outputs-kept, ports-kept}
-use Rattle.port_net.proofs.Coming.{first-at, counted_in}
+use Rattle.port_net.proofs.Coming.{first-at}
 use Rattle.port_net.proofs.Rowed.{grows-on, grows-as, nodes-put, grows-child, taken-Coupled, own_of, coupled-takes}
 use Rattle.port_net.proofs.rows.+put.Goals as goal
 

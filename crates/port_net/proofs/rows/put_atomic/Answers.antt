@@ -1,4 +1,4 @@
-use Rattle.std.proofs.Common.{◌≡◌, [], ◌∷◌, List, map, ◌∙◌, subst}
+use Rattle.std.proofs.Common.{[], ◌∷◌, List, map, ◌∙◌, subst}
 use Rattle.std.proofs.lemmas.Result.{on_ok_weaker}
 use Rattle.model_tree.specs.Tree.{Word}
 use Rattle.port_net.specs.Rows.{Grows}

@@ -1,4 +1,4 @@
-use Rattle.std.proofs.Common.{rules, ◌≡◌, ◌≤◌, [], ◌∷◌, List, map, length, arith, subst}
+use Rattle.std.proofs.Common.{◌≤◌, [], ◌∷◌, List, map, length, arith, subst}
 use Rattle.std.proofs.lemmas.List.{take_all}
 use Rattle.model_tree.specs.Tree.{Word}
 use Rattle.model_tree.specs.Pull.{is_cell}

@@ -1,4 +1,4 @@
-use Rattle.std.proofs.Common.{◌≡◌, [], ◌∷◌, ℕ, List, map, refl, sym, subst}
+use Rattle.std.proofs.Common.{[], ◌∷◌, ℕ, List, map, refl, sym, subst}
 use Rattle.std.proofs.lemmas.Result.{on_ok_weaker}
 use Rattle.port_net.specs.Shown.{AllGive}
 use Rattle.port_net.proofs.Rowed.{grows-on, nodes-put}

@@ -1,8 +1,6 @@
-use Rattle.std.proofs.Common.{rules, ◌≡◌, ◌+◌, [], List, sym, ap, ◌∙◌, subst, arith}
+use Rattle.std.proofs.Common.{◌≡◌, ◌+◌, sym, subst, arith}
 use Rattle.std.proofs.lemmas.Result.{IfOk-weaker}
 use Rattle.std.proofs.lemmas.Grind.{common_steps}
-use Rattle.model_tree.specs.Tree.{Word}
-use Rattle.model_tree.specs.Pull.{Source}
 use Rattle.port_net.specs.declared.ports.Inside.{Inside}
 use Rattle.port_net.specs.Shown.{Gives, leaf_list}
 use Rattle.port_net.specs.Outside.{cell_lists}

@@ -3,7 +3,7 @@ use Rattle.std.proofs.lemmas.List.{map_more}
 use Rattle.model_tree.specs.declared.link.Link.{Link}
 use Rattle.model_tree.specs.Pull.{Source}
 use Rattle.port_net.specs.Shown.{AllGive}
-use Rattle.port_net.specs.Outside.{stands_at, brought_by}
+use Rattle.port_net.specs.Outside.{stands_at}
 use Rattle.port_net.proofs.Stood.{extends-on, all-more}
 use Rattle.port_net.proofs.Standing.{ports-kept, inside-kept}
 use Rattle.port_net.proofs.sources.link_nodes.Goals as goal

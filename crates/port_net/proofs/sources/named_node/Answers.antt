@@ -1,8 +1,7 @@
-use Rattle.std.proofs.Common.{rules, ◌≡◌, ◌+◌, Some, List, length, refl, sym, ap, ◌∙◌, subst, arith}
+use Rattle.std.proofs.Common.{◌≡◌, ◌+◌, Some, List, length, refl, sym, ◌∙◌, subst, arith}
 use Rattle.std.specs.Prelude.{slice_get}
 use Rattle.std.proofs.lemmas.Option.{slice_get_read}
 use Rattle.std.proofs.lemmas.Result.{IfOk-weaker}
-use Rattle.model_tree.specs.declared.component.Component.{Component}
 use Rattle.model_tree.specs.Pull.{Source}
 use Rattle.port_net.specs.Shown.{Gives}
 use Rattle.port_net.proofs.Standing.{empty-joined, none-found, one-found}

@@ -1,4 +1,4 @@
-use Rattle.std.proofs.Common.{rules, ◌≡◌, List, ap, ◌∙◌, subst}
+use Rattle.std.proofs.Common.{subst}
 use Rattle.std.proofs.lemmas.Result.{IfOk-weaker}
 use Rattle.port_net.specs.declared.ports.Ports.{Ports}
 use Rattle.port_net.specs.Outside.{PortsAre}

@@ -1,10 +1,10 @@
-use Rattle.std.proofs.Common.{rules, ◌≡◌, ℕ, List, sym, ap, ◌∙◌, subst}
+use Rattle.std.proofs.Common.{◌≡◌, ℕ, List, sym, ap, ◌∙◌, subst}
 use Rattle.std.proofs.lemmas.Result.{IfOk-weaker}
 use Rattle.model_tree.specs.declared.component.Component.{Component}
 use Rattle.model_tree.specs.declared.component.Component.TheVariants as in_tree
 use Rattle.model_tree.specs.declared.link.Link.{Link}
 use Rattle.model_tree.specs.Pull.{is_own}
-use Rattle.port_net.specs.Shown.{Gives, Join, picked, leaf_list}
+use Rattle.port_net.specs.Shown.{Gives, Join, picked}
 use Rattle.port_net.specs.Outside.{GivesOut, comes_out}
 use Rattle.port_net.proofs.sources.out_node.Goals as goal
 
