@@ -5,3 +5,4 @@ pub mod Inside
 pub mod Stepped
 pub mod Given
 pub mod Steps
+pub mod Short

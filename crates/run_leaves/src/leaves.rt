@@ -3,7 +3,8 @@ ghost use Rattle.std.specs.Prelude.{◌≡◌, ℕ, ◌+◌, ◌<◌, ◌≤◌,
 ghost use Rattle.std.specs.List.{All};
 ghost use Rattle.quantity.specs.declared.value.Value.{Value as AnyValue};
 ghost use Rattle.atomic_face.specs.declared.class.PortNo.{PortNo as AnyPort};
-ghost use Rattle.model_tree.specs.Tree.{leaves};
+ghost use Rattle.model_tree.specs.Tree.{leaves, groups};
+ghost use Rattle.run_model.specs.Visits.{most_offsets};
 ghost use Rattle.run_model.specs.Cycle.{initial_leaf, leaf_next, leaf_emitted, collected_of};
 ghost use Rattle.sparse_cycle.specs.Sparse.{leaf_of, move_to};
 ghost use Rattle.cycle_steps.specs.Moving.{Moves};
@@ -58,6 +59,14 @@ impl<M: AtomicModel> FlatLeaves<M> {
         ensures { result.now ≡ self.now.model }
     {
         &self.model
+    }
+
+    /// A move takes no more visits than two and the most offsets of a group. The call does nothing.
+    pub fn moves_are_short(&self)
+        ensures { (l : ℕ) → visits_at self.now l
+            ≤ most_offsets (groups (tree_at self.now.model self.now.settings)) + 2 }
+    {
+        let _count = self.seats.len();
     }
 
     /// The next time of a leaf's box.
