@@ -46,7 +46,7 @@ count-asked p made k (suc n) moves =
 pub costs-its-parts : CostsItsParts
 costs-its-parts tree t s fits next =
     let asked = ap (count_by is_asked) (moves-are tree t s fits next)
-        ∙ count-asked (test tree t s fits next) (move tree t s fits next) 0 (length s.leaf_states) (λ j m is lt. let same : m < length s.leaf_states = omega (arith, is, lt) in moves-here tree t s fits next m same)
-        ∙ ap length (touched-are tree t s fits next) in
+    ∙ count-asked (test tree t s fits next) (move tree t s fits next) 0 (length s.leaf_states) (λ j m is lt. let same : m < length s.leaf_states = omega (arith, is, lt) in moves-here tree t s fits next m same)
+    ∙ ap length (touched-are tree t s fits next) in
     let gave_as = sym (records-long 0 (gave tree t s fits next)) ∙ ap length (sym (given-is tree t s fits next)) in
     λ i. cost tree (gave_as i) (asked i)
