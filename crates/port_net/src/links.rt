@@ -58,6 +58,7 @@ fn leads(at: &At<'_>, port: &Name, end: &End) -> bool
     }
 }
 
+/// Whether an end is this own port.
 fn leads_out(port: &Name, end: &End) -> bool
     ensures { result ≡ is_own port.now end.now }
 {
@@ -67,6 +68,7 @@ fn leads_out(port: &Name, end: &End) -> bool
     }
 }
 
+/// Whether an end is this port of this child.
 fn leads_to_child(port: &Name, child: &Name, end: &End) -> bool
     ensures { result ≡ is_child port.now child.now end.now }
 {
@@ -76,6 +78,7 @@ fn leads_to_child(port: &Name, child: &Name, end: &End) -> bool
     }
 }
 
+/// Whether an end is this port of this cell.
 fn leads_to_cell(port: &Name, cell: u32, end: &End) -> bool
     ensures { result ≡ is_cell port.now cell end.now }
 {
