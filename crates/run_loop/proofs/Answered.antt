@@ -71,18 +71,25 @@ same_letters : (tree : Tree) (xs ys : List ℕ) (cycles : List Cycle) → ((c : 
 same_letters tree xs ys cycles same =
     λ i. flat_map (λ l. ended (line_text l)) (filter (λ l. same (letter_of l) i) (flat_map (cycle_lines (leaves tree)) cycles))
 
+-- the file of frames of a group
+abbrev group_frames : FramesFile → List Cycle → Option (ℕ × Group) → Files
+group_frames f cycles None = []
+group_frames f cycles (Some g) =
+    (f.name.now, frames_of (record { space = g.1.space; plane = f.plane; width = f.width; decimals = f.decimals }) g.0 (emitted_before None g) cycles) ∷ []
+
+either : (f : FramesFile) (cycles : List Cycle) → InstantsNeverFall 0 cycles → (g : Option (ℕ × Group))
+    → group_frames f cycles g ≡ file_if (if is_some (begun_at f g) then Some f.name.now else None) (frames_left (begun_at f g) cycles)
+either f cycles falls None = refl
+either f cycles falls (Some g) = ap (λ (text : Bytes). let fs : Files = (f.name.now, text) ∷ [] in fs) (sym (all_frames (picture_of f g.1.space) g.0 cycles falls))
+
+found : (f : FramesFile) (tree : Tree) (cycles : List Cycle) (g : Option (ℕ × Group)) → elim g [ None ↦ [] | Some g ↦ (f.name.now, frames_of (record { space = g.1.space; plane = f.plane; width = f.width; decimals = f.decimals }) g.0 (emitted_before None g) cycles) ∷ [] ] ≡ group_frames f cycles g
+found f tree cycles None = refl
+found f tree cycles (Some g) = refl
+
 frames_same : (frames : Option FramesFile) (tree : Tree) (cycles : List Cycle) → InstantsNeverFall 0 cycles
     → frames_if tree None cycles (option_map frames_file_of frames) ≡ file_if (if is_some (showing_at_start tree frames) then frames_name frames else None) (frames_left (showing_at_start tree frames) cycles)
 frames_same None tree cycles falls = refl
-frames_same (Some f) tree cycles falls = either (group_at f.group.now (leaves tree))
-  where
-    abbrev lines : ℕ × Group → Bytes
-    lines g = frames_of (record { space = g.1.space; plane = f.plane; width = f.width; decimals = f.decimals }) g.0 (emitted_before None g) cycles
-
-    either : (g : Option (ℕ × Group))
-        → elim g [ None ↦ [] | Some g ↦ (f.name.now, lines g) ∷ [] ] ≡ file_if (if is_some (begun_at f g) then Some f.name.now else None) (frames_left (begun_at f g) cycles)
-    either None = refl
-    either (Some g) = ap (λ (text : Bytes). let fs : Files = (f.name.now, text) ∷ [] in fs) (sym (all_frames (picture_of f g.1.space) g.0 cycles falls))
+frames_same (Some f) tree cycles falls = found f tree cycles (group_at f.group.now (leaves tree)) ∙ either f cycles falls (group_at f.group.now (leaves tree))
 
 files_same : (a : Asked) (o : Outputs) (tree : Tree) (r : Run) → AreOutputsOf a o → InstantsNeverFall 0 r.cycles
     → made_files a tree None r ≡ files (names_in o tree) (left_texts tree (letters_of o.letters) (showing_at_start tree o.frames) r.cycles)

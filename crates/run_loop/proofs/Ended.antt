@@ -1,11 +1,18 @@
 -- What is told of a run that ended, and the outcome.
-use Rattle.std.proofs.Common.{◌≡◌, ◌≢◌, ℕ, ◌+◌, Option, Some, None, List, [], ◌∷◌, ◌++◌, length, refl, sym, ap, ◌∙◌, subst, arith, lit<}
-use Rattle.std.specs.Prelude.{Contains, decimal, codes, count_by}
-use Rattle.std.specs.Option.{option_map}
+use Rattle.std.proofs.Common.{◌≡◌, ◌≢◌, ℕ, ◌+◌, ◌<◌, ◌≤◌, Option, Some, None, List, [], ◌∷◌, ◌++◌, length, refl, sym, ap, ◌∙◌, subst, arith, lit<}
+use Rattle.std.specs.Prelude.{Contains, decimal, codes, count_by, slice_get, OnOk, Result, Ok, Err}
+use Rattle.std.specs.Option.{option_map, unwrap_or}
+use Rattle.std.proofs.lemmas.List.{append-nil}
+use Rattle.std.proofs.lemmas.Option.{slice_get_past}
+use Rattle.model_tree.specs.LeafTexts.{leaf_text}
+use Rattle.model_tree.proofs.Read.{leaves-length}
+use Rattle.text_forms.specs.LogLine as log
+use Rattle.text_forms.specs.Lines.{leaf_name}
+use Rattle.run_files.proofs.Groups.{leaf_in}
 use Rattle.quantity.specs.Bytes.{Bytes}
 use Rattle.rule_tree.specs.declared.outcome.RuleStop.{RuleStop}
 use Rattle.rule_tree.specs.declared.outcome.RuleStop.TheVariants.{NoTrueRule, Overflow, BadDelay}
-use Rattle.model_tree.specs.Tree.{Word, Tree, leaf_count}
+use Rattle.model_tree.specs.Tree.{Word, Tree, Leaf, atomic_leaf, cell_leaf, leaves, leaf_count}
 use Rattle.run_model.specs.Run.{Cycle, Run, Verdict, done, too_many, stop}
 use Rattle.text_forms.specs.Lines.{ended}
 use Rattle.room_edge.specs.Faults.{WriteFaultCounted, KeepsWriteFaults}
@@ -27,7 +34,7 @@ use Rattle.run_files.specs.Showing.{left_texts}
 use Rattle.run_loop.specs.declared.ending.Ending.{Ending}
 use Rattle.run_loop.specs.Begins.{BeginsWith}
 use Rattle.run_loop.specs.Ran.{HasEnded}
-use Rattle.run_loop.specs.Ends.{IsVerdict, end_text, made_text, done_text, said_by, TellsEnd, HasCounted}
+use Rattle.run_loop.specs.Ends.{IsVerdict, end_text, made_text, leaf_called, done_text, said_by, TellsEnd, HasCounted}
 use Rattle.run_loop.specs.ToBe.{IsAnswerOf}
 
 -- ---- the last line
@@ -132,3 +139,23 @@ module _ (n : Names) (letters : List ℕ) (o : Outputs) (tree : Tree) (r : Run) 
 
   pub created_rose : status ≡ 5 → WriteFaultCounted old new
   created_rose five = told_rose o tree r.cycles r.verdict old mid new status adds.keeps told five
+
+-- ---- how a leaf is called
+
+same_name : (l : Leaf) → log.leaf_text (leaf_name l) ≡ leaf_text l
+same_name (atomic_leaf name class settings) = append-nil name
+same_name (cell_leaf g first cell) = refl
+
+pub called_there : (tree : Tree) (leaf : ℕ) (old new : Bytes) → leaf < leaf_count tree → ((l : Leaf) → slice_get (leaves tree) leaf ≡ Some l → new ≡ old ++ leaf_text l) → new ≡ old ++ leaf_called tree leaf
+called_there tree leaf old new lt at =
+    let there = leaf_in tree leaf lt in
+    at there.0 there.1 ∙ ap (λ x. old ++ x) (sym (ap (λ (o : Option Leaf). unwrap_or (option_map (λ l. log.leaf_text (leaf_name l)) o) []) there.1 ∙ same_name there.0))
+
+pub called_past : (tree : Tree) (leaf : ℕ) (old : Bytes) → leaf_count tree ≤ leaf → old ≡ old ++ leaf_called tree leaf
+called_past tree leaf old le =
+    let past = slice_get_past (leaves tree) leaf (omega (arith, le, leaves-length tree 0)) in
+    sym (ap (λ (o : Option Leaf). old ++ unwrap_or (option_map (λ l. log.leaf_text (leaf_name l)) o) []) past ∙ append-nil old)
+
+pub on_ok_from : {T E : Type 0} (r : Result T E) (P Q : Type 0) → (P → Q) → OnOk r P → OnOk r Q
+on_ok_from (Ok x) P Q f h = f h
+on_ok_from (Err e) P Q f h = tt

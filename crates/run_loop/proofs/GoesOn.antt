@@ -245,14 +245,14 @@ module _ (n : Names) (letters : List ℕ) (most left : ℕ) (s0 s : Standing) (o
       (falls_before n why.Memory was.texts (left_texts (tree_in s0) letters drawn (run_of left s).cycles) outside mid (all_fell n was.texts outside mid was.adds))
 
   -- a stop ends the run, or memory ran out
-  pub stops_here : (m : Standing) (records : Records) (stop : Stop) (result : Result Ending Unwritten) (new : Going) → run.Steps s (Err stop) m records → StopsAs stop result → new.drawn ≡ drawn → new.counted ≡ counted → new.cycles ≡ cycles
+  pub stops_here : (m : Standing) (records : Records) (halt : Stop) (result : Result Ending Unwritten) (new : Going) → run.Steps s (Err halt) m records → StopsAs halt result → new.drawn ≡ drawn → new.counted ≡ counted → new.cycles ≡ cycles
       → RunsTo n (tree_in s0) letters all old new outside mid result
-  stops_here m records stop (Ok Done) new step as drawn_is counted_is cycles_is = absurd as
-  stops_here m records stop (Ok (Stopped st)) new step as drawn_is counted_is cycles_is =
-      let v = stops_with s m records stop step as.1 in
-      ends_by_verdict v.0 (Stopped st) new v.1 (subst (λ (x : Stop). IsVerdict (Stopped x) v.0) (sym as.0) v.2) drawn_is counted_is cycles_is
-  stops_here m records stop (Err (why.Fault file)) new step as drawn_is counted_is cycles_is = absurd as
-  stops_here m records stop (Err why.Memory) new step as drawn_is counted_is cycles_is = falls_here
+  stops_here m records halt (Ok Done) new step how drawn_is counted_is cycles_is = absurd how
+  stops_here m records halt (Ok (Stopped st)) new step how drawn_is counted_is cycles_is =
+      let v = stops_with s m records halt step how.1 in
+      ends_by_verdict v.0 (Stopped st) new v.1 (subst (λ (x : Stop). IsVerdict (Stopped x) v.0) (sym how.0) v.2) drawn_is counted_is cycles_is
+  stops_here m records halt (Err (why.Fault file)) new step how drawn_is counted_is cycles_is = absurd how
+  stops_here m records halt (Err why.Memory) new step how drawn_is counted_is cycles_is = falls_here
 
 -- the files are still those that were made
 pub made_still : (n : Names) (letters : List ℕ) (most left : ℕ) (s0 s : Standing) (old : Going) (drawn : Option Showing) (counted : Option Counts) (cycles : ℕ) (outside mid : Outside) → Stands n letters most left s0 s old drawn counted cycles outside mid → AreCreated n outside.created → AreCreated n mid.created

@@ -1,4 +1,4 @@
-use Rattle.std.proofs.Common.{◌≡◌, sym, subst, rules}
+use Rattle.std.proofs.Common.{◌≡◌, refl, sym, subst, rules}
 use Rattle.std.specs.Prelude.{Result, Err}
 use Rattle.record_text.specs.Chosen.{letters_of}
 use Rattle.flat_run.specs.Standing.{tree_in}
@@ -21,7 +21,7 @@ returns-in_err-ending-clause-runs g c =
 pub write_last-requires-clause-created : goal.write_last-requires-clause-created
 write_last-requires-clause-created g c =
     let s = c.args.run.now in
-    adds_created (names_of c.args.named.now) (tree_in s) (letters_of c.args.named.now.letters) (run_of c.args.most s) c.args.going.now c.run_cycles.new.going c.in_ok-ending.field-0 (g.R.Room.outside c.args.room.now) (g.R.Room.outside c.run_cycles.new.room)
+    adds_created (names_of c.args.named.now) (tree_in s) (letters_of c.args.named.now.letters) (run_of c.args.most s) c.args.going.now c.run_cycles.new.going c.in_ok-ending.ending (g.R.Room.outside c.args.room.now) (g.R.Room.outside c.run_cycles.new.room)
     c.in_ok-ending.ensures.runs c.requires.created
 
 pub returns-in_err-write_last-clause-runs : goal.returns-in_err-write_last-clause-runs
@@ -36,7 +36,11 @@ returns-in_err-write_last-clause-runs g c =
     let is : c.from_residual-in_err-write_last.result ≡ Err why = search rules in
     let gone = record c.run_cycles.new.going { drawn = c.write_last.new.drawn; piece = c.write_last.new.piece } in
     subst (λ (r : Result Ending Unwritten). RunsWhole n (tree_in s) letters (run_of c.args.most s) c.args.going.now gone old new r) (sym is)
-    (last_fell n (tree_in s) letters (run_of c.args.most s) c.args.going.now c.run_cycles.new.going c.in_ok-ending.field-0 why old mid new c.in_ok-ending.ensures.runs c.in_err-write_last.ensures.texts)
+    (last_fell n (tree_in s) letters (run_of c.args.most s) c.args.going.now c.run_cycles.new.going c.in_ok-ending.ending why old mid new c.in_ok-ending.ensures.runs c.in_err-write_last.ensures.texts)
 
 pub returns-clause-runs : goal.returns-clause-runs
-returns-clause-runs g c = ?
+returns-clause-runs g c =
+    let s = c.args.run.now in
+    let gone = record c.run_cycles.new.going { drawn = c.write_last.new.drawn; piece = c.write_last.new.piece } in
+    whole_run (names_of c.args.named.now) (tree_in s) (letters_of c.args.named.now.letters) (run_of c.args.most s) c.args.going.now c.run_cycles.new.going gone c.in_ok-ending.ending (g.R.Room.outside c.args.room.now) (g.R.Room.outside c.run_cycles.new.room) (g.R.Room.outside c.write_last.new.room)
+    c.in_ok-ending.ensures.runs c.in_ok-write_last.ensures.texts refl refl

@@ -31,6 +31,9 @@ returns-in_default-clause-ends g c = λ a inputs are.
     let x = answer_to a c.args.run.now inputs in
     endings_follow.memory x (looked_for inputs) (g.R.Room.outside c.args.room.now) (none_begun x (looked_for inputs) refl refl)
 
+pub returns-in_default-clause-known : goal.returns-in_default-clause-known
+returns-in_default-clause-known g c = (6, lit< tt, refl)
+
 pub run_created-requires-clause-apart : goal.run_created-requires-clause-apart
 run_created-requires-clause-apart g c = subst AreApart (sym c.named_of-named.ensures.names) (names_apart c.args.outputs.now c.is_some.result c.requires.names)
 
@@ -51,20 +54,51 @@ run_created-requires-clause-cycles g c =
 pub run_created-requires-clause-values : goal.run_created-requires-clause-values
 run_created-requires-clause-values g c = have_values (tree_in c.args.run.now) c.requires.sound
 
-pub returns-in-Ok-clause-ends : goal.returns-in-Ok-clause-ends
-returns-in-Ok-clause-ends g c = λ a inputs are. ?
+pub returns-in-Ok-create_files-clause-ends : goal.returns-in-Ok-create_files-clause-ends
+returns-in-Ok-create_files-clause-ends g c = λ a inputs are.
+    let s = c.args.run.now in
+    let o = c.args.outputs.now in
+    let old = g.R.Room.outside c.args.room.now in
+    let mid = g.R.Room.outside c.create_files.new.room in
+    let new = g.R.Room.outside c.run_created.new.room in
+    let n = names_of c.named_of-named.result in
+    let begins = subst (λ (m : Model). BeginsWith o (tree_of m (settings_at s.settings)) c.in-Ok.going) c.model.ensures (c.in-Ok.ensures (settings_at s.settings)) in
+    let names = names_are o (tree_in s) n c.is_some.result c.in-Ok.going.drawn c.named_of-named.ensures.names c.is_some.ensures begins.drawn in
+    let x = answer_to a s inputs in
+    then_ends x (looked_for inputs) (made_after inputs (files n no_texts)) old mid new c.run_created.result (c.in-Ok-create_files.ensures.leads x inputs)
+    (c.run_created.ensures.ends x inputs (answer_as n (letters_of c.named_of-named.result.letters) a o s inputs c.in-Ok.going.drawn are c.requires c.runs_are_fit.ensures names (ap letters_of c.named_of-named.ensures.letters) begins.drawn))
 
-pub returns-in-Ok-clause-write_fault : goal.returns-in-Ok-clause-write_fault
-returns-in-Ok-clause-write_fault g c = λ five. ?
+pub returns-in-Ok-create_files-clause-write_fault : goal.returns-in-Ok-create_files-clause-write_fault
+returns-in-Ok-create_files-clause-write_fault g c = λ five.
+    let old = g.R.Room.outside c.args.room.now in
+    let mid = g.R.Room.outside c.create_files.new.room in
+    let new = g.R.Room.outside c.run_created.new.room in
+    rose_later old.write_faults mid.write_faults new.write_faults c.in-Ok-create_files.ensures.keeps (c.run_created.ensures.write_fault five)
 
 pub tell_unwritten-requires : goal.tell_unwritten-requires
-tell_unwritten-requires g c = ?
+tell_unwritten-requires g c = making_blames (names_of c.named_of-named.result) c.in-Err.why _ _ c.in-Err.ensures
 
-pub returns-in-Err-clause-ends : goal.returns-in-Err-clause-ends
-returns-in-Err-clause-ends g c = λ a inputs are. ?
+pub returns-clause-ends : goal.returns-clause-ends
+returns-clause-ends g c = λ a inputs are.
+    let s = c.args.run.now in
+    let o = c.args.outputs.now in
+    let old = g.R.Room.outside c.args.room.now in
+    let mid = g.R.Room.outside c.create_files.new.room in
+    let new = g.R.Room.outside c.tell_unwritten.new.room in
+    let n = names_of c.named_of-named.result in
+    let begins = subst (λ (m : Model). BeginsWith o (tree_of m (settings_at s.settings)) c.in-Ok.going) c.model.ensures (c.in-Ok.ensures (settings_at s.settings)) in
+    let names = names_are o (tree_in s) n c.is_some.result c.in-Ok.going.drawn c.named_of-named.ensures.names c.is_some.ensures begins.drawn in
+    let x = answer_to a s inputs in
+    let is = answer_as n (letters_of c.named_of-named.result.letters) a o s inputs c.in-Ok.going.drawn are c.requires c.runs_are_fit.ensures names (ap letters_of c.named_of-named.ensures.letters) begins.drawn in
+    let apart = subst AreApart (sym c.named_of-named.ensures.names) (names_apart o c.is_some.result c.requires.names) in
+    unmade_ends x n _ c.in-Err.why inputs old mid new c.tell_unwritten.result is.made apart c.in-Err.ensures c.tell_unwritten.ensures
 
-pub returns-in-Err-clause-known : goal.returns-in-Err-clause-known
-returns-in-Err-clause-known g c = ?
+pub returns-clause-known : goal.returns-clause-known
+returns-clause-known g c =
+    let n = names_of c.named_of-named.result in
+    tells_among run_statuses n c.in-Err.why (g.R.Room.outside c.create_files.new.room) (g.R.Room.outside c.tell_unwritten.new.room) c.tell_unwritten.result (making_blames n c.in-Err.why _ _ c.in-Err.ensures) (1, lit< tt, refl) (6, lit< tt, refl) c.tell_unwritten.ensures
 
-pub returns-in-Err-clause-write_fault : goal.returns-in-Err-clause-write_fault
-returns-in-Err-clause-write_fault g c = λ five. ?
+pub returns-clause-write_fault : goal.returns-clause-write_fault
+returns-clause-write_fault g c = λ five.
+    let n = names_of c.named_of-named.result in
+    tells_rose n c.in-Err.why (g.R.Room.outside c.args.room.now) (g.R.Room.outside c.create_files.new.room) (g.R.Room.outside c.tell_unwritten.new.room) c.tell_unwritten.result (making_blames n c.in-Err.why _ _ c.in-Err.ensures) c.in-Err.ensures.keeps c.in-Err.ensures.fault c.tell_unwritten.ensures five
