@@ -109,9 +109,9 @@ ones_counted leaves cs =
     let ones = ones_after (replicate leaves false) rs in
     let size : length ones ≡ leaves = length-ones (replicate leaves false) rs ∙ length-replicate leaves in
     let each : (k : ℕ) → k < length ones → get_or ones k false ≡ is_one_last cs (0 + k) = λ k lt.
-        ones_are (replicate leaves false) rs k (omega (arith, lt, size, length-replicate leaves))
-        ∙ ap (λ b. last_is_one b (filter_map (value_of k) rs)) (none_marked leaves k)
-        ∙ ap (is_one_last cs) (sym (zero_more k)) in
+    ones_are (replicate leaves false) rs k (omega (arith, lt, size, length-replicate leaves))
+    ∙ ap (λ b. last_is_one b (filter_map (value_of k) rs)) (none_marked leaves k)
+    ∙ ap (is_one_last cs) (sym (zero_more k)) in
     ap (count_by (λ b. b)) (counts_ones cs (no_counts leaves)) ∙ count_marks (is_one_last cs) ones 0 each ∙ ap (λ n. count_by (is_one_last cs) (range_with_len 0 n)) size
   where
     zero_more : (k : ℕ) → 0 + k ≡ k

@@ -214,7 +214,7 @@ fell_ends a n whole (Fault file) inputs old mid new status made apart f tells =
 fell_ends a n whole Memory inputs old mid new status made apart f (own, same) =
     let there = made_after inputs (files n f.part) in
     let ends : EndsWith a (made_after inputs (files n no_texts)) old mid 12 = then_ends a (made_after inputs (files n no_texts)) there old mid mid 12 (f.adds.leads no_texts a inputs)
-        (endings_follow.memory a there mid (subst (BeginFiles (files n f.part)) (sym made) (begins_files n.log n.out n.frames f.part whole f.begins), none_begins a.shown)) in
+    (endings_follow.memory a there mid (subst (BeginFiles (files n f.part)) (sym made) (begins_files n.log n.out n.frames f.part whole f.begins), none_begins a.shown)) in
     subst (λ s. EndsWith a (made_after inputs (files n no_texts)) old new s) (sym own) (subst (λ o. EndsWith a (made_after inputs (files n no_texts)) old o 12) (sym same) ends)
 
 -- a file could not be made, or memory ran out
@@ -231,7 +231,7 @@ unmade_ends a n whole (Fault file) inputs old mid new status made apart f tells 
 unmade_ends a n whole Memory inputs old mid new status made apart f (own, same) =
     let there = made_after inputs (made_before n f.file) in
     let ends : EndsWith a (looked_for inputs) old mid 12 = then_ends a (looked_for inputs) there old mid mid 12 (f.leads a inputs)
-        (endings_follow.memory a there mid (subst (BeginFiles (made_before n f.file)) (sym made) (begins_before n.log n.out n.frames f.file whole), none_begins a.shown)) in
+    (endings_follow.memory a there mid (subst (BeginFiles (made_before n f.file)) (sym made) (begins_before n.log n.out n.frames f.file whole), none_begins a.shown)) in
     subst (λ s. EndsWith a (looked_for inputs) old new s) (sym own) (subst (λ o. EndsWith a (looked_for inputs) old o 12) (sym same) ends)
 
 -- ---- statuses

@@ -20,7 +20,6 @@ use Rattle.run_files.specs.declared.outputs.Output.TheVariants.{Frames}
 use Rattle.run_files.specs.Texts.{both, only}
 use Rattle.run_files.specs.Showing.{Showing, with_drawing, with_taken, shown_of, took, ended, ended_before, after_cycle, frame_before, last_frame, frames_left, cycle_texts, left_texts, IsBegunBy}
 
-
 -- ---- what cycles show
 
 -- times from this one on
@@ -176,10 +175,10 @@ frames_step (Some w) c cs low begun falls =
     let p = same_place w c.time in
     let q = after_place c w in
     let first : drawn_in_turn w.drawing (here ++ later) ≡ text_before c.time w.drawing ++ drawn_in_turn (if is_other w.drawing.begun c.time then with_instant None w.drawing else w.drawing) (here ++ later) =
-        before_now w.drawing c.time (here ++ later) w.drawing.begun refl (begun_by w.drawing.begun begun) (shown_all c.time space w.first) in
+    before_now w.drawing c.time (here ++ later) w.drawing.begun refl (begun_by w.drawing.begun begun) (shown_all c.time space w.first) in
     let second : drawn_in_turn e.drawing (here ++ later) ≡ drawn_in_turn (after_cycle c w).drawing later =
-        (λ i. drawn_in_turn e.drawing (filter_map (shown_by (sym p.1 i).space (sym p.0 i) c.time) c.y ++ later))
-        ∙ took_turns c.time c.y e later (same_begun w c.time) in
+    (λ i. drawn_in_turn e.drawing (filter_map (shown_by (sym p.1 i).space (sym p.0 i) c.time) c.y ++ later))
+    ∙ took_turns c.time c.y e later (same_begun w c.time) in
     first ∙ ap (λ d. text_before c.time w.drawing ++ drawn_in_turn d (here ++ later)) (same_drawing w c.time)
     ∙ ap (λ t. text_before c.time w.drawing ++ t) (second ∙ (λ i. drawn_in_turn (after_cycle c w).drawing (shown_in (sym q.1 i).space (sym q.0 i) cs)))
   where

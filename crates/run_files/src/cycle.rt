@@ -38,7 +38,7 @@ pub fn write_cycle<R: Room>(
     // For the cycle whose records these are.
     ensures texts { (c : Cycle) → Holds records.now c → c.time ≡ at → OfTree model.now (λ tree.
         Writes (names_of named.now) (cycle_texts tree (letters_of named.now.letters) drawn.old c)
-            (R.outside room.old) (R.outside room.new) result) }
+        (R.outside room.old) (R.outside room.new) result) }
     ensures drawn { OnOk result ((c : Cycle) → Holds records.now c → c.time ≡ at →
         drawn.new ≡ option_map (after_cycle c) drawn.old) }
 {
@@ -124,7 +124,7 @@ fn write_log<R: Room>(
     requires leaves { NamesLeaves model.now records.now }
     ensures texts { (c : Cycle) → Holds records.now c → OfTree model.now (λ tree.
         Writes (names_of named.now) (only Log (forms.log_bytes tree (letters_of named.now.letters) (c ∷ [])))
-            (R.outside room.old) (R.outside room.new) result) }
+        (R.outside room.old) (R.outside room.new) result) }
     ensures created { (R.outside room.new).created ≡ (R.outside room.old).created }
 {
     if named.log.is_none() {
@@ -149,7 +149,7 @@ fn write_out<R: Room>(
     requires created { AreCreated (names_of named.now) (R.outside room.old).created }
     ensures texts { (c : Cycle) → Holds records.now c → OfTree model.now (λ tree.
         Writes (names_of named.now) (only Out (forms.out_bytes tree (c ∷ [])))
-            (R.outside room.old) (R.outside room.new) result) }
+        (R.outside room.old) (R.outside room.new) result) }
     ensures created { (R.outside room.new).created ≡ (R.outside room.old).created }
 {
     if named.out.is_none() {

@@ -9,12 +9,7 @@ use told_lines::status::NO_MEMORY;
 use told_lines::write_fault;
 
 /// Tells of the file that could not be written. For want of memory there is no line.
-pub fn tell_unwritten<R: Room>(
-    alloc: Global,
-    room: &mut R,
-    named: &Named<'_>,
-    why: Unwritten,
-) -> u8
+pub fn tell_unwritten<R: Room>(alloc: Global, room: &mut R, named: &Named<'_>, why: Unwritten) -> u8
     requires { Blames (names_of named.now) why }
     ensures { Tells (names_of named.now) why (R.outside room.old) (R.outside room.new) result }
 {

@@ -59,7 +59,7 @@ made_is size tree cycles =
     let s = counts_s cycles (no_counts (leaf_count tree)) ∙ from_zero _ in
     let ones = ones_counted (leaf_count tree) cycles in
     λ i. codes "made " ++ decimal size ++ codes " cells " ++ decimal (leaf_count tree) ++ codes " cycles " ++ decimal (length cycles)
-        ++ codes " y " ++ decimal (y i) ++ codes " s " ++ decimal (s i) ++ codes " ones " ++ decimal (ones i)
+    ++ codes " y " ++ decimal (y i) ++ codes " s " ++ decimal (s i) ++ codes " ones " ++ decimal (ones i)
   where
     from_zero : (n : ℕ) → 0 + n ≡ n
     from_zero n = omega arith

@@ -215,8 +215,7 @@ module _ (n : Names) (letters : List ℕ) (most left : ℕ) (s0 s : Standing) (o
       → RunsTo n (tree_in s0) letters all old new outside mid (Ok ending)
   ends_here v left_state ending new is verdict drawn_is counted_is cycles_is =
       let none : (run_of left s).cycles ≡ [] = ap (λ (r : Run). r.cycles) is in
-      let count = was.count in
-      (
+      let count = was.count in (
         record {
           verdict = subst (IsVerdict ending) (sym (ap (λ (r : Run). r.verdict) is) ∙ was.verdict) verdict;
           cycles = omega (arith, count, cycles_is, ap length none);
@@ -262,12 +261,11 @@ made_still n letters most left s0 s old drawn counted cycles outside mid was mad
 
 pub whole_run : (n : Names) (tree : Tree) (letters : List ℕ) (r : Run) (old mid new : Going) (ending : Ending) (outside first later : Outside) → RunsTo n tree letters r old mid outside first (Ok ending) → Adds n (only Frames (last_frame mid.drawn)) first later → new.counted ≡ mid.counted → new.cycles ≡ mid.cycles
     → RunsWhole n tree letters r old new outside later (Ok ending)
-whole_run n tree letters r old mid new ending outside first later (has, is) adds counted_is cycles_is =
-    (
-      record { verdict = has.verdict; cycles = cycles_is ∙ has.cycles; counted = counted_is ∙ has.counted },
-      adds_as n (both is.texts (only Frames (last_frame mid.drawn))) (left_texts tree letters old.drawn r.cycles) outside later (ap (both is.texts) (sym (texts_end tree letters mid.drawn)) ∙ is.whole)
+whole_run n tree letters r old mid new ending outside first later (has, is) adds counted_is cycles_is = (
+  record { verdict = has.verdict; cycles = cycles_is ∙ has.cycles; counted = counted_is ∙ has.counted },
+  adds_as n (both is.texts (only Frames (last_frame mid.drawn))) (left_texts tree letters old.drawn r.cycles) outside later (ap (both is.texts) (sym (texts_end tree letters mid.drawn)) ∙ is.whole)
       (adds_both n is.texts (only Frames (last_frame mid.drawn)) outside first later is.adds adds),
-    )
+)
 
 pub last_fell : (n : Names) (tree : Tree) (letters : List ℕ) (r : Run) (old mid : Going) (ending : Ending) (why : Unwritten) (outside first later : Outside) → RunsTo n tree letters r old mid outside first (Ok ending) → Falls n why (only Frames (last_frame mid.drawn)) first later
     → Falls n why (left_texts tree letters old.drawn r.cycles) outside later

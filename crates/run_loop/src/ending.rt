@@ -57,7 +57,7 @@ fn show_done<R: Room>(
 ) -> u8
     ensures { OfTree model.now (λ tree. (cycles : List Cycle) → HasCounted outputs.now tree cycles going.now
         → ShowsEnd (ended (done_text outputs.now.made outputs.now.end tree cycles)) 0
-            (R.outside room.old) (R.outside room.new) result) }
+        (R.outside room.old) (R.outside room.new) result) }
 {
     let Ok(line) = done_line(alloc, outputs, model, going) else {
         return NO_MEMORY;
@@ -139,7 +139,7 @@ fn complain_delay<R: Room>(
 ) -> u8
     ensures { OfTree model.now (λ tree.
         Says (ended (stopped_at (codes "bad delay") tree leaf t ++ codes ": " ++ text5 delay)) 10
-            (R.outside room.old) (R.outside room.new) result) }
+        (R.outside room.old) (R.outside room.new) result) }
 {
     let Ok(line) = delay_line(alloc, model, leaf, t, delay) else {
         return NO_MEMORY;

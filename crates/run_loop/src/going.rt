@@ -43,7 +43,7 @@ pub(crate) fn write_next<R: Room>(
     requires few { going.old.cycles + 1 < 2 ^ 64 }
     ensures texts { (c : Cycle) → Holds going.old.records c → c.time ≡ at → OfTree model.now (λ tree.
         Writes (names_of named.now) (cycle_texts tree (letters_of named.now.letters) going.old.drawn c)
-            (R.outside room.old) (R.outside room.new) result) }
+        (R.outside room.old) (R.outside room.new) result) }
     ensures drawn { OnOk result ((c : Cycle) → Holds going.old.records c → c.time ≡ at →
         going.new.drawn ≡ option_map (after_cycle c) going.old.drawn) }
     ensures counted { OnOk result ((c : Cycle) → Holds going.old.records c →

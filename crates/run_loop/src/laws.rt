@@ -1,7 +1,9 @@
 // Calls that name the definitions.
 ghost use Rattle.run_loop.specs.Known.{RunsAreFit};
 
-use run_model::laws::{a_run_ends, instants_never_fall, nothing_waits_in_the_past, records_name_what_there_is};
+use run_model::laws::{
+    a_run_ends, instants_never_fall, nothing_waits_in_the_past, records_name_what_there_is,
+};
 
 /// The cycles of a run name leaves and ports that there are, and their instants never fall.
 pub fn runs_are_fit()

@@ -58,15 +58,16 @@ fn put_number(
 }
 
 /// The line of a run that has too many cycles at one instant.
-pub(crate) fn many_cycles_line(
-    alloc: Global,
-    limit: u32,
-    t: Time,
-) -> Result<Vec<u8>, OutOfMemory>
+pub(crate) fn many_cycles_line(alloc: Global, limit: u32, t: Time) -> Result<Vec<u8>, OutOfMemory>
     ensures { IfOk result (λ line. line.items ≡ ended (many_line limit t)) }
 {
     let mut line: Vec<u8> = Vec::new(alloc);
-    put_number(alloc, b"too many cycles: limit ", u64::from(limit), &mut line)?;
+    put_number(
+        alloc,
+        b"too many cycles: limit ",
+        u64::from(limit),
+        &mut line,
+    )?;
     line.extend_from_slice(b" at ")?;
     t.text(&mut line)?;
     line.extend_from_slice(b"\n")?;
