@@ -50,7 +50,7 @@ impl<M: AtomicModel> Model for FlatLeaves<M> {
     } };
 
     ghost invariant = { λ s. Places (tree_at s.model (settings_in s.stock)) s.seats.items (settings_in s.stock) (layouts_in s.stores.items) (sizes_in s.stores.items)
-      × HavePorts s.stores.items };
+        × HavePorts s.stores.items };
 }
 
 impl<M: AtomicModel> FlatLeaves<M> {
@@ -130,7 +130,15 @@ impl<M: AtomicModel> FlatLeaves<M> {
             LeafAt::Atomic(at) => move_box(&mut self.stock, at, t, bag),
             LeafAt::Cell { group, cell } => {
                 let ports = self.model.ports_at(leaf);
-                move_cell(&mut self.stores[group as usize], cell, t, woken, bag, ports, steps)
+                move_cell(
+                    &mut self.stores[group as usize],
+                    cell,
+                    t,
+                    woken,
+                    bag,
+                    ports,
+                    steps,
+                )
             }
         }
     }

@@ -88,10 +88,11 @@ invariant_of-self g c =
     let layout : made.layout ≡ o.layout = ap (λ (s : Cells). s.layout) c.give_of_cell.ensures.cells in
     let cells : made.cells ≡ slice_set o.cells c.in-Cell.cell (cell_emitted c.args.t (cell_at o.cells c.in-Cell.cell)) = ap (λ (s : Cells). s.cells) c.give_of_cell.ensures.cells in
     let is : leaf_of (states_in stock stores seats) leaf ≡ cell_state (cell_at o.cells c.in-Cell.cell) = cell-is _ seats stores stock c.self.invariant.0 leaf c.in-Cell.group c.in-Cell.cell o seat kept in
-    let is_now : leaf_of c.args.self.now.states leaf ≡ cell_state (cell_at o.cells c.in-Cell.cell) = sym (ap (λ (ss : List LeafState). leaf_of ss leaf) states) ∙ is in
-    (still-placed _ c.self.inside.model seats stores stock c.self.invariant.0 c.self.invariant.1 leaf c.in-Cell.group c.in-Cell.cell o made seat kept layout (ap length cells ∙ length-set o.cells c.in-Cell.cell (cell_emitted c.args.t (cell_at o.cells c.in-Cell.cell))),
-    still-ports _ c.self.inside.model seats stores stock c.self.invariant.0 c.self.invariant.1 leaf c.in-Cell.group c.in-Cell.cell o made seat kept layout (cell_emitted c.args.t (cell_at o.cells c.in-Cell.cell)) cells
-    (emitted-port c.args.t (cell_at o.cells c.in-Cell.cell) (port-here _ c.self.inside.model seats stores stock c.self.invariant.0 c.self.invariant.1 leaf c.in-Cell.group c.in-Cell.cell o made seat kept layout)))
+    let is_now : leaf_of c.args.self.now.states leaf ≡ cell_state (cell_at o.cells c.in-Cell.cell) = sym (ap (λ (ss : List LeafState). leaf_of ss leaf) states) ∙ is in (
+      still-placed _ c.self.inside.model seats stores stock c.self.invariant.0 c.self.invariant.1 leaf c.in-Cell.group c.in-Cell.cell o made seat kept layout (ap length cells ∙ length-set o.cells c.in-Cell.cell (cell_emitted c.args.t (cell_at o.cells c.in-Cell.cell))),
+      still-ports _ c.self.inside.model seats stores stock c.self.invariant.0 c.self.invariant.1 leaf c.in-Cell.group c.in-Cell.cell o made seat kept layout (cell_emitted c.args.t (cell_at o.cells c.in-Cell.cell)) cells
+          (emitted-port c.args.t (cell_at o.cells c.in-Cell.cell) (port-here _ c.self.inside.model seats stores stock c.self.invariant.0 c.self.invariant.1 leaf c.in-Cell.group c.in-Cell.cell o made seat kept layout)),
+    )
 
 pub returns-in-Atomic-clause-given : goal.returns-in-Atomic-clause-given
 returns-in-Atomic-clause-given g c =
@@ -195,4 +196,3 @@ returns-in-Cell-clause-visits g c =
     let gives = due-gives c.args.t (cell_at o.cells c.in-Cell.cell) (sym (ap leaf_next is) ∙ due) in
     let same : length (collected_of c.args.t (leaf_of c.args.self.now.states leaf)) ≡ length (cell_output c.args.t (cell_at o.cells c.in-Cell.cell)) = ap (λ s. length (collected_of c.args.t s)) is_now in
     omega (arith, c.give_of_cell.ensures.steps, gives, same)
-

@@ -146,9 +146,10 @@ invariant_of-self-in-Cell g c =
     let kept : slice_get stores c.in-Cell.group ≡ Some o = read-at stores c.in-Cell.group o (store-inside _ seats stores stock c.self.invariant.0 leaf c.in-Cell.group c.in-Cell.cell seat) c.index_mut.ensures.value in
     let made : Cells = c.move_cell.new.store in
     let layout : made.layout ≡ o.layout = c.move_cell.ensures.layout in
-    let only = c.move_cell.ensures.only in
-    (still-placed _ c.self.inside.model seats stores stock c.self.invariant.0 c.self.invariant.1 leaf c.in-Cell.group c.in-Cell.cell o made seat kept layout (ap length only.others ∙ length-set o.cells c.in-Cell.cell (cell_at made.cells c.in-Cell.cell)),
-    still-ports _ c.self.inside.model seats stores stock c.self.invariant.0 c.self.invariant.1 leaf c.in-Cell.group c.in-Cell.cell o made seat kept layout (cell_at made.cells c.in-Cell.cell) only.others (port-stays o.cells made.cells c.in-Cell.cell only (port-here _ c.self.inside.model seats stores stock c.self.invariant.0 c.self.invariant.1 leaf c.in-Cell.group c.in-Cell.cell o made seat kept layout)))
+    let only = c.move_cell.ensures.only in (
+      still-placed _ c.self.inside.model seats stores stock c.self.invariant.0 c.self.invariant.1 leaf c.in-Cell.group c.in-Cell.cell o made seat kept layout (ap length only.others ∙ length-set o.cells c.in-Cell.cell (cell_at made.cells c.in-Cell.cell)),
+      still-ports _ c.self.inside.model seats stores stock c.self.invariant.0 c.self.invariant.1 leaf c.in-Cell.group c.in-Cell.cell o made seat kept layout (cell_at made.cells c.in-Cell.cell) only.others (port-stays o.cells made.cells c.in-Cell.cell only (port-here _ c.self.inside.model seats stores stock c.self.invariant.0 c.self.invariant.1 leaf c.in-Cell.group c.in-Cell.cell o made seat kept layout)),
+    )
 
 pub returns-in-Atomic-clause-moves : goal.returns-in-Atomic-clause-moves
 returns-in-Atomic-clause-moves g c =
@@ -241,4 +242,3 @@ returns-in-Cell-clause-visits g c =
     let there : slice_get (layouts_in stores) c.in-Cell.group ≡ Some o.layout = get-map (λ (s : Cells). s.layout) stores c.in-Cell.group o kept in
     let most : visits_at c.args.self.now leaf ≡ length o.layout.offsets + 2 = sym (ap (λ (s : Seated). visits_at s leaf) c.self.view_is) ∙ ap (visits_there (layouts_in stores)) seat ∙ ap visits_in there in
     omega (arith, c.move_cell.ensures.steps, most)
-
