@@ -44,7 +44,7 @@ only_both o m n a b =
 
 -- ---- names and counts
 
-tried_behind : (T : Type 0) (r : Result T ModelRefusal) (a b old mid new : List Bytes) → mid ≡ old ++ a → Tried r b mid new → Tried r (a ++ b) old new
+pub tried_behind : (T : Type 0) (r : Result T ModelRefusal) (a b old mid new : List Bytes) → mid ≡ old ++ a → Tried r b mid new → Tried r (a ++ b) old new
 tried_behind T (Ok x) a b old mid new e t = t ∙ ap (λ xs. xs ++ b) e ∙ append_assoc old a b
 tried_behind T (Err (Missing name)) a b old mid new e t = t ∙ ap (λ xs. xs ++ b) e ∙ append_assoc old a b
 tried_behind T (Err (Refused line kind)) a b old mid new e t = t ∙ ap (λ xs. xs ++ b) e ∙ append_assoc old a b
@@ -75,20 +75,20 @@ stops_before T U (Refused line kind) a b s = ap (λ o. option_or o b) s
 stops_before T U (ReadFault name) a b s = tt
 stops_before T U Memory a b s = tt
 
-counted_behind : (T : Type 0) (r : Result T ModelRefusal) (o m n : Outside) → (m.misses ≡ o.misses) × (m.read_faults ≡ o.read_faults) → Counted r m n → Counted r o n
+pub counted_behind : (T : Type 0) (r : Result T ModelRefusal) (o m n : Outside) → (m.misses ≡ o.misses) × (m.read_faults ≡ o.read_faults) → Counted r m n → Counted r o n
 counted_behind T (Ok x) o m n e c = (c.0 ∙ e.0, c.1 ∙ e.1)
 counted_behind T (Err (Missing name)) o m n e c = (subst (λ k. Rose k n.misses) e.0 c.0, c.1 ∙ e.1)
 counted_behind T (Err (ReadFault name)) o m n e c = (c.0 ∙ e.0, subst (λ k. Rose k n.read_faults) e.1 c.1)
 counted_behind T (Err (Refused line kind)) o m n e c = (c.0 ∙ e.0, c.1 ∙ e.1)
 counted_behind T (Err Memory) o m n e c = (c.0 ∙ e.0, c.1 ∙ e.1)
 
-counted_as : (T U : Type 0) (w : ModelRefusal) (o n : Outside) → Counted {T = T} (Err w) o n → Counted {T = U} (Err w) o n
+pub counted_as : (T U : Type 0) (w : ModelRefusal) (o n : Outside) → Counted {T = T} (Err w) o n → Counted {T = U} (Err w) o n
 counted_as T U (Missing name) o n c = c
 counted_as T U (ReadFault name) o n c = c
 counted_as T U (Refused line kind) o n c = c
 counted_as T U Memory o n c = c
 
-last_as : (T U : Type 0) (w : ModelRefusal) (tried : List Bytes) → IsLastTried {T = T} (Err w) tried → IsLastTried {T = U} (Err w) tried
+pub last_as : (T U : Type 0) (w : ModelRefusal) (tried : List Bytes) → IsLastTried {T = T} (Err w) tried → IsLastTried {T = U} (Err w) tried
 last_as T U (Missing name) tried l = l
 last_as T U (ReadFault name) tried l = l
 last_as T U (Refused line kind) tried l = tt

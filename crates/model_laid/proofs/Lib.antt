@@ -1,5 +1,5 @@
-mod Bare
-mod Laid
-mod Sounds
-mod Groups
-mod Boxes
+pub mod Bare
+pub mod Laid
+pub mod Sounds
+pub mod Groups
+pub mod Boxes

@@ -1,5 +1,5 @@
 -- Nothing was read.
-use Rattle.std.proofs.Common.{Option, Some, None, List, [], sym, refl, Err, le_refl}
+use Rattle.std.proofs.Common.{◌≡◌, ◌++◌, Option, Some, None, List, [], sym, refl, Err, le_refl}
 use Rattle.std.proofs.lemmas.List.{append-nil}
 
 use Rattle.std.specs.Prelude.{IfSome}

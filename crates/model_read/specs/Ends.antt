@@ -1,0 +1,35 @@
+-- What the phases behind the limit of links give. Only private clauses use these definitions.
+use Rattle.std.specs.Prelude.{◌≡◌, ℕ, ◌<◌, ◌≤◌, Bool, true, false, nat_lt, Option, Some, None, List, ⊤}
+use Rattle.std.specs.declared.result.Result.{Result}
+use Rattle.std.specs.declared.result.Result.TheVariants.{Ok, Err}
+use Rattle.std.specs.List.{find}
+use Rattle.std.specs.Str.{bytes_eq}
+use Rattle.cell_grid.specs.Space.{plane_count}
+use Rattle.model_tree.specs.declared.table.Model.{Model}
+use Rattle.model_tree.specs.Leaves.{OfTree}
+use Rattle.model_tree.specs.Sound.{path_count}
+use Rattle.route_flat.specs.declared.routes.Routes.{Routes}
+use Rattle.route_flat.specs.Nets.{RoutesOf}
+use Rattle.model_text.specs.declared.kind.Kind.TheVariants.{TooManyRoutes}
+use Rattle.model_text.specs.Drawings.{Drawing}
+use Rattle.model_files.specs.declared.group_space.GroupSpace.{GroupSpace}
+use Rattle.model_files.specs.declared.refusal.ModelRefusal.{ModelRefusal}
+use Rattle.model_files.specs.declared.refusal.ModelRefusal.TheVariants as why
+
+-- the routes of a model with at most 65536 paths; TooManyRoutes where there are more
+abbrev pub RoutesGive : Model → Result Routes ModelRefusal → Type 0
+RoutesGive m (Ok routes) = OfTree m (λ t. RoutesOf t routes) × OfTree m (λ t. path_count t ≤ 65536)
+RoutesGive m (Err (why.Refused line kind)) = (line ≡ 0) × (kind ≡ TooManyRoutes) × OfTree m (λ t. 65536 < path_count t)
+RoutesGive m (Err why.Memory) = ⊤
+RoutesGive m (Err (why.Missing name)) = ⊥
+RoutesGive m (Err (why.ReadFault name)) = ⊥
+
+-- a group that is there has the plane
+abbrev pub has_plane : ℕ → Option GroupSpace → Bool
+has_plane plane None = false
+has_plane plane (Some g) = nat_lt plane (plane_count g.grid)
+
+-- nothing is drawn, or a plane that there is
+abbrev pub can_draw : Option Drawing → List GroupSpace → Bool
+can_draw None gs = true
+can_draw (Some d) gs = has_plane d.plane (find (λ (g : GroupSpace). bytes_eq g.section.now.name d.group) gs)
