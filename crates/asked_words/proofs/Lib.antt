@@ -2,3 +2,4 @@ pub mod Matched
 pub mod Taken
 pub mod Looked
 pub mod Asking
+pub mod Fewer

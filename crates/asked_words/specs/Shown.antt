@@ -1,9 +1,11 @@
 -- What is asked for, without where it lies.
-use Rattle.std.specs.Prelude.{◌≤◌, Option, Some, None, List, IfSome, ⊤}
+use Rattle.std.specs.Prelude.{◌≤◌, Option, Some, None, List, [], ◌∷◌, IfSome, IsTrue, ⊤, codes}
+use Rattle.std.specs.List.{list_all, filter_map}
 use Rattle.std.specs.Option.{option_map}
 use Rattle.std.specs.Borrow.{Bor}
 use Rattle.model_tree.specs.Tree.{Word}
 use Rattle.answer_model.specs.Asked as A
+use Rattle.answer_model.specs.Asked.{is_among}
 use Rattle.answer_model.specs.AskedDrawing as D
 use Rattle.asked_words.specs.declared.asked.Source.{Source}
 use Rattle.asked_words.specs.declared.asked.Source.TheVariants.{File, Made}
@@ -60,9 +62,20 @@ pub record CanBeShown (f : FramesFile) : Type 0 where
   pub narrow : f.width ≤ 20
   pub short : f.decimals ≤ 5
 
+-- those of three names that are given
+abbrev pub given_names : Option Word → Option Word → Option Word → List Word
+given_names a b c = filter_map (λ (o : Option Word). o) (a ∷ b ∷ c ∷ [])
+
+-- the names of the files that are made
+abbrev pub made_names : Asked → List Word
+made_names a = given_names (name_of a.log) (name_of a.out) (option_map (λ (f : FramesFile). f.name.now) a.frames)
+
+-- the end is a time, letters are those of the log, and no two made files have one name
 pub record IsInBounds (a : Asked) : Type 0 where
   pub end_is : a.end ≤ 359999999
   pub size : IsOfSize a.source
   pub some : 1 ≤ a.limit
   pub few : a.limit ≤ 1000000
   pub frames : IfSome a.frames CanBeShown
+  pub letters : IsTrue (list_all (λ c. is_among c (codes "YNXS")) a.letters.now)
+  pub names : IsTrue (A.differ_all (made_names a))

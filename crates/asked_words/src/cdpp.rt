@@ -1,12 +1,12 @@
 // What the words of the simulator ask for.
-ghost use Rattle.std.specs.Prelude.{◌≡◌, ◌≤◌, [], ◌∷◌, IfOk, IfSome, map};
+ghost use Rattle.std.specs.Prelude.{◌≡◌, ◌≤◌, [], ◌∷◌, IfOk, IfSome, IsTrue, map};
 ghost use Rattle.std.specs.List.{filter_map};
 ghost use Rattle.std.specs.Option.{option_map};
 ghost use Rattle.std.specs.String.{string_bytes};
 ghost use Rattle.clap.specs.Words.{rows_of, found_of};
 ghost use Rattle.answer_model.specs.Asked as A;
 ghost use Rattle.answer_model.specs.Asked.{built_letters};
-ghost use Rattle.asked_words.specs.Shown.{name_of, source_of, frames_of, asked_of, IsOfSize, CanBeShown, IsInBounds};
+ghost use Rattle.asked_words.specs.Shown.{name_of, source_of, frames_of, asked_of, IsOfSize, CanBeShown, IsInBounds, given_names};
 
 use crate::asked::{Asked, FramesFile, Source};
 use crate::command::cdpp_matches;
@@ -41,6 +41,7 @@ fn frames_in<'a>(
     ensures frames { IfOk result (λ f. option_map (option_map frames_of) f
         ≡ A.frames_in (name_of name.entry) (name_of group.entry) looks.width looks.decimals looks.plane) }
     ensures bounds { IfOk result (λ f. IfSome f (λ f. IfSome f CanBeShown)) }
+    ensures named { IfOk result (λ f. IfSome f (λ f. option_map (λ f. f.name.now) f ≡ name_of name.entry)) }
 {
     match (name, group) {
         (None, None) => Ok(Some(None)),
@@ -66,7 +67,9 @@ fn names_differ(
     out: Option<&str>,
     frames: Option<&str>,
 ) -> bool
-    ensures { result ≡ A.differ_all (filter_map name_of (model.entry ∷ events.entry ∷ log.entry ∷ out.entry ∷ frames.entry ∷ [])) }
+    ensures all { result ≡ A.differ_all (filter_map name_of (model.entry ∷ events.entry ∷ log.entry ∷ out.entry ∷ frames.entry ∷ [])) }
+    ensures made { IsTrue result → IsTrue (A.differ_all
+        (given_names (name_of log.entry) (name_of out.entry) (name_of frames.entry))) }
 {
     differ_all(&[model, events, log, out, frames])
 }

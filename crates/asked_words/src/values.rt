@@ -1,5 +1,5 @@
 // The values of options.
-ghost use Rattle.std.specs.Prelude.{◌≡◌, ◌≤◌, ◌++◌, ◌∷◌, [], IfOk, IfSome, map, codes};
+ghost use Rattle.std.specs.Prelude.{◌≡◌, ◌≤◌, ◌++◌, ◌∷◌, [], IfOk, IfSome, IsTrue, map, codes};
 ghost use Rattle.std.specs.Str.{bytes_eq};
 ghost use Rattle.std.specs.List.{list_all, list_any, filter_map};
 ghost use Rattle.quantity.specs.Times.{time_in};
@@ -73,7 +73,8 @@ fn are_letters(cs: &[u8]) -> bool
 
 /// One to four different letters of the log's lines; Y where none are given.
 pub(crate) fn letters_or_y<'a>(text: Option<&'a str>) -> Option<&'a str>
-    ensures { name_of result ≡ or_else (codes "Y") letters_in (name_of text.entry) }
+    ensures value { name_of result ≡ or_else (codes "Y") letters_in (name_of text.entry) }
+    ensures letters { IfSome result (λ t. IsTrue (list_all (λ c. is_among c (codes "YNXS")) t.now)) }
 {
     let Some(text) = text else {
         return Some("Y");

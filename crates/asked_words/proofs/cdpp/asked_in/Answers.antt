@@ -20,7 +20,7 @@ returns-in_default-looks_in-clause-value c =
     let first = upto rows _ _ _ _
     (sym (c.in-Some.ensures.source ∙ ap (λ o. source_in o (name_of c.get_str.result)) m ∙ ap (source_in _) g))
     (sym (c.in-Some-end_in.ensures.value ∙ ap (needed time_in) (c.get_str-2.ensures ∙ value_is f (codes "t"))))
-    (sym (c.in-Some-letters_or_y.ensures ∙ ap (or_else (codes "Y") letters_in) (c.get_str-3.ensures ∙ value_is f (codes "L"))))
+    (sym (c.in-Some-letters_or_y.ensures.value ∙ ap (or_else (codes "Y") letters_in) (c.get_str-3.ensures ∙ value_is f (codes "L"))))
     (sym (c.in-Some-number_or.ensures.value ∙ ap (or_else 10000 (number 1 1000000)) (c.get_str-4.ensures ∙ value_is f (codes "c")))) in
     sym (first ∙ unlooked rows _ _ _ _ (sym c.in_default-looks_in.ensures.value))
 
@@ -33,7 +33,7 @@ returns-in_default-2-clause-value c =
     let first = upto rows _ _ _ _
     (sym (c.in-Some.ensures.source ∙ ap (λ o. source_in o (name_of c.get_str.result)) m ∙ ap (source_in _) g))
     (sym (c.in-Some-end_in.ensures.value ∙ ap (needed time_in) (c.get_str-2.ensures ∙ value_is f (codes "t"))))
-    (sym (c.in-Some-letters_or_y.ensures ∙ ap (or_else (codes "Y") letters_in) (c.get_str-3.ensures ∙ value_is f (codes "L"))))
+    (sym (c.in-Some-letters_or_y.ensures.value ∙ ap (or_else (codes "Y") letters_in) (c.get_str-3.ensures ∙ value_is f (codes "L"))))
     (sym (c.in-Some-number_or.ensures.value ∙ ap (or_else 10000 (number 1 1000000)) (c.get_str-4.ensures ∙ value_is f (codes "c")))) in
     let d = c.get_str-frames_name.ensures ∙ value_is f (codes "d") in
     let group = c.get_str-5.ensures ∙ value_is f (codes "g") in
@@ -50,7 +50,7 @@ returns-then-not-names_differ-clause-value c =
     let first = upto rows _ _ _ _
     (sym (c.in-Some.ensures.source ∙ ap (λ o. source_in o (name_of c.get_str.result)) m ∙ ap (source_in _) g))
     (sym (c.in-Some-end_in.ensures.value ∙ ap (needed time_in) (c.get_str-2.ensures ∙ value_is f (codes "t"))))
-    (sym (c.in-Some-letters_or_y.ensures ∙ ap (or_else (codes "Y") letters_in) (c.get_str-3.ensures ∙ value_is f (codes "L"))))
+    (sym (c.in-Some-letters_or_y.ensures.value ∙ ap (or_else (codes "Y") letters_in) (c.get_str-3.ensures ∙ value_is f (codes "L"))))
     (sym (c.in-Some-number_or.ensures.value ∙ ap (or_else 10000 (number 1 1000000)) (c.get_str-4.ensures ∙ value_is f (codes "c")))) in
     let d = c.get_str-frames_name.ensures ∙ value_is f (codes "d") in
     let group = c.get_str-5.ensures ∙ value_is f (codes "g") in
@@ -61,7 +61,7 @@ returns-then-not-names_differ-clause-value c =
     let names = names_same m e log out d in
     let some = rw c.in-Some-2.is at c.in_ok-frames.ensures.frames in
     sym (first ∙ framed rows _ _ _ _ l _ (sym c.in-Some-looks_in.ensures.value) (sym (some ∙ frames_same l d group))
-    ∙ same_names rows _ _ _ _ _ (sym (ap differ_all names) ∙ sym c.names_differ.ensures ∙ c.if-not-names_differ.true))
+    ∙ same_names rows _ _ _ _ _ (sym (ap differ_all names) ∙ sym c.names_differ.ensures.all ∙ c.if-not-names_differ.true))
 
 pub returns-clause-value : goal.returns-clause-value
 returns-clause-value c =
@@ -72,7 +72,7 @@ returns-clause-value c =
     let first = upto rows _ _ _ _
     (sym (c.in-Some.ensures.source ∙ ap (λ o. source_in o (name_of c.get_str.result)) m ∙ ap (source_in _) g))
     (sym (c.in-Some-end_in.ensures.value ∙ ap (needed time_in) (c.get_str-2.ensures ∙ value_is f (codes "t"))))
-    (sym (c.in-Some-letters_or_y.ensures ∙ ap (or_else (codes "Y") letters_in) (c.get_str-3.ensures ∙ value_is f (codes "L"))))
+    (sym (c.in-Some-letters_or_y.ensures.value ∙ ap (or_else (codes "Y") letters_in) (c.get_str-3.ensures ∙ value_is f (codes "L"))))
     (sym (c.in-Some-number_or.ensures.value ∙ ap (or_else 10000 (number 1 1000000)) (c.get_str-4.ensures ∙ value_is f (codes "c")))) in
     let d = c.get_str-frames_name.ensures ∙ value_is f (codes "d") in
     let group = c.get_str-5.ensures ∙ value_is f (codes "g") in
@@ -83,5 +83,5 @@ returns-clause-value c =
     let names = names_same m e log out d in
     let some = rw c.in-Some-2.is at c.in_ok-frames.ensures.frames in
     let has = sym (first ∙ framed rows _ _ _ _ l _ (sym c.in-Some-looks_in.ensures.value) (sym (some ∙ frames_same l d group))
-    ∙ differing rows _ _ _ _ _ (sym (ap differ_all names) ∙ sym c.names_differ.ensures ∙ c.if-not-names_differ.false)) in
+    ∙ differing rows _ _ _ _ _ (sym (ap differ_all names) ∙ sym c.names_differ.ensures.all ∙ c.if-not-names_differ.false)) in
     ap Some (asked_same (source_of c.in-Some.source) c.in-Some-end_in.end (option_map frames_of c.in-Some-2.frames) c.in-Some-letters_or_y.letters.now c.in-Some-number_or.limit e log out) ∙ has

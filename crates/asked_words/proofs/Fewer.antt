@@ -1,0 +1,24 @@
+-- Names of which all differ: so do fewer of them.
+use Rattle.std.proofs.Common.{Bool, true, false, Option, Some, None, List, [], ◌∷◌}
+use Rattle.std.specs.Prelude.{IsTrue, not, ◌&&◌}
+use Rattle.std.specs.Borrow.{Bor}
+use Rattle.std.specs.List.{filter_map, list_any}
+use Rattle.std.specs.Str.{bytes_eq}
+use Rattle.model_tree.specs.Tree.{Word}
+use Rattle.answer_model.specs.Asked.{differ_all}
+use Rattle.asked_words.specs.Shown.{name_of, given_names}
+
+and_right : (a b : Bool) → IsTrue (a && b) → IsTrue b
+and_right true b h = h
+and_right false b h = cc
+
+rest_differ : (w : Word) (ws : List Word) → IsTrue (differ_all (w ∷ ws)) → IsTrue (differ_all ws)
+rest_differ w ws h = and_right (not (list_any (bytes_eq w) ws)) (differ_all ws) h
+
+fewer : (o : Option (Bor Word)) (os : List (Option (Bor Word))) → IsTrue (differ_all (filter_map name_of (o ∷ os))) → IsTrue (differ_all (filter_map name_of os))
+fewer None os h = h
+fewer (Some w) os h = rest_differ w.now (filter_map name_of os) h
+
+-- what is said of five names, of the last three
+pub made_differ : (m e l o d : Option (Bor Word)) → IsTrue (differ_all (filter_map name_of (m ∷ e ∷ l ∷ o ∷ d ∷ []))) → IsTrue (differ_all (given_names (name_of l) (name_of o) (name_of d)))
+made_differ m e l o d h = fewer e (l ∷ o ∷ d ∷ []) (fewer m (e ∷ l ∷ o ∷ d ∷ []) h)
