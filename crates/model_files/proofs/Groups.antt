@@ -71,7 +71,7 @@ pub values_more : (folder : Option Files) (s : Section) (ss : List Section) (old
     → IfSome folder (λ files. new ≡ map (initial_of files) (ss ++ s ∷ []))
 values_more folder s ss old new e a =
     on_both folder e a.right (λ files old_is is.
-        a.added ∙ ap (λ vs. vs ++ a.values ∷ []) old_is ∙ ap (λ v. map (initial_of files) ss ++ v ∷ []) is ∙ sym (map-append (initial_of files) ss (s ∷ [])))
+    a.added ∙ ap (λ vs. vs ++ a.values ∷ []) old_is ∙ ap (λ v. map (initial_of files) ss ++ v ∷ []) is ∙ sym (map-append (initial_of files) ss (s ∷ [])))
 
 -- the files of all groups, with those of one of them between
 pub files_split : (gs : List GroupSpace) (i : ℕ) (d : GroupSpace) → i < length gs

@@ -49,14 +49,16 @@ tried_behind T (Ok x) a b old mid new e t = t ∙ ap (λ xs. xs ++ b) e ∙ appe
 tried_behind T (Err (Missing name)) a b old mid new e t = t ∙ ap (λ xs. xs ++ b) e ∙ append_assoc old a b
 tried_behind T (Err (Refused line kind)) a b old mid new e t = t ∙ ap (λ xs. xs ++ b) e ∙ append_assoc old a b
 tried_behind T (Err (ReadFault name)) a b old mid new e t =
-    let split : (a ++ t.0) ++ name ∷ [] ≡ a ++ (t.0 ++ name ∷ []) = append_assoc a t.0 (name ∷ []) in
-    (a ++ t.0,
-    (t.1.0, ap (λ xs. a ++ xs) t.1.1 ∙ sym (append_assoc a (t.0 ++ name ∷ []) t.1.0) ∙ ap (λ xs. xs ++ t.1.0) (sym split)),
-    t.2 ∙ ap (λ xs. xs ++ (t.0 ++ name ∷ [])) e ∙ append_assoc old a (t.0 ++ name ∷ []) ∙ ap (λ xs. old ++ xs) (sym split))
-tried_behind T (Err Memory) a b old mid new e t =
-    (a ++ t.0,
-    (t.1.0, ap (λ xs. a ++ xs) t.1.1 ∙ sym (append_assoc a t.0 t.1.0)),
-    t.2 ∙ ap (λ xs. xs ++ t.0) e ∙ append_assoc old a t.0)
+    let split : (a ++ t.0) ++ name ∷ [] ≡ a ++ (t.0 ++ name ∷ []) = append_assoc a t.0 (name ∷ []) in (
+      a ++ t.0,
+      (t.1.0, ap (λ xs. a ++ xs) t.1.1 ∙ sym (append_assoc a (t.0 ++ name ∷ []) t.1.0) ∙ ap (λ xs. xs ++ t.1.0) (sym split)),
+      t.2 ∙ ap (λ xs. xs ++ (t.0 ++ name ∷ [])) e ∙ append_assoc old a (t.0 ++ name ∷ []) ∙ ap (λ xs. old ++ xs) (sym split),
+    )
+tried_behind T (Err Memory) a b old mid new e t = (
+  a ++ t.0,
+  (t.1.0, ap (λ xs. a ++ xs) t.1.1 ∙ sym (append_assoc a t.0 t.1.0)),
+  t.2 ∙ ap (λ xs. xs ++ t.0) e ∙ append_assoc old a t.0,
+)
 
 tried_before : (T U : Type 0) (w : ModelRefusal) (folder : Files) (fs gs : List InitialFile) (old new : List Bytes)
     → StopsAs {T = T} (Err w) (first_file_stop folder fs) → Tried {T = T} (Err w) (looked_for folder fs) old new → Tried {T = U} (Err w) (looked_for folder (fs ++ gs)) old new

@@ -36,11 +36,7 @@ pub fn read_file<R: Room>(
 }
 
 /// What is answered to a whole read.
-fn answer(
-    line: u32,
-    name: Text,
-    read: Result<Vec<u8>, ReadWhole>,
-) -> Result<Vec<u8>, ModelRefusal>
+fn answer(line: u32, name: Text, read: Result<Vec<u8>, ReadWhole>) -> Result<Vec<u8>, ModelRefusal>
     ensures { result ≡ answered line name read }
 {
     match read {

@@ -150,7 +150,7 @@ mutual
       ap (λ b. b && not (has_repeat ins) && not (has_repeat outs) && are_accepted (face_of_coupled ins outs (all_laid_from children first values)) [] links && are_sound_parts (all_laid_from children first values)) (laid_child children first values)
       ∙ ap (λ f. has_child children && not (has_repeat ins) && not (has_repeat outs) && are_accepted f [] links && are_sound_parts (all_laid_from children first values)) (laid_face ins outs children first values)
       ∙ last_of_five (has_child children) (not (has_repeat ins)) (not (has_repeat outs)) (are_accepted (face_of_coupled ins outs children) [] links) (are_sound_parts children) (are_sound_parts (all_laid_from children first values))
-        (all_laid_sound children first values fit) s
+      (all_laid_sound children first values fit) s
   laid_sound (cells g) first values fit s =
       let v = unwrap_or (slice_get values first) g.initial in
       let here : first + 0 ≡ first = omega arith in

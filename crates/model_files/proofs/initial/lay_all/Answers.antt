@@ -20,9 +20,11 @@ lay_next-requires-clause-left g c =
     let gs = c.args.groups.now in
     let i = c.loop-group.group-index in
     let d = c.group-item.result in
-    let rest = map values_before_files (sections_in (drop (i + 1) gs)) in
-    (rest, c.loop-group.invariant.left ∙ ap (map values_before_files) (section_next gs i d c.loop-group-test.true)
-    ∙ ap (λ (x : GroupSpace). values_before_files (section_of x.section.now) ∷ rest) (sym c.group-item.is))
+    let rest = map values_before_files (sections_in (drop (i + 1) gs)) in (
+      rest,
+      c.loop-group.invariant.left ∙ ap (map values_before_files) (section_next gs i d c.loop-group-test.true)
+          ∙ ap (λ (x : GroupSpace). values_before_files (section_of x.section.now) ∷ rest) (sym c.group-item.is),
+    )
 
 pub returns-in_err-lay_next-clause-read : goal.returns-in_err-lay_next-clause-read
 returns-in_err-lay_next-clause-read g c =
