@@ -84,17 +84,26 @@ module _ (name : Bytes) (folder : Files) (classes : List Class) (drawing : Optio
   found_as T (ReadFault n) s = tt
   found_as T Memory s = tt
 
-
   tried_as : (T : Type 0) (w : ModelRefusal) (old new : List Bytes) → StopsAs {T = T} (Err w) (stop_of name (folder name)) → Tried {T = T} (Err w) (looked_for folder (any_file 0 name ∷ [])) old new
       → Tried {T = Model × Routes} (Err w) (name ∷ looked_in (folder name) folder classes drawing) old new
   tried_as T (Missing n) old new s t = t ∙ ap (λ ns. old ++ ns) (looks_for_one folder (any_file 0 name) ∙ ap (λ ns. name ∷ ns) (sym (found_missing n (folder name) s).1))
   tried_as T (Refused line kind) old new s t = t ∙ ap (λ ns. old ++ ns) (looks_for_one folder (any_file 0 name) ∙ ap (λ ns. name ∷ ns) (sym (found_refused (refusal line kind) (folder name) s).1))
-  tried_as T (ReadFault n) old new s t =
-      (t.0, (t.1.0 ++ looked_in (folder name) folder classes drawing,
-      ap (λ ns. ns ++ looked_in (folder name) folder classes drawing) (sym (looks_for_one folder (any_file 0 name)) ∙ t.1.1) ∙ append_assoc (t.0 ++ n ∷ []) t.1.0 (looked_in (folder name) folder classes drawing)), t.2)
-  tried_as T Memory old new s t =
-      (t.0, (t.1.0 ++ looked_in (folder name) folder classes drawing,
-      ap (λ ns. ns ++ looked_in (folder name) folder classes drawing) (sym (looks_for_one folder (any_file 0 name)) ∙ t.1.1) ∙ append_assoc t.0 t.1.0 (looked_in (folder name) folder classes drawing)), t.2)
+  tried_as T (ReadFault n) old new s t = (
+    t.0,
+    (
+      t.1.0 ++ looked_in (folder name) folder classes drawing,
+      ap (λ ns. ns ++ looked_in (folder name) folder classes drawing) (sym (looks_for_one folder (any_file 0 name)) ∙ t.1.1) ∙ append_assoc (t.0 ++ n ∷ []) t.1.0 (looked_in (folder name) folder classes drawing),
+    ),
+    t.2,
+  )
+  tried_as T Memory old new s t = (
+    t.0,
+    (
+      t.1.0 ++ looked_in (folder name) folder classes drawing,
+      ap (λ ns. ns ++ looked_in (folder name) folder classes drawing) (sym (looks_for_one folder (any_file 0 name)) ∙ t.1.1) ∙ append_assoc t.0 t.1.0 (looked_in (folder name) folder classes drawing),
+    ),
+    t.2,
+  )
 
 -- the file could not be read
 pub named_stop : (T : Type 0) (name : Bytes) (classes : List Class) (drawing : Option Drawing) (stock : List Stocked) (w : ModelRefusal) (o n : Outside)

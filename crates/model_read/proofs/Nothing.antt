@@ -1,7 +1,6 @@
 -- Nothing was read.
 use Rattle.std.proofs.Common.{◌≡◌, ◌++◌, Option, Some, None, List, [], sym, refl, Err, le_refl}
 use Rattle.std.proofs.lemmas.List.{append-nil}
-
 use Rattle.std.specs.Prelude.{IfSome}
 use Rattle.quantity.specs.Bytes.{Bytes}
 use Rattle.source_text.specs.Lines.{Files}
