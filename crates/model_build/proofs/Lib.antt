@@ -1,0 +1,5 @@
+pub mod Plain
+pub mod Fronts
+pub mod Trees
+pub mod Made
+pub mod Top

@@ -13,13 +13,24 @@ ghost use Rattle.model_tree.specs.declared.component.Component.TheVariants.{Coup
 ghost use Rattle.model_laid.specs.Boxes.{atomics_in};
 ghost use Rattle.model_build.specs.Built.{Passes, HasSettings, IsBuilt};
 
+mod cells;
+mod component;
+mod parts;
+
+use crate::component::coupled;
+use crate::parts::Parts;
 use ma_lines::Sections;
 use model_rules::GroupRules;
 use model_spaces::PlacedGroup;
+use model_text::building::components_are_made_item_by_item;
 use model_tree::{Atomic, Coupled, Link};
 use model_walk::Walked;
+use model_walk::entries::section_named;
 use quantity::OutOfMemory;
 use std::alloc::Global;
+
+/// The most levels of sections, top included.
+const LEVELS: u32 = 17;
 
 /// The component top of sections that pass the phases up to the limit of links. Its groups have `?` in
 /// each cell; they get their values when the files are read. It goes down the sections once more, and
@@ -45,12 +56,21 @@ pub fn build(
         → HasSettings sections.now settings atomics.items → IsBuilt sections.now settings top) }
     ensures atomics { IfOk result (λ top. atomics_in (in_tree top) ≡ atomics.items) }
 {
-    let _alloc = alloc;
-    let _sections = sections;
     let _walked = walked;
-    let _groups = groups;
-    let _rules = rules;
-    let _atomics = atomics;
-    let _links = links;
-    Err(OutOfMemory)
+    components_are_made_item_by_item();
+    let groups = groups.into_iter();
+    let rules = rules.into_iter();
+    let atomics = atomics.into_iter();
+    let links = links.into_iter();
+    let mut parts = Parts {
+        groups,
+        rules,
+        atomics,
+        links,
+    };
+    let Some(top) = section_named(sections, b"top") else {
+        unreachable!()
+    };
+    let built = coupled(alloc, LEVELS, sections, top, &mut parts)?;
+    Ok(built)
 }

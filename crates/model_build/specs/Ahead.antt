@@ -1,0 +1,188 @@
+-- Private: the parts of a model that are still to be taken, against the steps of the walk that are still to be gone.
+use Rattle.std.specs.Prelude.{◌≡◌, ℕ, Option, Some, None, List, Vec, [], ◌∷◌, ◌++◌, ℤ, map}
+use Rattle.std.specs.declared.alloc.Global.{Global}
+use Rattle.std.specs.List.{filter, filter_map, flat_map, AllByRecursion}
+use Rattle.quantity.specs.declared.value.Value.TheVariants.{Undefined}
+use Rattle.cell_grid.specs.Initial.{filled}
+use Rattle.ma_lines.specs.Sections.{Section}
+use Rattle.atomic_face.specs.declared.class.Class.{Class}
+use Rattle.model_tree.specs.declared.component.Component.{Component}
+use Rattle.model_tree.specs.declared.group.Atomic.{Atomic}
+use Rattle.model_tree.specs.declared.group.CellGroup.{CellGroup}
+use Rattle.model_tree.specs.declared.link.Link.{Link}
+use Rattle.model_tree.specs.Tree.{Word, Group, Tree}
+use Rattle.model_tree.specs.Stands.{part_of, group_of}
+use Rattle.model_tree.specs.Leaves.{Settings}
+use Rattle.model_text.specs.Keyed.{Item}
+use Rattle.quantity.specs.Bytes.{Bytes}
+use Rattle.model_text.specs.Walk.{Step, is_group, is_atomic, name_of, walk_from, section_in, items_in}
+use Rattle.model_text.specs.Stock.{class_of_item}
+use Rattle.model_text.specs.Links.{links_of}
+use Rattle.model_text.specs.Trees.{component_of, first_tree, no_files}
+use Rattle.model_text.specs.BuildLaws.{tree_at_item}
+use Rattle.model_walk.specs.Met.{item_steps}
+use Rattle.model_text.specs.Met.{Met}
+use Rattle.model_spaces.specs.Placed.{Placed, shown, placed_of}
+use Rattle.model_rules.specs.Sets.{Sets, sets_shown, sets_of}
+use Rattle.model_laid.specs.Blank.{blanked}
+use Rattle.model_laid.specs.Boxes as held
+use Rattle.model_build.specs.declared.parts.Parts.{Parts}
+use Rattle.model_build.specs.Built.{settings_of_item}
+
+-- ---- what stands ahead
+
+-- an atomic component, with its settings where these are told
+pub record Told : Type 0 where
+  pub name : Word
+  pub class : Option Class
+  pub settings : Option (List ℤ)
+
+-- a component's box
+abbrev pub box_told : Option Settings → Atomic → Told
+box_told None a = record { name = a.name; class = Some a.class; settings = None }
+box_told (Some settings) a = record { name = a.name; class = Some a.class; settings = Some (settings a.at.0) }
+
+-- what an item asks for
+abbrev pub item_told : Option Settings → List Section → Item → Told
+item_told None ss i = record { name = name_of i; class = class_of_item i; settings = None }
+item_told (Some settings) ss i = record { name = name_of i; class = class_of_item i; settings = settings_of_item ss i }
+
+-- each list of parts, from its front
+pub record Front : Type 0 where
+  pub groups : List Placed
+  pub rules : List Sets
+  pub atomics : List Told
+  pub links : List (List Link)
+
+-- the lists of links that are left
+abbrev pub lists_of : Parts → List (List Link)
+lists_of p = map (λ (l : Vec Link Global). l.items) p.links.rest.items
+
+-- the parts that are left
+abbrev pub front_of : Option Settings → Parts → Front
+front_of told p =
+    record {
+      groups = map shown p.groups.rest.items;
+      rules = map sets_shown p.rules.rest.items;
+      atomics = map (box_told told) p.atomics.rest.items;
+      links = lists_of p;
+    }
+
+-- the sections of steps
+abbrev pub reached_in : List Step → List Section
+reached_in steps = filter_map section_in steps
+
+-- those of groups
+abbrev pub groups_in : List Step → List Section
+groups_in steps = filter is_group (reached_in steps)
+
+-- the items of atomic components
+abbrev pub atomics_in : List Step → List Item
+atomics_in steps = filter is_atomic (items_in steps)
+
+-- the parts that steps ask for
+abbrev pub front_at : Option Settings → List Section → List Step → Front
+front_at told ss steps =
+    record {
+      groups = map placed_of (groups_in steps);
+      rules = map (sets_of ss) (groups_in steps);
+      atomics = map (item_told told ss) (atomics_in steps);
+      links = map links_of (reached_in steps);
+    }
+
+-- the parts that are left are those that these steps ask for
+abbrev pub IsAhead : Option Settings → List Section → Parts → List Step → Type 0
+IsAhead told ss p steps = front_of told p ≡ front_at told ss steps
+
+-- ---- what is taken
+
+-- the parts of these steps are gone
+abbrev pub Takes : List Section → List Step → Parts → Parts → Type 0
+Takes ss steps old new = (told : Option Settings) (later : List Step) → IsAhead told ss old (steps ++ later) → IsAhead told ss new later
+
+-- under settings that the parts have, these components are these trees, with ? in each cell
+abbrev pub Shows : List Section → List Step → List Tree → Parts → List Component → Type 0
+Shows ss steps ts old cs =
+    (settings : Settings) (later : List Step) → IsAhead (Some settings) ss old (steps ++ later) → map (λ c. part_of c settings) cs ≡ map blanked ts
+
+-- these trees are built of the parts of these steps
+pub record Builds (ss : List Section) (steps : List Step) (ts : List Tree) (old : Parts) (cs : List Component) (new : Parts) : Type 0 where
+  pub takes : Takes ss steps old new
+  pub shows : Shows ss steps ts old cs
+
+-- the atomic components of these are those that are gone
+abbrev pub Boxes : Parts → List Component → Parts → Type 0
+Boxes old cs new = old.atomics.rest.items ≡ flat_map held.atomics_in cs ++ new.atomics.rest.items
+
+-- nothing is met but right sections and items
+abbrev pub AllMet : List Section → List Step → Type 0
+AllMet ss steps = AllByRecursion (Met no_files ss) steps
+
+-- ---- what is built
+
+-- a section's component, wherever the walk meets nothing but what is right
+abbrev pub BuildsSection : ℕ → List Section → Section → Parts → Component → Parts → Type 0
+BuildsSection levels ss s old c new =
+    (around : List Bytes) (line : ℕ) → AllMet ss (walk_from levels ss around line s) →
+    Builds ss (walk_from levels ss around line s) (first_tree (component_of levels no_files ss s) ∷ []) old (c ∷ []) new
+
+-- the components of items
+abbrev pub BuildsItems : ℕ → List Section → List Item → Parts → List Component → Parts → Type 0
+BuildsItems levels ss is old cs new =
+    (inside : List Bytes) → AllMet ss (flat_map (item_steps levels ss inside) is) →
+    Builds ss (flat_map (item_steps levels ss inside) is) (map (tree_at_item levels no_files ss) is) old cs new
+
+-- the component of one item
+abbrev pub BuildsItem : ℕ → List Section → Item → Parts → Component → Parts → Type 0
+BuildsItem levels ss i old c new =
+    (inside : List Bytes) → AllMet ss (item_steps levels ss inside i) → Builds ss (item_steps levels ss inside i) (tree_at_item levels no_files ss i ∷ []) old (c ∷ []) new
+
+-- ---- one part
+
+-- the first links are taken
+pub record TakesLinks (old : Parts) (list : List Link) (new : Parts) : Type 0 where
+  pub groups : new.groups.rest.items ≡ old.groups.rest.items
+  pub rules : new.rules.rest.items ≡ old.rules.rest.items
+  pub atomics : new.atomics.rest.items ≡ old.atomics.rest.items
+  pub links : lists_of old ≡ list ∷ lists_of new
+
+-- the first atomic component is taken
+pub record TakesAtomic (old : Parts) (a : Atomic) (new : Parts) : Type 0 where
+  pub groups : new.groups.rest.items ≡ old.groups.rest.items
+  pub rules : new.rules.rest.items ≡ old.rules.rest.items
+  pub atomics : old.atomics.rest.items ≡ a ∷ new.atomics.rest.items
+  pub links : new.links.rest.items ≡ old.links.rest.items
+
+-- the group of what its section says, its rules and its links, with ? in each cell
+abbrev pub group_with : Placed → Sets → List Link → Group
+group_with p r links =
+    record {
+      name = p.section.name;
+      space = p.space;
+      kind = p.kind;
+      default_delay = p.default_delay;
+      offsets = p.names.offsets;
+      initial = filled p.space Undefined;
+      zones = p.zones;
+      zone_rules = r.zone_rules;
+      rule_sets = r.rule_sets;
+      port_rules = r.port_rules;
+      ins = p.ins;
+      outs = p.outs;
+      links = links;
+      variables = p.names.variables;
+      variable_values = p.variable_values;
+      ports = p.names.ports;
+      port_values = p.port_values;
+    }
+
+-- the first group, its rules and its links are taken
+pub record TakesGroup (old : Parts) (g : CellGroup) (new : Parts) : Type 0 where
+  pub placed : Placed
+  pub sets : Sets
+  pub list : List Link
+  pub groups : map shown old.groups.rest.items ≡ placed ∷ map shown new.groups.rest.items
+  pub rules : map sets_shown old.rules.rest.items ≡ sets ∷ map sets_shown new.rules.rest.items
+  pub atomics : new.atomics.rest.items ≡ old.atomics.rest.items
+  pub links : lists_of old ≡ list ∷ lists_of new
+  pub made : group_of g ≡ group_with placed sets list
