@@ -11,6 +11,14 @@ ghost use Rattle.model_walk.specs.Shown.{refusal_of};
 ghost use Rattle.model_spaces.specs.Placed.{shown, placed_of};
 ghost use Rattle.model_rules.specs.Sets.{sets_shown, sets_of};
 
+mod group;
+mod named;
+mod names;
+mod numbers;
+mod rules_in;
+mod sets;
+
+use crate::group::rules_of_groups;
 use ma_lines::Sections;
 use model_spaces::PlacedGroup;
 use model_tree::PortRule;
@@ -42,8 +50,9 @@ pub fn rules(
     ensures refused { (why : _) → result ≡ Err (Stop.Refused why)
         → R.rules_refused sections.now ≡ Some (refusal_of why) }
 {
-    let _alloc = alloc;
-    let _sections = sections;
-    let _groups = groups;
-    Err(Stop::Memory)
+    let read = rules_of_groups(alloc, sections, groups)?;
+    match read.refused {
+        Some(why) => Err(Stop::Refused(why)),
+        None => Ok(read.rules),
+    }
 }

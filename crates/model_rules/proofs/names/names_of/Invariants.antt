@@ -1,0 +1,7 @@
+use Rattle.std.proofs.Common.{◌≡◌, map, take}
+use Rattle.model_tree.specs.Pull.{distinct}
+use Rattle.model_walk.specs.declared.item.Item as kept
+use Rattle.model_rules.proofs.names.names_of.Given as goal
+
+abbrev pub invariant-loop-item : goal.invariant-loop-item
+invariant-loop-item l = l.names ≡ distinct (map (λ (i : kept.Item). i.text.now) (take l.item-index l.items))

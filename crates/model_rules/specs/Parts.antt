@@ -1,0 +1,88 @@
+-- Private: groups whose sections are read, and rules that are read one after another.
+use Rattle.std.specs.Prelude.{◌≡◌, ℕ, Option, List, [], ◌∷◌, ◌++◌, map, codes, position, unwrap_or}
+use Rattle.std.specs.declared.result.Result.{Result}
+use Rattle.std.specs.declared.result.Result.TheVariants.{Ok, Err}
+use Rattle.std.specs.List.{filter, filter_map, flat_map}
+use Rattle.std.specs.Option.{option_map}
+use Rattle.std.specs.Result.{result_ok}
+use Rattle.std.specs.Str.{bytes_eq}
+use Rattle.quantity.specs.Bytes.{Bytes}
+use Rattle.std.specs.Prelude.{Vec}
+use Rattle.std.specs.Global.{Global}
+use Rattle.rule_tree.specs.declared.node.RuleTree.{RuleTree}
+use Rattle.rule_tree.specs.Expression.{Rule, rule_of}
+use Rattle.rule_tree.specs.Scope.{Names}
+use Rattle.rule_syntax.specs.RuleOf as text
+use Rattle.rule_syntax.specs.Shown as syntax
+use Rattle.ma_lines.specs.declared.section.Entry.{Entry}
+use Rattle.ma_lines.specs.Sections.{Section, section_of}
+use Rattle.model_text.specs.Keyed.{Item, least}
+use Rattle.model_text.specs.Rules.{name_at, rule_refused, of_rules, of_group_rules, rules_in}
+use Rattle.model_tree.specs.declared.group.PortRule.{PortRule}
+use Rattle.model_walk.specs.declared.refused.Refused.{Refused}
+use Rattle.model_walk.specs.Shown.{refusal_of}
+use Rattle.model_walk.specs.Least.{merged}
+use Rattle.model_spaces.specs.Placed.{shown, placed_of}
+use Rattle.model_spaces.specs.declared.placed.PlacedGroup.{PlacedGroup}
+use Rattle.model_spaces.specs.declared.placed.PlacedRule.{PlacedRule}
+use Rattle.model_rules.specs.declared.rules_in.ReadRules.{ReadRules}
+use Rattle.model_rules.specs.declared.sets.ReadSets.{ReadSets}
+use Rattle.model_rules.specs.declared.group.ReadGroups.{ReadGroups}
+use Rattle.model_rules.specs.Sets.{Sets, sets_shown, sets_of}
+
+-- what is kept of the group is what its section says
+abbrev pub IsPlaced : PlacedGroup → Type 0
+IsPlaced g = shown g ≡ placed_of (section_of g.section.now)
+
+-- the section of a group
+abbrev pub group_section : PlacedGroup → Section
+group_section g = section_of g.section.now
+
+-- rules as plain values
+abbrev pub rules_shown : Vec RuleTree Global → List Rule
+rules_shown rules = map rule_of rules.items
+
+-- and its rules may use no more names than a group may have
+pub record CanBeRead (g : PlacedGroup) : Type 0 where
+  pub placed : IsPlaced g
+  pub few : syntax.AreFew (syntax.names_of g.names)
+
+-- the number of a name among names
+abbrev pub number_in : List Bytes → Bytes → ℕ
+number_in names name = unwrap_or (position (bytes_eq name) names) 0
+
+-- the rules of a port by the number of their set
+abbrev pub numbered : List Bytes → PlacedRule → PortRule
+numbered names p = record { port = p.port.now; cell = p.cell; rules = number_in names p.rules.now }
+
+-- the refusal in a result, where there is one
+abbrev pub refusals : {A : Type 0} → Result A Refused → List Refused
+refusals (Ok x) = []
+refusals (Err why) = why ∷ []
+
+-- the entries of rules
+abbrev pub rule_entries : List Entry → List Entry
+rule_entries es = filter (λ (e : Entry). bytes_eq e.key (codes "rule")) es
+
+-- the names that entries of `localtransition` have as values
+abbrev pub names_in : List Entry → List Item
+names_in es = map (λ (e : Entry). name_at e e.value) (filter (λ (e : Entry). bytes_eq e.key (codes "localtransition")) es)
+
+-- the rule of an entry, where it is one
+abbrev pub rule_at : Names → Entry → Option Rule
+rule_at names e = result_ok (text.rule_of names e.value)
+
+-- the rules of these entries stand behind the others, and what is refused of them is counted in
+pub record AddsRules (names : Names) (old new : ReadRules) (es : List Entry) : Type 0 where
+  pub refused : option_map refusal_of new.refused ≡ merged (option_map refusal_of old.refused) (least (flat_map (rule_refused names) (rule_entries es)))
+  pub rules : map rule_of new.rules.items ≡ map rule_of old.rules.items ++ filter_map (rule_at names) (rule_entries es)
+
+-- the same for the rules of sections
+pub record AddsSets (names : Names) (old new : ReadSets) (ss : List Section) : Type 0 where
+  pub refused : option_map refusal_of new.refused ≡ merged (option_map refusal_of old.refused) (least (flat_map (of_rules names) ss))
+  pub sets : map rules_shown new.sets.items ≡ map rules_shown old.sets.items ++ map (rules_in names) ss
+
+-- the same for groups
+pub record AddsGroups (ss : List Section) (old new : ReadGroups) (gs : List Section) : Type 0 where
+  pub refused : option_map refusal_of new.refused ≡ merged (option_map refusal_of old.refused) (least (flat_map (of_group_rules ss) gs))
+  pub rules : map sets_shown new.rules.items ≡ map sets_shown old.rules.items ++ map (sets_of ss) gs
