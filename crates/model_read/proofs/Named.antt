@@ -1,8 +1,8 @@
 -- The reading of a model file by its name: the file first, and then its bytes.
-use Rattle.std.proofs.Common.{◌≡◌, ℕ, ◌≤◌, Bool, true, false, cond, Option, Some, None, List, [], ◌∷◌, ◌++◌, Ok, Err, IfSome, refl, sym, ap, ◌∙◌, subst, le_trans, arith}
+use Rattle.std.proofs.Common.{◌≡◌, ℕ, Bool, true, false, cond, Option, Some, None, List, [], ◌∷◌, ◌++◌, Ok, Err, IfSome, refl, sym, ap, ◌∙◌, subst, le_trans, arith}
 use Rattle.std.specs.declared.result.Result.{Result}
 use Rattle.std.specs.Option.{option_or}
-use Rattle.std.proofs.lemmas.List.{append-nil, append_assoc}
+use Rattle.std.proofs.lemmas.List.{append_assoc}
 use Rattle.quantity.specs.Bytes.{Bytes}
 use Rattle.source_text.specs.Lines.{Files}
 use Rattle.atomic_face.specs.StockView.{Stocked}
@@ -13,11 +13,11 @@ use Rattle.route_flat.specs.declared.routes.Routes.{Routes}
 use Rattle.model_text.specs.declared.kind.Kind.TheVariants.{TooLong}
 use Rattle.model_text.specs.Refusals.{Refusal, refusal}
 use Rattle.model_text.specs.Drawings.{Drawing}
-use Rattle.model_text.specs.InitialFiles.{FileStop, absent, off, is_long, content_stops, first_file_stop, looked_for}
+use Rattle.model_text.specs.InitialFiles.{FileStop, absent, off, is_long, content_stops, looked_for}
 use Rattle.model_text.specs.ModelOf.{ModelOf, missing, refused, ModelRead, model_of}
 use Rattle.model_files.specs.declared.refusal.ModelRefusal.{ModelRefusal}
 use Rattle.model_files.specs.declared.refusal.ModelRefusal.TheVariants.{Missing, ReadFault, Refused, Memory}
-use Rattle.model_files.specs.Reading.{Tried, IsLastTried, Counted, StopsAs, ReadsFiles}
+use Rattle.model_files.specs.Reading.{Tried, StopsAs, ReadsFiles}
 use Rattle.model_files.specs.Whole.{any_file}
 use Rattle.model_files.proofs.Looking.{looks_for_one}
 use Rattle.model_files.proofs.Readings.{only_both, tried_behind, counted_behind, counted_as, last_as}
@@ -107,12 +107,13 @@ module _ (name : Bytes) (folder : Files) (classes : List Class) (drawing : Optio
 
 -- the file could not be read
 pub named_stop : (T : Type 0) (name : Bytes) (classes : List Class) (drawing : Option Drawing) (stock : List Stocked) (w : ModelRefusal) (o n : Outside)
-    → ReadsFiles {T = T} (any_file 0 name ∷ []) (Err w) o n → Reads (of_name name classes drawing) stock (Err w) o n
+    → ReadsFiles {T = T} (any_file 0 name ∷ []) (Err w) o n → Reads (of_name name classes drawing) drawing stock (Err w) o n
 named_stop T name classes drawing stock w o n a =
     record {
       found = on_one o.files a.stops (λ folder s. found_as name folder classes drawing stock T w s);
       tried = on_both o.files a.stops a.tried (λ folder s t. tried_as name folder classes drawing stock T w o.tried n.tried s t);
       ready = tt;
+      drawn = tt;
       last = last_as T (Model × Routes) w n.tried a.last;
       counted = counted_as T (Model × Routes) w o n a.counted;
       misses = a.misses;
@@ -123,7 +124,7 @@ named_stop T name classes drawing stock w o n a =
 -- it was read, and then its bytes
 pub named_bytes : (T : Type 0) (x : T) (name : Bytes) (classes : List Class) (drawing : Option Drawing) (stock : List Stocked) (bytes : Bytes) (r : Answer) (o m n : Outside)
     → ReadsFiles (any_file 0 name ∷ []) (Ok x) o m → IfSome o.files (λ folder. folder name ≡ Some bytes)
-    → Reads (λ folder. model_of bytes folder classes drawing) stock r m n → Reads (of_name name classes drawing) stock r o n
+    → Reads (λ folder. model_of bytes folder classes drawing) drawing stock r m n → Reads (of_name name classes drawing) drawing stock r o n
 named_bytes T x name classes drawing stock bytes r o m n a there b =
     let same = a.only.files in
     record {
@@ -133,6 +134,7 @@ named_bytes T x name classes drawing stock bytes r o m n a there b =
           (λ folder e t u. subst (λ y. Tried r (name ∷ looked_in y folder classes drawing) o.tried n.tried) (sym e)
           (tried_behind (Model × Routes) r (name ∷ []) (model_of bytes folder classes drawing).looked o.tried m.tried n.tried (t ∙ ap (λ ns. o.tried ++ ns) (looks_for_one folder (any_file 0 name))) u));
       ready = b.ready;
+      drawn = b.drawn;
       last = b.last;
       counted = counted_behind (Model × Routes) r o m n a.counted b.counted;
       misses = le_trans a.misses b.misses;

@@ -5,22 +5,23 @@ use Rattle.std.specs.Prelude.{IfSome}
 use Rattle.quantity.specs.Bytes.{Bytes}
 use Rattle.source_text.specs.Lines.{Files}
 use Rattle.atomic_face.specs.StockView.{Stocked}
+use Rattle.model_text.specs.Drawings.{Drawing}
 use Rattle.model_text.specs.ModelOf.{ModelRead}
 use Rattle.room_edge.specs.Outside.{Outside, OnlyInput}
 use Rattle.model_files.specs.declared.refusal.ModelRefusal.TheVariants as why
-use Rattle.model_files.specs.Reading.{Tried}
 use Rattle.model_read.specs.Read.{Reads}
 
 pub nothing_changed : (o : Outside) → OnlyInput o o
 nothing_changed o = record { files = refl; made = refl; shown = refl; complained = refl; write_faults = refl; complain_faults = refl; created = refl }
 
 -- where memory ran out at once
-pub read_nothing : (definition : Files → ModelRead) (stock : List Stocked) (o : Outside) → Reads definition stock (Err why.Memory) o o
-read_nothing definition stock o =
+pub read_nothing : (definition : Files → ModelRead) (drawing : Option Drawing) (stock : List Stocked) (o : Outside) → Reads definition drawing stock (Err why.Memory) o o
+read_nothing definition drawing stock o =
     record {
       found = found o.files;
       tried = tried o.files;
       ready = tt;
+      drawn = tt;
       last = tt;
       counted = (refl, refl);
       misses = le_refl o.misses;

@@ -1,5 +1,5 @@
 -- What is told of a reading, exit by exit.
-use Rattle.std.proofs.Common.{◌≡◌, ℕ, ◌<◌, ◌≤◌, Bool, true, false, cond, nat_lt, Option, Some, None, List, [], ◌∷◌, ◌++◌, Ok, Err, IfSome, IfOk, refl, sym, ap, ◌∙◌, subst, le_refl, arith, tests}
+use Rattle.std.proofs.Common.{◌≡◌, ℕ, ◌<◌, ◌≤◌, true, false, cond, nat_lt, Option, Some, None, List, ◌++◌, Ok, Err, IfSome, refl, sym, ap, ◌∙◌, subst, le_refl, arith, tests}
 use Rattle.std.specs.declared.result.Result.{Result}
 use Rattle.std.proofs.lemmas.List.{append-nil}
 use Rattle.quantity.specs.Bytes.{Bytes}
@@ -13,16 +13,16 @@ use Rattle.model_tree.specs.Sound.{path_count}
 use Rattle.route_flat.specs.declared.routes.Routes.{Routes}
 use Rattle.model_text.specs.declared.kind.Kind.{Kind}
 use Rattle.model_text.specs.declared.kind.Kind.TheVariants.{TooManyRoutes, NoSuchPlane}
-use Rattle.model_text.specs.Refusals.{Refusal, refusal}
+use Rattle.model_text.specs.Refusals.{refusal}
 use Rattle.model_text.specs.Drawings.{Drawing, drawing_refused}
-use Rattle.model_text.specs.InitialFiles.{FileStop, initial_files, first_file_stop, looked_for}
+use Rattle.model_text.specs.InitialFiles.{initial_files, first_file_stop, looked_for}
 use Rattle.model_text.specs.Trees.{tree_of, no_files}
-use Rattle.model_text.specs.ModelOf.{ModelOf, model, missing, refused, ModelRead, refuses, unless, routes_refused, model_unless, after_files, with_files}
+use Rattle.model_text.specs.ModelOf.{model, ModelRead, refuses, unless, model_unless, after_files, with_files}
 use Rattle.model_files.specs.declared.refusal.ModelRefusal.{ModelRefusal}
 use Rattle.model_files.specs.declared.refusal.ModelRefusal.TheVariants.{Missing, ReadFault, Refused, Memory}
 use Rattle.model_files.specs.Reading.{Tried, IsLastTried, Counted, StopsAs, ReadsFiles}
 use Rattle.model_laid.specs.Boxes.{settings_in}
-use Rattle.model_read.specs.Read.{ModelGives, IsReady, Reads}
+use Rattle.model_read.specs.Read.{ModelGives, IsReady, CanBeDrawn, Reads}
 use Rattle.model_read.specs.Whole.{behind_limit}
 use Rattle.model_read.proofs.Nothing.{nothing_changed}
 
@@ -41,13 +41,14 @@ on_one (Some folder) p go = go folder p
 
 -- ---- refused before any file was looked for
 
-pub refused_at_once : (definition : Files → ModelRead) (stock : List Stocked) (o : Outside) (line : ℕ) (kind : Kind)
-    → ((folder : Files) → definition folder ≡ refuses (refusal line kind)) → Reads definition stock (Err (Refused line kind)) o o
-refused_at_once definition stock o line kind is =
+pub refused_at_once : (definition : Files → ModelRead) (drawing : Option Drawing) (stock : List Stocked) (o : Outside) (line : ℕ) (kind : Kind)
+    → ((folder : Files) → definition folder ≡ refuses (refusal line kind)) → Reads definition drawing stock (Err (Refused line kind)) o o
+refused_at_once definition drawing stock o line kind is =
     record {
       found = on_any o.files (λ folder. ap (λ (r : ModelRead). r.found) (is folder));
       tried = on_any o.files (λ folder. sym (append-nil o.tried) ∙ ap (λ (r : ModelRead). o.tried ++ r.looked) (sym (is folder)));
       ready = tt;
+      drawn = tt;
       last = tt;
       counted = (refl, refl);
       misses = le_refl o.misses;
@@ -56,12 +57,14 @@ refused_at_once definition stock o line kind is =
     }
 
 -- the same reading by another definition
-pub reads_by : (a b : Files → ModelRead) (stock : List Stocked) (r : Answer) (old new : Outside) → ((folder : Files) → a folder ≡ b folder) → Reads a stock r old new → Reads b stock r old new
-reads_by a b stock r old new same h =
+pub reads_by : (a b : Files → ModelRead) (drawing : Option Drawing) (stock : List Stocked) (r : Answer) (old new : Outside) → ((folder : Files) → a folder ≡ b folder)
+    → Reads a drawing stock r old new → Reads b drawing stock r old new
+reads_by a b drawing stock r old new same h =
     record {
       found = on_one old.files h.found (λ folder g. subst (λ (d : ModelRead). ModelGives d.found stock r) (same folder) g);
       tried = on_one old.files h.tried (λ folder t. subst (λ (d : ModelRead). Tried r d.looked old.tried new.tried) (same folder) t);
       ready = h.ready;
+      drawn = h.drawn;
       last = h.last;
       counted = h.counted;
       misses = h.misses;
@@ -81,8 +84,8 @@ module _ (ss : List Section) (drawing : Option Drawing) (stock : List Stocked) w
   abbrev paths : ℕ
   paths = path_count (tree_of no_files ss)
 
-  pub too_many : 65536 < path_count (tree_of no_files ss) → (o : Outside) → Reads (behind_limit ss drawing) stock (Err (Refused 0 TooManyRoutes)) o o
-  too_many h o = refused_at_once (behind_limit ss drawing) stock o 0 TooManyRoutes (λ folder.
+  pub too_many : 65536 < path_count (tree_of no_files ss) → (o : Outside) → Reads (behind_limit ss drawing) drawing stock (Err (Refused 0 TooManyRoutes)) o o
+  too_many h o = refused_at_once (behind_limit ss drawing) drawing stock o 0 TooManyRoutes (λ folder.
       ap (λ b. unless (cond b (Some (refusal 0 TooManyRoutes)) None) (λ _. with_files ss folder drawing)) (is_past 65536 (path_count (tree_of no_files ss)) h))
 
   few_are : path_count (tree_of no_files ss) ≤ 65536 → (folder : Files) → behind_limit ss drawing folder ≡ with_files ss folder drawing
@@ -115,13 +118,14 @@ module _ (ss : List Section) (drawing : Option Drawing) (stock : List Stocked) w
   counted_as T Memory o n c = c
 
   pub files_stop : (T : Type 0) (w : ModelRefusal) (o n : Outside) → path_count (tree_of no_files ss) ≤ 65536 → ReadsFiles {T = T} (initial_files ss) (Err w) o n
-      → Reads (behind_limit ss drawing) stock (Err w) o n
+      → Reads (behind_limit ss drawing) drawing stock (Err w) o n
   files_stop T w o n few a =
-      reads_by (λ folder. with_files ss folder drawing) (behind_limit ss drawing) stock (Err w) o n (λ folder. sym (few_are few folder))
+      reads_by (λ folder. with_files ss folder drawing) (behind_limit ss drawing) drawing stock (Err w) o n (λ folder. sym (few_are few folder))
       (record {
         found = on_one o.files a.stops (λ folder s. found_as T w folder s);
         tried = on_one o.files a.tried (λ folder t. tried_as T w (looked_for folder (initial_files ss)) o.tried n.tried t);
         ready = tt;
+        drawn = tt;
         last = last_as T w n.tried a.last;
         counted = counted_as T w o n a.counted;
         misses = a.misses;
@@ -133,14 +137,15 @@ module _ (ss : List Section) (drawing : Option Drawing) (stock : List Stocked) w
 
   pub no_plane : (T : Type 0) (x : T) (o n : Outside) → path_count (tree_of no_files ss) ≤ 65536 → ReadsFiles (initial_files ss) (Ok x) o n
       → ((folder : Files) → drawing_refused drawing (tree_of folder ss) ≡ Some (refusal 0 NoSuchPlane))
-      → Reads (behind_limit ss drawing) stock (Err (Refused 0 NoSuchPlane)) o n
+      → Reads (behind_limit ss drawing) drawing stock (Err (Refused 0 NoSuchPlane)) o n
   no_plane T x o n few a off =
-      reads_by (λ folder. with_files ss folder drawing) (behind_limit ss drawing) stock (Err (Refused 0 NoSuchPlane)) o n (λ folder. sym (few_are few folder))
+      reads_by (λ folder. with_files ss folder drawing) (behind_limit ss drawing) drawing stock (Err (Refused 0 NoSuchPlane)) o n (λ folder. sym (few_are few folder))
       (record {
         found = on_one o.files a.stops (λ folder s.
             ap (λ x. after_files x drawing (tree_of folder ss)) s ∙ ap (λ r. model_unless r (tree_of folder ss)) (off folder));
         tried = a.tried;
         ready = tt;
+        drawn = tt;
         last = tt;
         counted = a.counted;
         misses = a.misses;
@@ -156,15 +161,16 @@ module _ (ss : List Section) (drawing : Option Drawing) (stock : List Stocked) w
 
   pub a_model : (T : Type 0) (x : T) (m : Model) (routes : Routes) (o n : Outside) → path_count (tree_of no_files ss) ≤ 65536 → ReadsFiles (initial_files ss) (Ok x) o n
       → ((folder : Files) → drawing_refused drawing (tree_of folder ss) ≡ None)
-      → IfSome o.files (λ folder. tree_of folder ss ≡ code.tree_of m (settings_in stock)) → IsReady stock m routes
-      → Reads (behind_limit ss drawing) stock (Ok (m, routes)) o n
-  a_model T x m routes o n few a drawn is ready =
-      reads_by (λ folder. with_files ss folder drawing) (behind_limit ss drawing) stock (Ok (m, routes)) o n (λ folder. sym (few_are few folder))
+      → IfSome o.files (λ folder. tree_of folder ss ≡ code.tree_of m (settings_in stock)) → IsReady stock m routes → CanBeDrawn drawing stock m
+      → Reads (behind_limit ss drawing) drawing stock (Ok (m, routes)) o n
+  a_model T x m routes o n few a allowed is ready can =
+      reads_by (λ folder. with_files ss folder drawing) (behind_limit ss drawing) drawing stock (Ok (m, routes)) o n (λ folder. sym (few_are few folder))
       (record {
         found = both_told o.files a.stops is (λ folder s e.
-            ap (λ x. after_files x drawing (tree_of folder ss)) s ∙ ap (λ r. model_unless r (tree_of folder ss)) (drawn folder) ∙ ap model e);
+            ap (λ x. after_files x drawing (tree_of folder ss)) s ∙ ap (λ r. model_unless r (tree_of folder ss)) (allowed folder) ∙ ap model e);
         tried = a.tried;
         ready = ready;
+        drawn = can;
         last = tt;
         counted = a.counted;
         misses = a.misses;

@@ -1,30 +1,27 @@
 -- The phases up to the limit of links, and those behind it.
-use Rattle.std.proofs.Common.{◌≡◌, ◌≤◌, Option, Some, None, List, [], ◌∷◌, ◌++◌, length, refl, sym, ap, ◌∙◌, cond, Bool, true, false, arith, tests}
+use Rattle.std.proofs.Common.{◌≡◌, ◌≤◌, Option, Some, None, List, [], ◌∷◌, ◌++◌, length, refl, ap, ◌∙◌, cond, true, false, arith, tests}
 use Rattle.std.specs.List.{AllByRecursion}
 use Rattle.std.specs.Option.{option_or}
-use Rattle.std.specs.declared.result.Result.{Result}
-use Rattle.std.specs.declared.result.Result.TheVariants.{Ok, Err}
 use Rattle.std.proofs.lemmas.Option.{none-some}
 use Rattle.quantity.specs.Bytes.{Bytes}
 use Rattle.source_text.specs.Lines.{Files}
-use Rattle.ma_lines.specs.declared.section.LineRefusal.{LineRefusal}
 use Rattle.ma_lines.specs.Sections.{Section, sections_of}
 use Rattle.atomic_face.specs.declared.class.Class.{Class}
 use Rattle.model_text.specs.declared.kind.Kind.TheVariants.{TooLong}
-use Rattle.model_text.specs.Refusals.{Refusal, refusal, refusal_of_line}
+use Rattle.model_text.specs.Refusals.{Refusal, refusal}
 use Rattle.model_text.specs.InitialFiles.{is_long}
 use Rattle.model_text.specs.Drawings.{Drawing}
-use Rattle.model_text.specs.Accepted.{phases, first_of, FirstPhaseDecides}
+use Rattle.model_text.specs.Accepted.{first_of, FirstPhaseDecides}
 use Rattle.model_text.specs.BuildLaws.{PassedLinks}
-use Rattle.model_text.specs.ModelOf.{ModelRead, refuses, unless, routes_refused, with_files, model_in, after_lines, model_of}
+use Rattle.model_text.specs.ModelOf.{refuses, unless, routes_refused, with_files, model_in, after_lines, model_of}
 use Rattle.model_read.specs.Order.{up_to_limit}
 use Rattle.model_read.specs.Whole.{behind_limit}
 
-none_first : (os ps : List (Option Refusal)) → AllByRecursion (λ o. o ≡ None) os → first_of (os ++ ps) ≡ first_of ps
+pub none_first : (os ps : List (Option Refusal)) → AllByRecursion (λ o. o ≡ None) os → first_of (os ++ ps) ≡ first_of ps
 none_first [] ps h = refl
 none_first (o ∷ os) ps h = ap (λ x. option_or x (first_of (os ++ ps))) h.0 ∙ none_first os ps h.1
 
-some_first : (os ps : List (Option Refusal)) (r : Refusal) → first_of os ≡ Some r → first_of (os ++ ps) ≡ Some r
+pub some_first : (os ps : List (Option Refusal)) (r : Refusal) → first_of os ≡ Some r → first_of (os ++ ps) ≡ Some r
 some_first [] ps r e = absurd (none-some r e)
 some_first (None ∷ os) ps r e = some_first os ps r e
 some_first (Some x ∷ os) ps r e = e

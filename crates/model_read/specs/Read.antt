@@ -40,11 +40,16 @@ ModelGives found stock (Err (why.Refused line kind)) = found ≡ refused (refusa
 ModelGives found stock (Err (why.ReadFault name)) = ⊤
 ModelGives found stock (Err why.Memory) = ⊤
 
+-- what is to be drawn of the model is there
+abbrev pub CanBeDrawn : Option D.Drawing → List Stocked → Model → Type 0
+CanBeDrawn drawing stock m = D.drawing_refused drawing (tree_of m (settings_in stock)) ≡ None
+
 -- all of this of a reading whose definition is this, where the files are told
-pub record Reads (definition : Files → ModelRead) (stock : List Stocked) (result : Result (Model × Routes) ModelRefusal) (old new : Outside) : Type 0 where
+pub record Reads (definition : Files → ModelRead) (drawing : Option D.Drawing) (stock : List Stocked) (result : Result (Model × Routes) ModelRefusal) (old new : Outside) : Type 0 where
   pub found : IfSome old.files (λ files. ModelGives (definition files).found stock result)
   pub tried : IfSome old.files (λ files. Tried result (definition files).looked old.tried new.tried)
   pub ready : IfOk result (λ read. IsReady stock read.0 read.1)
+  pub drawn : IfOk result (λ read. CanBeDrawn drawing stock read.0)
   pub last : IsLastTried result new.tried
   pub counted : Counted result old new
   pub misses : KeepsMisses old new

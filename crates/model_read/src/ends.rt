@@ -1,9 +1,14 @@
 // The phases behind the limit of links: routes, files and the drawing.
-ghost use Rattle.std.specs.Prelude.{◌≡◌, List, map};
-ghost use Rattle.std.specs.List.{All};
+ghost use Rattle.std.specs.Prelude.{◌≡◌, List, map, length};
+ghost use Rattle.std.specs.List.{All, find};
+ghost use Rattle.std.specs.Str.{bytes_eq};
 ghost use Rattle.ma_lines.specs.Laws.{IsPlainSection};
 ghost use Rattle.atomic_face.specs.StockView.{Stocked};
+ghost use Rattle.cell_grid.specs.Space.{cell_count};
+ghost use Rattle.model_tree.specs.Laid.{laid};
 ghost use Rattle.model_tree.specs.Leaves.{Settings};
+ghost use Rattle.model_tree.specs.Models.{tree_of};
+ghost use Rattle.model_text.specs.Spaces.{space_of};
 ghost use Rattle.model_text.specs.Walk as W;
 ghost use Rattle.model_spaces.specs.Placed.{values_before_files};
 ghost use Rattle.model_build.specs.Built.{Passes, IsBuilt};
@@ -11,13 +16,19 @@ ghost use Rattle.model_files.specs.Spaces as spaces;
 ghost use Rattle.model_laid.specs.Boxes.{settings_in, HasBoxes};
 ghost use Rattle.model_read.specs.Read.{drawing_of, Reads};
 ghost use Rattle.model_read.specs.Whole.{behind_limit};
-ghost use Rattle.model_read.specs.Ends.{RoutesGive};
+ghost use Rattle.model_read.specs.Ends.{can_draw, has_plane, IsBlank, RoutesGive};
 
 use crate::drawing::Drawing;
 use crate::phases::Judged;
+use cell_grid::Initial;
 use ma_lines::Sections;
-use model_files::ModelRefusal;
+use model_files::{GroupSpace, ModelRefusal, initial_values};
+use model_laid::laws::{
+    blanks_are_laid, boxes_are_standing, groups_are_alike, groups_are_met, laid_models_are_sound,
+    links_stay,
+};
 use model_text::Kind;
+use model_text::building::{files_are_laid, totals_are_within_limits};
 use model_tree::Model;
 use room_edge::Room;
 use route_flat::{RouteRefusal, Routes};
@@ -40,15 +51,33 @@ pub fn finish<R: Room>(
     requires values { judged.values.items ≡ map values_before_files (W.groups sections.now) }
     ensures { (stock : List Stocked) → IsBuilt sections.now (settings_in stock) judged.entry.top
         → HasBoxes stock judged.entry.top
-        → Reads (behind_limit sections.now (drawing_of drawing)) stock result
+        → Reads (behind_limit sections.now (drawing_of drawing)) (drawing_of drawing) stock result
         (R.outside room.old) (R.outside room.new) }
 {
-    let _alloc = alloc;
-    let _room = room;
-    let _sections = sections;
-    let _judged = judged;
-    let _drawing = drawing;
-    Err(ModelRefusal::Memory)
+    groups_are_met();
+    blanks_are_laid();
+    links_stay();
+    laid_models_are_sound();
+    boxes_are_standing();
+    totals_are_within_limits();
+    files_are_laid();
+    let Judged {
+        top,
+        groups,
+        values,
+    } = judged;
+    let mut model = Model::new(alloc, top)?;
+    let routes = routes_of(alloc, &model)?;
+    let is_there = can_draw(&drawing, &groups);
+    let values = initial_values(alloc, room, sections, &groups, values)?;
+    if !is_there {
+        return Err(ModelRefusal::Refused {
+            line: 0,
+            kind: Kind::NoSuchPlane,
+        });
+    }
+    lay_values(sections, &mut model, values);
+    Ok((model, routes))
 }
 
 /// The routes of a model, or the refusal of too many paths.
@@ -63,4 +92,43 @@ fn routes_of(alloc: Global, model: &Model) -> Result<Routes, ModelRefusal>
         }),
         Err(RouteRefusal::Memory) => Err(ModelRefusal::Memory),
     }
+}
+
+/// Whether nothing is drawn, or a plane that there is.
+fn can_draw(drawing: &Option<Drawing>, groups: &[GroupSpace<'_>]) -> bool
+    ensures { result ≡ can_draw (drawing_of drawing.now) groups.now }
+{
+    match drawing {
+        None => true,
+        Some(drawing) => has_plane(drawing, groups),
+    }
+}
+
+/// Whether a group of this name has the plane.
+fn has_plane(drawing: &Drawing, groups: &[GroupSpace<'_>]) -> bool
+    ensures { result ≡ has_plane drawing.now.plane
+        (find (λ g. bytes_eq g.section.now.name drawing.now.group) groups.now) }
+{
+    for group in groups {
+        if group.section.name.as_bytes() == drawing.group.as_bytes() {
+            return drawing.plane < group.grid.planes();
+        }
+    }
+    false
+}
+
+/// Gives the groups of a model with `?` in each cell their values.
+fn lay_values(sections: &Sections, model: &mut Model, values: Vec<Initial>)
+    requires passed { Passes sections.now }
+    requires blank { IsBlank sections.now model.old }
+    requires sizes { map (λ v. length v) values.items
+        ≡ map (λ s. cell_count (space_of s)) (W.groups sections.now) }
+    ensures { (settings : Settings)
+        → tree_of model.new settings ≡ laid values.items (tree_of model.old settings) }
+{
+    let _sections = sections;
+    groups_are_met();
+    groups_are_alike();
+    blanks_are_laid();
+    model.lay(values);
 }

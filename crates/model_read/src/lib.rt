@@ -3,11 +3,10 @@
 
 pub mod drawing;
 pub mod ends;
-pub mod made;
 pub mod phases;
 pub mod read;
+mod stages;
 
 pub use drawing::Drawing;
-pub use made::made_text;
 pub use model_files::ModelRefusal;
 pub use read::{read_model, read_model_bytes};

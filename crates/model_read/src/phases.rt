@@ -3,23 +3,30 @@ ghost use Rattle.std.specs.Prelude.{◌≡◌, ◌∷◌, ◌++◌, [], None, So
 ghost use Rattle.std.specs.List.{list_all};
 ghost use Rattle.std.specs.Option.{option_map};
 ghost use Rattle.model_text.specs.Walk as W;
+ghost use Rattle.model_text.specs.Links.{links_of};
 ghost use Rattle.model_text.specs.Accepted.{first_of};
 ghost use Rattle.model_text.specs.BuildLaws.{PassedLinks};
 ghost use Rattle.model_walk.specs.Shown.{refusal_of};
-ghost use Rattle.model_spaces.specs.Placed.{values_before_files};
-ghost use Rattle.model_stock.specs.Settled.{classes_of};
-ghost use Rattle.model_build.specs.Built.{IsBuilt};
+ghost use Rattle.model_walk.specs.Met.{IsWalk, met_of};
+ghost use Rattle.model_spaces.specs.Placed.{shown, placed_of, values_before_files};
+ghost use Rattle.model_stock.specs.Settled.{classes_of, named, named_item};
+ghost use Rattle.model_rules.specs.Sets.{sets_shown, sets_of};
+ghost use Rattle.model_tree.specs.Leaves.{Settings};
+ghost use Rattle.model_tree.specs.declared.component.Component.TheVariants.{Coupled as in_tree};
+ghost use Rattle.model_build.specs.Built.{Passes, HasSettings, IsBuilt};
 ghost use Rattle.model_files.specs.Spaces as spaces;
 ghost use Rattle.model_read.specs.Order.{up_to_limit};
-ghost use Rattle.model_laid.specs.Boxes.{settings_in, HasBoxes};
+ghost use Rattle.model_laid.specs.Boxes.{settings_in, atomics_in, HasBoxes};
 
+use crate::stages::{Parts, met_sections, read_links, read_parts};
 use atomic_face::{AtomicModel, Stock};
 use cell_grid::Initial;
 use ma_lines::Sections;
+use model_build::build;
 use model_files::GroupSpace;
 use model_spaces::PlacedGroup;
-use model_tree::Coupled;
-use model_walk::{Refused, Stop};
+use model_tree::{Coupled, Link};
+use model_walk::{Refused, Stop, Walked};
 use quantity::OutOfMemory;
 use std::alloc::Global;
 
@@ -33,7 +40,7 @@ pub struct Judged<'a> {
 }
 
 /// Goes on unless there is a refusal.
-fn unless(why: Option<Refused>) -> Result<(), Stop>
+pub(crate) fn unless(why: Option<Refused>) -> Result<(), Stop>
     ensures none { IfOk result (λ u. option_map refusal_of why ≡ None) }
     ensures some { (r : _) → result ≡ Err (Stop.Refused r)
         → option_map refusal_of why ≡ Some (refusal_of r) }
@@ -77,6 +84,46 @@ fn add_space<'a>(
     Ok(())
 }
 
+/// The component top, and beside it the groups and their values.
+fn built<'a>(
+    alloc: Global,
+    sections: &Sections,
+    walked: &Walked<'_>,
+    parts: Parts<'a>,
+    links: Vec<Vec<Link>>,
+) -> Result<Judged<'a>, OutOfMemory>
+    requires passed { Passes sections.now }
+    requires walk { IsWalk sections.now (met_of walked.now) }
+    requires groups { map shown parts.groups.items ≡ map placed_of (W.groups sections.now) }
+    requires values { parts.values.items ≡ map values_before_files (W.groups sections.now) }
+    requires rules { map sets_shown parts.rules.items
+        ≡ map (sets_of sections.now) (W.groups sections.now) }
+    requires atomics { map named parts.atomics.items ≡ map named_item (W.atomics sections.now) }
+    requires links { map (λ list. list.items) links.items ≡ map links_of (W.reached sections.now) }
+    ensures tree { IfOk result (λ r. (settings : Settings)
+        → HasSettings sections.now settings parts.entry.atomics.items
+        → IsBuilt sections.now settings r.top) }
+    ensures atomics { IfOk result (λ r. atomics_in (in_tree r.top) ≡ parts.entry.atomics.items) }
+    ensures groups { IfOk result (λ r. map spaces.shown r.groups.items
+        ≡ map spaces.said (W.groups sections.now)) }
+    ensures values { IfOk result
+        (λ r. r.values.items ≡ map values_before_files (W.groups sections.now)) }
+{
+    let Parts {
+        groups: placed,
+        values,
+        atomics,
+        rules,
+    } = parts;
+    let groups = group_spaces(alloc, &placed)?;
+    let top = build(alloc, sections, walked, placed, rules, atomics, links)?;
+    Ok(Judged {
+        top,
+        groups,
+        values,
+    })
+}
+
 /// The phases up to the limit of links. Refused is the refusal of the first that refuses; boxes of the
 /// stock may be taken then, and where there is no memory.
 pub fn judge<'a, M: AtomicModel>(
@@ -95,8 +142,9 @@ pub fn judge<'a, M: AtomicModel>(
     ensures refused { (why : _) → result ≡ Err (Stop.Refused why)
         → first_of (up_to_limit (classes_of stock.old) sections.now) ≡ Some (refusal_of why) }
 {
-    let _alloc = alloc;
-    let _sections = sections;
-    let _stock = stock;
-    Err(Stop::Memory)
+    let walked = met_sections(alloc, sections)?;
+    let parts = read_parts(alloc, sections, &walked, stock)?;
+    let links = read_links(alloc, sections, &walked, &parts.groups)?;
+    let judged = built(alloc, sections, &walked, parts, links)?;
+    Ok(judged)
 }

@@ -1,19 +1,24 @@
 // The reading of a model, phase after phase.
 ghost use Rattle.std.specs.Prelude.{◌≡◌, ◌≤◌, IfSome, IfOk, not, IsTrue, length};
-ghost use Rattle.std.specs.List.{list_all};
+ghost use Rattle.std.specs.List.{All, list_all};
+ghost use Rattle.ma_lines.specs.Laws.{IsPlainSection};
 ghost use Rattle.room_edge.specs.Outside.{OnlyInput};
 ghost use Rattle.room_edge.specs.Faults.{KeepsMisses, KeepsReadFaults};
-ghost use Rattle.model_text.specs.ModelOf.{model_of};
+ghost use Rattle.model_text.specs.ModelOf.{model_in, model_of};
 ghost use Rattle.model_stock.specs.Settled.{classes_of};
 ghost use Rattle.model_files.specs.Reading.{Tried, IsLastTried, Counted};
-ghost use Rattle.model_read.specs.Read.{drawing_of, ModelGives, IsReady, Reads};
+ghost use Rattle.model_read.specs.Read.{drawing_of, ModelGives, IsReady, CanBeDrawn, Reads};
 ghost use Rattle.model_read.specs.Whole.{found_of, looked_of, of_name, refusal_of_lines};
 
 use crate::drawing::Drawing;
+use crate::ends::finish;
+use crate::phases::judge;
 use atomic_face::{AtomicModel, Stock};
-use ma_lines::LineRefusal;
-use model_files::ModelRefusal;
+use ma_lines::laws::texts_are_plain;
+use ma_lines::{LineRefusal, Lines, Sections};
+use model_files::{ModelRefusal, read_file};
 use model_text::Kind;
+use model_text::accepted::first_phase_decides;
 use model_tree::Model;
 use room_edge::Room;
 use route_flat::Routes;
@@ -39,8 +44,9 @@ pub fn read_model_bytes<R: Room, M: AtomicModel>(
     ensures tried { IfSome (R.outside room.old).files (λ files. Tried result
         (model_of bytes.now files (classes_of stock.old) (drawing_of drawing)).looked
         (R.outside room.old).tried (R.outside room.new).tried) }
-    // Over every room: a model that can be run, and each cause where it is counted.
+    // Over every room: a model that can be run and drawn, and each cause where it is counted.
     ensures ready { IfOk result (λ read. IsReady stock.new read.0 read.1) }
+    ensures drawn { IfOk result (λ read. CanBeDrawn (drawing_of drawing) stock.new read.0) }
     ensures last { IsLastTried result (R.outside room.new).tried }
     ensures counted { Counted result (R.outside room.old) (R.outside room.new) }
     ensures misses { KeepsMisses (R.outside room.old) (R.outside room.new) }
@@ -69,8 +75,9 @@ pub fn read_model<R: Room, M: AtomicModel>(
     ensures tried { IfSome (R.outside room.old).files (λ files. Tried result
         (looked_of files name.now (classes_of stock.old) (drawing_of drawing))
         (R.outside room.old).tried (R.outside room.new).tried) }
-    // Over every room: a model that can be run, and each cause where it is counted.
+    // Over every room: a model that can be run and drawn, and each cause where it is counted.
     ensures ready { IfOk result (λ read. IsReady stock.new read.0 read.1) }
+    ensures drawn { IfOk result (λ read. CanBeDrawn (drawing_of drawing) stock.new read.0) }
     ensures last { IsLastTried result (R.outside room.new).tried }
     ensures counted { Counted result (R.outside room.old) (R.outside room.new) }
     ensures misses { KeepsMisses (R.outside room.old) (R.outside room.new) }
@@ -89,18 +96,14 @@ fn read_named<R: Room, M: AtomicModel>(
     drawing: Option<Drawing>,
 ) -> Result<(Model, Routes), ModelRefusal>
     requires { IsTrue (list_all (λ s. not s.taken) stock.old) }
-    ensures { Reads (of_name name.now (classes_of stock.old) (drawing_of drawing)) stock.new result
-        (R.outside room.old) (R.outside room.new) }
+    ensures { Reads (of_name name.now (classes_of stock.old) (drawing_of drawing))
+        (drawing_of drawing) stock.new result (R.outside room.old) (R.outside room.new) }
 {
-    let _alloc = alloc;
-    let _room = room;
-    let _name = name;
-    let _stock = stock;
-    let_go(drawing);
-    Err(ModelRefusal::Memory)
+    let bytes = read_file(alloc, room, name, 0)?;
+    read_bytes(alloc, room, &bytes, stock, drawing)
 }
 
-/// The lines, and then the phases.
+/// The lines, and then the sections.
 fn read_bytes<R: Room, M: AtomicModel>(
     alloc: Global,
     room: &mut R,
@@ -112,14 +115,34 @@ fn read_bytes<R: Room, M: AtomicModel>(
     requires free { IsTrue (list_all (λ s. not s.taken) stock.old) }
     ensures { Reads
         (λ files. model_of bytes.now files (classes_of stock.old) (drawing_of drawing))
-        stock.new result (R.outside room.old) (R.outside room.new) }
+        (drawing_of drawing) stock.new result (R.outside room.old) (R.outside room.new) }
 {
-    let _alloc = alloc;
-    let _room = room;
-    let _bytes = bytes;
-    let _stock = stock;
-    let_go(drawing);
-    Err(ModelRefusal::Memory)
+    texts_are_plain();
+    match Lines::read(alloc, bytes) {
+        Ok(sections) => read_sections(alloc, room, &sections, stock, drawing),
+        Err(why) => Err(line_refusal(why)),
+    }
+}
+
+/// The phases up to the limit of links, and then those behind it.
+fn read_sections<R: Room, M: AtomicModel>(
+    alloc: Global,
+    room: &mut R,
+    sections: &Sections,
+    stock: &mut Stock<M>,
+    drawing: Option<Drawing>,
+) -> Result<(Model, Routes), ModelRefusal>
+    requires plain { All IsPlainSection sections.now }
+    requires free { IsTrue (list_all (λ s. not s.taken) stock.old) }
+    ensures { Reads
+        (λ files. model_in sections.now files (classes_of stock.old) (drawing_of drawing))
+        (drawing_of drawing) stock.new result (R.outside room.old) (R.outside room.new) }
+{
+    first_phase_decides();
+    match judge(alloc, sections, stock) {
+        Ok(judged) => finish(alloc, room, sections, judged, drawing),
+        Err(stop) => Err(ModelRefusal::from(stop)),
+    }
 }
 
 /// What is answered to a line that is refused.
@@ -137,9 +160,4 @@ fn line_refusal(why: LineRefusal) -> ModelRefusal
         },
         LineRefusal::Memory => ModelRefusal::Memory,
     }
-}
-
-/// Nothing is drawn, since nothing is read.
-fn let_go(drawing: Option<Drawing>) {
-    let _drawing = drawing;
 }

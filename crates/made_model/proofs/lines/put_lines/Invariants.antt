@@ -1,0 +1,11 @@
+use Rattle.std.proofs.Common.{◌≡◌, ◌++◌, drop, length, take}
+use Rattle.source_text.specs.Examples.{file}
+use Rattle.made_model.specs.Texts.{texts}
+use Rattle.made_model.proofs.lines.put_lines.Given as goal
+
+-- the text so far, and the lines that are left
+abbrev pub invariant-loop-line : goal.invariant-loop-line
+invariant-loop-line l = record {
+  appended : l.into.items ++ file (texts (drop l.line-index l.lines)) ≡ l.fn.into.items ++ file (texts l.lines);
+  kept : take (length l.fn.into.items) l.into.items ≡ l.fn.into.items;
+}

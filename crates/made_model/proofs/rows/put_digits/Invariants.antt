@@ -1,0 +1,10 @@
+use Rattle.std.proofs.Common.{◌≡◌, ◌++◌, length, map, take}
+use Rattle.std.specs.List.{range_with_len}
+use Rattle.model_text.specs.Models.{made_digit}
+use Rattle.made_model.proofs.rows.put_digits.Given as goal
+
+abbrev pub invariant-loop-column : goal.invariant-loop-column
+invariant-loop-column l = record {
+  appended : l.into.items ≡ l.fn.into.items ++ map (made_digit l.row) (range_with_len 0 l.column);
+  kept : take (length l.fn.into.items) l.into.items ≡ l.fn.into.items;
+}

@@ -1,0 +1,7 @@
+-- What references to texts point to. Only private clauses use this definition.
+use Rattle.std.specs.Prelude.{List, map}
+use Rattle.std.specs.Borrow.{Bor}
+use Rattle.quantity.specs.Bytes.{Bytes}
+
+abbrev pub texts : List (Bor Bytes) → List Bytes
+texts lines = map (λ line. line.now) lines

@@ -1,0 +1,44 @@
+use Rattle.std.proofs.Common.{◌≡◌, Err, ap, rules}
+use Rattle.model_text.specs.Walk.{atomics}
+use Rattle.model_walk.specs.declared.refused.Stop.{Stop}
+use Rattle.model_walk.specs.declared.refused.Stop.TheVariants as Stops
+use Rattle.model_walk.specs.Shown.{refusal_of}
+use Rattle.model_stock.specs.Settled.{classes_of}
+use Rattle.model_laid.specs.Boxes.{settings_in}
+use Rattle.model_read.proofs.Joined.{stops_first, stops_second, stops_third}
+use Rattle.model_read.proofs.Started.{has_settings, has_boxes}
+use Rattle.model_read.proofs.phases.judge.Goals as goal
+
+pub returns-in_err-walked-clause-refused : goal.returns-in_err-walked-clause-refused
+returns-in_err-walked-clause-refused g c = λ why e.
+    let is : c.from_residual.result ≡ Err c.in_err-walked.field-0.0 = search rules in
+    let same : c.in_err-walked.field-0.0 ≡ Stops.Refused why = cc in
+    stops_first (classes_of c.args.stock.now) c.args.sections.now (refusal_of why) (c.in_err-walked.ensures.refused why (ap (λ (s : Stop). Err s) same))
+
+pub returns-in_err-parts-clause-refused : goal.returns-in_err-parts-clause-refused
+returns-in_err-parts-clause-refused g c = λ why e.
+    let is : c.from_residual-in_err-parts.result ≡ Err c.in_err-parts.field-0.0 = search rules in
+    let same : c.in_err-parts.field-0.0 ≡ Stops.Refused why = cc in
+    let w = c.in_ok-walked.ensures in
+    stops_second (classes_of c.args.stock.now) c.args.sections.now (refusal_of why) (w.walk.top, (w.walk.passes, (w.keys, (w.cells, tt)))) (c.in_err-parts.ensures.refused why (ap (λ (s : Stop). Err s) same))
+
+pub returns-in_err-links-clause-refused : goal.returns-in_err-links-clause-refused
+returns-in_err-links-clause-refused g c = λ why e.
+    let is : c.from_residual-in_err-links.result ≡ Err c.in_err-links.field-0.0 = search rules in
+    let same : c.in_err-links.field-0.0 ≡ Stops.Refused why = cc in
+    let w = c.in_ok-walked.ensures in
+    let p = c.in_ok-parts.ensures in
+    stops_third (classes_of c.args.stock.now) c.args.sections.now (refusal_of why) (w.walk.top, (w.walk.passes, (w.keys, (w.cells, tt)))) (p.spaces, (p.stock, (p.rules, tt)))
+    (c.in_err-links.ensures.refused why (ap (λ (s : Stop). Err s) same))
+
+pub returns-clause-tree : goal.returns-clause-tree
+returns-clause-tree g c =
+    let ss = c.args.sections.now in
+    let stock = c.read_parts.new.stock in
+    c.in_ok-judged.ensures.tree (settings_in stock) (has_settings ss stock c.in_ok-parts.parts.atomics.items (atomics ss) c.in_ok-parts.ensures.named c.in_ok-parts.ensures.boxes)
+
+pub returns-clause-boxes : goal.returns-clause-boxes
+returns-clause-boxes g c =
+    let ss = c.args.sections.now in
+    let stock = c.read_parts.new.stock in
+    has_boxes ss stock c.in_ok-judged.judged.top c.in_ok-parts.parts.atomics.items (atomics ss) c.in_ok-judged.ensures.atomics c.in_ok-parts.ensures.named c.in_ok-parts.ensures.boxes c.in_ok-parts.ensures.apart

@@ -1,0 +1,161 @@
+// The phases up to the limit of links, in three stages.
+ghost use Rattle.std.specs.Prelude.{◌≡◌, ◌∷◌, [], None, Some, not, IsTrue, IfOk, OnOk, map, slice_get};
+ghost use Rattle.std.specs.List.{list_all};
+ghost use Rattle.model_text.specs.Accepted.{first_of};
+ghost use Rattle.model_text.specs.Walk as W;
+ghost use Rattle.model_text.specs.Keys as K;
+ghost use Rattle.model_text.specs.Spaces as S;
+ghost use Rattle.model_text.specs.Stock.{stock_refused};
+ghost use Rattle.model_text.specs.Rules.{rules_refused};
+ghost use Rattle.model_text.specs.Links as L;
+ghost use Rattle.model_text.specs.ModelOf as O;
+ghost use Rattle.model_walk.specs.Shown.{refusal_of};
+ghost use Rattle.model_walk.specs.Met.{IsWalk, met_of};
+ghost use Rattle.model_spaces.specs.Placed.{shown, placed_of, values_before_files};
+ghost use Rattle.model_stock.specs.Settled.{classes_of, settled, named, named_item, are_apart};
+ghost use Rattle.model_rules.specs.Sets.{sets_shown, sets_of};
+
+use crate::phases::unless;
+use atomic_face::{AtomicModel, Stock};
+use cell_grid::Initial;
+use ma_lines::Sections;
+use model_keys::keys_refused;
+use model_links::{link_limit_refused, links};
+use model_rules::{GroupRules, rules};
+use model_spaces::{PlacedGroup, Spaces, cells_refused, spaces};
+use model_stock::atomics;
+use model_tree::{Atomic, Link};
+use model_walk::{Stop, Walked, walk};
+use std::alloc::Global;
+
+// ---- the walk, keys and the number of cells
+
+/// What the walk meets, where its keys are right and its cells not too many.
+pub(crate) fn met_sections<'a>(alloc: Global, sections: &'a Sections) -> Result<Walked<'a>, Stop>
+    ensures walk { IfOk result (λ w. IsWalk sections.now (met_of w)) }
+    ensures keys { OnOk result (K.keys_refused sections.now ≡ None) }
+    ensures cells { OnOk result (S.cells_refused sections.now ≡ None) }
+    ensures refused { let ss = sections.now in
+        (why : _) → result ≡ Err (Stop.Refused why) → first_of (W.top_refused ss ∷ W.tree_refused ss
+        ∷ K.keys_refused ss ∷ S.cells_refused ss ∷ []) ≡ Some (refusal_of why) }
+{
+    let walked = walk(alloc, sections)?;
+    test_keys(alloc, sections, &walked)?;
+    test_cells(alloc, sections, &walked)?;
+    Ok(walked)
+}
+
+/// Goes on unless a key is refused.
+fn test_keys(alloc: Global, sections: &Sections, walked: &Walked<'_>) -> Result<(), Stop>
+    requires { IsWalk sections.now (met_of walked.now) }
+    ensures passed { OnOk result (K.keys_refused sections.now ≡ None) }
+    ensures refused { (why : _) → result ≡ Err (Stop.Refused why)
+        → K.keys_refused sections.now ≡ Some (refusal_of why) }
+{
+    let why = keys_refused(alloc, sections, walked)?;
+    unless(why)
+}
+
+/// Goes on unless there are too many cells.
+fn test_cells(alloc: Global, sections: &Sections, walked: &Walked<'_>) -> Result<(), Stop>
+    requires walk { IsWalk sections.now (met_of walked.now) }
+    requires keys { K.keys_refused sections.now ≡ None }
+    ensures passed { OnOk result (S.cells_refused sections.now ≡ None) }
+    ensures refused { (why : _) → result ≡ Err (Stop.Refused why)
+        → S.cells_refused sections.now ≡ Some (refusal_of why) }
+{
+    let why = cells_refused(alloc, sections, walked)?;
+    unless(why)
+}
+
+// ---- spaces, the stock and rules
+
+/// What the sections of groups and of atomic components give.
+#[derive(Drop)]
+pub(crate) struct Parts<'a> {
+    pub(crate) groups: Vec<PlacedGroup<'a>>,
+    pub(crate) values: Vec<Initial>,
+    pub(crate) atomics: Vec<Atomic>,
+    pub(crate) rules: Vec<GroupRules>,
+}
+
+/// Reads spaces, takes the boxes of atomic components, and reads rules. Where a phase refuses, or there
+/// is no memory, boxes may be taken.
+pub(crate) fn read_parts<'a, M: AtomicModel>(
+    alloc: Global,
+    sections: &'a Sections,
+    walked: &Walked<'a>,
+    stock: &mut Stock<M>,
+) -> Result<Parts<'a>, Stop>
+    requires walk { IsWalk sections.now (met_of walked.now) }
+    requires keys { K.keys_refused sections.now ≡ None }
+    requires cells { S.cells_refused sections.now ≡ None }
+    requires free { IsTrue (list_all (λ s. not s.taken) stock.old) }
+
+    // None of these phases refuses, or the first of them that does.
+    ensures spaces { OnOk result (S.spaces_refused sections.now ≡ None) }
+    ensures stock { OnOk result (stock_refused (classes_of stock.old) sections.now ≡ None) }
+    ensures rules { OnOk result (rules_refused sections.now ≡ None) }
+    ensures refused { let ss = sections.now in
+        (why : _) → result ≡ Err (Stop.Refused why) → first_of (S.spaces_refused ss
+        ∷ stock_refused (classes_of stock.old) ss ∷ rules_refused ss ∷ []) ≡ Some (refusal_of why) }
+
+    ensures groups { IfOk result (λ p. map shown p.groups.items
+        ≡ map placed_of (W.groups sections.now)) }
+    ensures values { IfOk result (λ p. p.values.items
+        ≡ map values_before_files (W.groups sections.now)) }
+    ensures sets { IfOk result (λ p. map sets_shown p.rules.items
+        ≡ map (sets_of sections.now) (W.groups sections.now)) }
+    ensures named { IfOk result (λ p. map named p.atomics.items
+        ≡ map named_item (W.atomics sections.now)) }
+    ensures boxes { IfOk result (λ p. map (λ a. slice_get stock.new a.at.0) p.atomics.items
+        ≡ map (settled sections.now) (W.atomics sections.now)) }
+    ensures apart { IfOk result (λ p. IsTrue (are_apart (map (λ a. a.at.0) p.atomics.items))) }
+{
+    let Spaces { groups, values } = spaces(alloc, sections, walked)?;
+    let atomics = atomics(alloc, sections, walked, stock)?;
+    let rules = rules(alloc, sections, &groups)?;
+    Ok(Parts {
+        groups,
+        values,
+        atomics,
+        rules,
+    })
+}
+
+// ---- links and their limit
+
+/// The links of each section that the walk met, where they are not too many.
+pub(crate) fn read_links(
+    alloc: Global,
+    sections: &Sections,
+    walked: &Walked<'_>,
+    groups: &[PlacedGroup<'_>],
+) -> Result<Vec<Vec<Link>>, Stop>
+    requires walk { IsWalk sections.now (met_of walked.now) }
+    requires keys { K.keys_refused sections.now ≡ None }
+    requires spaces { S.spaces_refused sections.now ≡ None }
+    requires groups { map shown groups.now ≡ map placed_of (W.groups sections.now) }
+    ensures right { OnOk result (L.links_refused sections.now ≡ None) }
+    ensures few { OnOk result (O.link_limit_refused sections.now ≡ None) }
+    ensures links { IfOk result
+        (λ links. map (λ list. list.items) links.items ≡ map L.links_of (W.reached sections.now)) }
+    ensures refused { let ss = sections.now in
+        (why : _) → result ≡ Err (Stop.Refused why)
+        → first_of (L.links_refused ss ∷ O.link_limit_refused ss ∷ []) ≡ Some (refusal_of why) }
+{
+    let links = links(alloc, sections, walked, groups)?;
+    test_link_limit(alloc, sections, walked)?;
+    Ok(links)
+}
+
+/// Goes on unless links, or ports of top, are too many.
+fn test_link_limit(alloc: Global, sections: &Sections, walked: &Walked<'_>) -> Result<(), Stop>
+    requires { IsWalk sections.now (met_of walked.now) }
+    ensures passed { OnOk result (O.link_limit_refused sections.now ≡ None) }
+    ensures refused { (why : _) → result ≡ Err (Stop.Refused why)
+        → O.link_limit_refused sections.now ≡ Some (refusal_of why) }
+{
+    let why = link_limit_refused(alloc, sections, walked)?;
+    unless(why)
+}
