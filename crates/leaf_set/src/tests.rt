@@ -1,7 +1,7 @@
 // Each set once.
 ghost use Rattle.std.specs.Prelude.{◌≡◌, length};
 
-use crate::{FlagSet, LeafSet};
+use crate::{BitSet, FlagSet, LeafSet};
 use std::alloc::Global;
 use std::process::Abort;
 use std::test::Fail;
@@ -22,8 +22,36 @@ fn members_rise<S: LeafSet>(rt: &impl Abort, alloc: Global, set: &mut S) -> Resu
     Ok(())
 }
 
+fn far_members_rise<S: LeafSet>(rt: &impl Abort, alloc: Global, set: &mut S) -> Result<(), Fail>
+    requires { length (S.members set.old) ≡ 5000 }
+{
+    set.insert(4999);
+    set.insert(4096);
+    set.insert(4095);
+    let mut taken = Vec::with_capacity(alloc, 5000)?;
+    set.take_all(&mut taken);
+    assert_eq!(rt; taken.as_slice(), [4095, 4096, 4999].as_slice());
+    taken.clear();
+    set.insert(4999);
+    set.take_all(&mut taken);
+    assert_eq!(rt; taken.as_slice(), [4999].as_slice());
+    Ok(())
+}
+
 #[test]
 fn flags_are_taken(rt: HostRuntime) -> Result<(), Fail> {
     let mut set = FlagSet::with_leaves(rt.alloc(), 70)?;
     members_rise(&rt, rt.alloc(), &mut set)
+}
+
+#[test]
+fn bits_are_taken(rt: HostRuntime) -> Result<(), Fail> {
+    let mut set = BitSet::with_leaves(rt.alloc(), 70)?;
+    members_rise(&rt, rt.alloc(), &mut set)
+}
+
+#[test]
+fn far_bits_are_taken(rt: HostRuntime) -> Result<(), Fail> {
+    let mut set = BitSet::with_leaves(rt.alloc(), 5000)?;
+    far_members_rise(&rt, rt.alloc(), &mut set)
 }
