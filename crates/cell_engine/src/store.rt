@@ -90,6 +90,14 @@ impl CellStore {
         self.table.tell(i)
     }
 
+    /// The next time of a cell. It takes no memory and counts no visit.
+    pub fn next(&self, i: u32) -> Option<Time>
+        requires { i < length self.now.cells }
+        ensures { result ≡ cell_next (cell_at self.now.cells i) }
+    {
+        self.table.next_of(i)
+    }
+
     /// The value of a variable of a cell. It takes no memory.
     pub fn variable<L: Ledger>(&self, i: u32, k: u8, steps: &mut Steps<L>) -> Value
         requires cell { i < length self.now.cells }

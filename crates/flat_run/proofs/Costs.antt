@@ -1,12 +1,12 @@
 -- What a cycle costs, by its values and its touched leaves.
-use Rattle.std.proofs.Common.{◌≡◌, ℕ, suc, ◌+◌, ◌*◌, ◌≤◌, Bool, true, false, cond, Option, Some, None, List, [], ◌∷◌, length, refl, sym, ◌∙◌, ap, arith}
+use Rattle.std.proofs.Common.{◌≡◌, ℕ, suc, ◌+◌, Bool, true, false, cond, Some, None, List, [], ◌∷◌, length, refl, arith}
 use Rattle.std.specs.Prelude.{not}
 use Rattle.std.specs.List.{filter}
-use Rattle.model_tree.specs.Tree.{Tree, Group, groups}
+use Rattle.model_tree.specs.Tree.{Tree}
 use Rattle.run_model.specs.Run.{PortRecord, RunState, is_of_out, next_instant}
-use Rattle.run_model.specs.Visits.{cost, cycle_visits, stopping_visits, most_offsets}
+use Rattle.run_model.specs.Visits.{cost, cycle_visits}
 use Rattle.run_model.specs.Fitting.{FitsTree}
-use Rattle.sparse_cycle.specs.Sparse.{Parts, parts_of, first_stop_among, moved_among, cycle_of_parts}
+use Rattle.sparse_cycle.specs.Sparse.{parts_of, first_stop_among, cycle_of_parts}
 use Rattle.sparse_cycle.specs.Walk.{EachMoves}
 
 parted-step : (b : Bool) (r : PortRecord) (xs ys : List PortRecord) (n : ℕ) → length xs + length ys ≡ n → length (cond b (r ∷ xs) xs) + length (cond (not b) (r ∷ ys) ys) ≡ suc n

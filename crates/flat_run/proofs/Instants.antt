@@ -1,5 +1,5 @@
 -- The next instant of a run, and what comes at it.
-use Rattle.std.proofs.Common.{◌≡◌, ℕ, zero, suc, ◌+◌, ◌≤◌, ◌<◌, min, Bool, true, false, cond, Option, Some, None, List, [], ◌∷◌, refl, sym, ◌∙◌, ap, subst, arith}
+use Rattle.std.proofs.Common.{◌≡◌, ℕ, zero, suc, ◌≤◌, ◌<◌, min, Bool, true, false, Option, Some, None, List, [], ◌∷◌, refl, sym, ◌∙◌, ap, subst, arith}
 use Rattle.std.specs.Prelude.{nat_lt, nat_le, if◌then◌else◌, IfSome}
 use Rattle.std.specs.List.{All, filter}
 use Rattle.std.proofs.lemmas.List.Elements.{All-filter}
@@ -8,7 +8,7 @@ use Rattle.event_list.specs.Shown.{first_time}
 use Rattle.model_tree.specs.Tree.{Tree}
 use Rattle.run_model.specs.CellStep.{least}
 use Rattle.run_model.specs.Cycle.{next_of_all}
-use Rattle.run_model.specs.Run.{RunState, Next, ended, done, too_many, first_event, next_instant, next_at, next_cycle, cycled_at, cycles_at}
+use Rattle.run_model.specs.Run.{RunState, ended, done, too_many, first_event, next_instant, next_at, next_cycle, cycled_at, cycles_at}
 use Rattle.run_model.specs.Fitting.{FitsTree}
 use Rattle.sparse_cycle.specs.Laws.{NextIsSparse}
 use Rattle.sparse_cycle.specs.Sparse.{parts_of, next_of_parts, sparse_at, sparse_next}

@@ -1,3 +1,7 @@
 pub mod Instants
 pub mod Costs
 pub mod Ran
+pub mod Turning
+pub mod Begun
+pub mod Starts
+pub mod Putting

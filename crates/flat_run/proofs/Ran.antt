@@ -1,62 +1,59 @@
 -- How a cycle ends, from the walk of its touched leaves.
-use Rattle.std.proofs.Common.{◌≡◌, ℕ, ◌+◌, ◌*◌, ◌≤◌, Bool, not, Option, Some, None, List, [], ◌∷◌, ◌++◌, map, length, Ok, Err, refl, sym, ◌∙◌, ap, subst, arith}
-use Rattle.std.specs.Prelude.{slice_get, OnOk}
-use Rattle.std.specs.List.{All, filter, sum_by}
+use Rattle.std.proofs.Common.{◌≡◌, ℕ, ◌*◌, ◌≤◌, Option, Some, None, List, length, Ok, Err, refl, sym, ◌∙◌, ap, subst, arith}
+use Rattle.std.specs.Prelude.{OnOk}
+use Rattle.std.specs.List.{sum_by}
 use Rattle.std.specs.declared.result.Result.{Result}
-use Rattle.std.proofs.lemmas.List.{length-map}
 use Rattle.std.proofs.lemmas.List.Sums.{sum_by-le}
 use Rattle.std.proofs.lemmas.Slice.Zip.{AllZip-long}
 use Rattle.rule_tree.specs.declared.outcome.RuleStop.{RuleStop}
 use Rattle.event_list.specs.Events.{Event}
 use Rattle.model_tree.specs.Tree.{Tree, leaves, leaf_count}
 use Rattle.model_tree.proofs.Read.{leaves-length}
-use Rattle.run_model.specs.Cycle.{LeafState, Moved}
-use Rattle.run_model.specs.Run.{StateRecord, RunState, next_instant}
+use Rattle.run_model.specs.Cycle.{LeafState}
+use Rattle.run_model.specs.Run.{RunState, next_instant}
 use Rattle.run_model.specs.Fitting.{Fits, FitsTree}
 use Rattle.record_text.specs.declared.records.Records.{Records}
-use Rattle.record_text.specs.declared.records.SRecord.{SRecord}
-use Rattle.record_text.specs.Held.{s_at, Holds}
 use Rattle.time_queue.specs.Waiting.{without}
-use Rattle.sparse_cycle.specs.Sparse.{Parts, parts_of, first_stop_among, moved_among, after_among, cycle_of_parts}
+use Rattle.sparse_cycle.specs.Sparse.{Parts, parts_of, first_stop_among, moved_among, after_among}
 use Rattle.sparse_cycle.specs.Walk.{Stand, Walked, walk, waits, at_once, WalkIsAtOnce}
 use Rattle.cycle_steps.specs.declared.halt.Halt.{Halt}
 use Rattle.cycle_steps.specs.declared.halt.Halt.TheVariants.{Stopped, Memory}
 use Rattle.cycle_steps.specs.Moving.{stand_of, WalksTo}
 use Rattle.cycle_steps.specs.Whole.{HasRecords, CyclesTo}
-use Rattle.flat_run.specs.Running.{later, RanTo, Runs}
+use Rattle.flat_run.specs.Running.{later, Runs}
 
 -- a state for each leaf
 pub leaves-counted : (tree : Tree) (states : List LeafState) → FitsTree tree states → length states ≡ leaf_count tree
 leaves-counted tree states fits = AllZip-long Fits (leaves tree) states fits ∙ leaves-length tree 0
 
 -- what a walk at once comes to
-ends : (U : Type 0) (t : ℕ) (s : RunState) (p : Parts) (o : Option (ℕ × RuleStop)) (is : first_stop_among p.move p.touched ≡ o) (states : List LeafState) (left : List (Option ℕ)) (events : List Event) (records : Records) (r : Result U Halt)
-    → events ≡ later t s.events → OnOk r (HasRecords p t records)
-    → WalksTo t (at_once o (after_among p.move p.touched p.emitted) (moved_among p.move p.touched)) states left records.s.items r
-    → Runs t s p states left events records r
-ends U t s p None is states left events records (Ok u) later_is has h =
-    let stands : stand_of (after_among p.move p.touched p.emitted) (waits (after_among p.move p.touched p.emitted)) ≡ stand_of states left = h.0 in
+ends : (U : Type 0) (t : ℕ) (p : Parts) (was : List Event) (o : Option (ℕ × RuleStop)) (is : first_stop_among p.move p.touched ≡ o) (states : List LeafState) (waiting : List (Option ℕ)) (left : List Event) (records : Records) (r : Result U Halt)
+    → left ≡ later t was → OnOk r (HasRecords p t records)
+    → WalksTo t (at_once o (after_among p.move p.touched p.emitted) (moved_among p.move p.touched)) states waiting records.s.items r
+    → Runs t p was states waiting left records r
+ends U t p was None is states waiting left records (Ok u) later_is has h =
+    let stands : stand_of (after_among p.move p.touched p.emitted) (waits (after_among p.move p.touched p.emitted)) ≡ stand_of states waiting = h.0 in
     let states_is : states ≡ after_among p.move p.touched p.emitted = sym (ap (λ (x : Stand). x.leaf_states) stands) in
     record {
       none = is;
       states_are = states_is;
       waiting_are = sym (ap (λ (x : Stand). x.waiting) stands) ∙ ap waits (sym states_is);
-      events_are = later_is;
+      left_are = later_is;
       records_are = record { y = has.y_is; n = has.n_is; x = has.x_is; s = h.1; out = has.out_is };
     }
-ends U t s p (Some q) is states left events records (Ok u) later_is has h = absurd h
-ends U t s p None is states left events records (Err (Stopped l why)) later_is has h = absurd h
-ends U t s p (Some q) is states left events records (Err (Stopped l why)) later_is has h = is ∙ (λ i. Some (sym h.0 i, sym h.1 i))
-ends U t s p o is states left events records (Err Memory) later_is has h = tt
+ends U t p was (Some q) is states waiting left records (Ok u) later_is has h = absurd h
+ends U t p was None is states waiting left records (Err (Stopped l why)) later_is has h = absurd h
+ends U t p was (Some q) is states waiting left records (Err (Stopped l why)) later_is has h = is ∙ (λ i. Some (sym h.0 i, sym h.1 i))
+ends U t p was o is states waiting left records (Err Memory) later_is has h = tt
 
 -- a cycle ends as its parts do
-pub runs-by-walk : (U : Type 0) → WalkIsAtOnce → (tree : Tree) (t : ℕ) (s : RunState) (states : List LeafState) (waiting left : List (Option ℕ)) (events : List Event) (records : Records) (r : Result U Halt)
-    → next_instant s ≡ Some t → waiting ≡ without t (waits s.leaf_states) → events ≡ later t s.events
-    → CyclesTo tree t (parts_of tree t s) waiting states left records r → Runs t s (parts_of tree t s) states left events records r
-runs-by-walk U once tree t s states waiting left events records r next taken later_is made =
+pub runs-by-walk : (U : Type 0) → WalkIsAtOnce → (tree : Tree) (t : ℕ) (s : RunState) (states : List LeafState) (waiting after : List (Option ℕ)) (left : List Event) (records : Records) (r : Result U Halt)
+    → next_instant s ≡ Some t → waiting ≡ without t (waits s.leaf_states) → left ≡ later t s.events
+    → CyclesTo tree t (parts_of tree t s) waiting states after records r → Runs t (parts_of tree t s) s.events states after left records r
+runs-by-walk U once tree t s states waiting after left records r next taken later_is made =
     let p = parts_of tree t s in
-    ends U t s p (first_stop_among p.move p.touched) refl states left events records r later_is made.records_are
-    (subst (λ (w : Walked). WalksTo t w states left records.s.items r)
+    ends U t p s.events (first_stop_among p.move p.touched) refl states after left records r later_is made.records_are
+    (subst (λ (w : Walked). WalksTo t w states after records.s.items r)
     (ap (λ ws. walk tree t p.given p.fed p.touched (stand_of p.emitted ws)) taken ∙ once tree t s next) made.walks)
 
 -- so many leaves move, each with so many visits at most

@@ -1,9 +1,9 @@
 -- What a call of a run does: the next cycle of the reference run with its records, or its verdict.
-use Rattle.std.specs.Prelude.{◌≡◌, ℕ, Option, Some, None, ⊤}
+use Rattle.std.specs.Prelude.{◌≡◌, ℕ, Option, Some, None}
 use Rattle.std.specs.declared.result.Result.{Result}
 use Rattle.std.specs.declared.result.Result.TheVariants.{Ok, Err}
 use Rattle.rule_tree.specs.declared.outcome.RuleStop.TheVariants as rules
-use Rattle.run_model.specs.Run.{Cycle, RunState, Next, ended, cycled, done, too_many, stop}
+use Rattle.run_model.specs.Run.{Cycle, Next, ended, cycled, done, too_many, stop}
 use Rattle.run_model.specs.Visits.{cycle_visits, stopping_visits}
 use Rattle.record_text.specs.declared.records.Records.{Records}
 use Rattle.record_text.specs.Held.{Holds, AreEmpty}

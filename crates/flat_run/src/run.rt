@@ -5,22 +5,25 @@ ghost use Rattle.atomic_face.specs.Held.{Held};
 ghost use Rattle.atomic_face.specs.Moves.{RestoreGives};
 ghost use Rattle.event_list.specs.Events.{Event as AnyEvent};
 ghost use Rattle.run_model.specs.CellStep.{least};
-ghost use Rattle.run_model.specs.Run.{start, next_instant};
+ghost use Rattle.run_model.specs.Run.{start, next_instant, cycles_at};
 ghost use Rattle.run_model.specs.Cycle.{cell_state, leaf_next, box_state};
 ghost use Rattle.record_text.specs.Held.{AreEmpty};
 ghost use Rattle.sparse_cycle.specs.Sparse.{leaf_of};
 ghost use Rattle.cell_table.specs.Saved.{cell_of_saved};
 ghost use Rattle.run_leaves.specs.Seated.{is_box, settings_in};
 ghost use Rattle.flat_run.specs.Standing.{tree_in, next_of};
-ghost use Rattle.flat_run.specs.Steps.{Goes, visits_of};
+ghost use Rattle.flat_run.specs.Steps.{Steps as StepsTo, Goes, visits_of};
 ghost use Rattle.flat_run.specs.Changes.{StartsFrom, CanPut, with_leaf_state, with_events, is_cell, words_of};
 
+use crate::cycle::{cycles_had, run_cycle, stop_of};
+use crate::put::{least_time, set_next};
+use crate::start::{routes_are_ready, wait_all};
 use crate::{Progress, Stop};
 use atomic_face::{AtomicModel, RestoreRefusal, Stock};
 use cell_engine::{CellState, Steps};
 use cycle_steps::room::Room;
 use event_list::Events;
-use leaf_set::FlagSet;
+use leaf_set::BitSet;
 use model_tree::Model as Tree;
 use quantity::{OutOfMemory, Time, Value};
 use record_text::Records;
@@ -45,8 +48,8 @@ pub struct FlatRun<Q: TimeQueue, M: AtomicModel> {
     count: u32,
     stopped: Option<Stop>,
     // Room that each cycle uses again.
-    woken: FlagSet,
-    touched: FlagSet,
+    woken: BitSet,
+    touched: BitSet,
     due: Vec<u32>,
     moving: Vec<u32>,
     inputs: Vec<(u16, Value)>,
@@ -78,7 +81,6 @@ impl<Q: TimeQueue, M: AtomicModel> Model for FlatRun<Q, M> {
 
 impl<Q: TimeQueue, M: AtomicModel> FlatRun<Q, M> {
     /// A run of a model before its first cycle, up to `end` and with at most `limit` cycles at one instant.
-    // Not built yet: it answers want of memory.
     pub fn new(
         alloc: Global,
         model: Tree,
@@ -99,13 +101,35 @@ impl<Q: TimeQueue, M: AtomicModel> FlatRun<Q, M> {
         ensures limit { IfOk result (λ r. r.limit ≡ limit) }
         ensures goes { IfOk result (λ r. r.stopped ≡ None) }
     {
-        let _ = (alloc, model, routes, stock, events, queue, end, limit);
-        Err(OutOfMemory)
+        routes_are_ready();
+        run_model::laws::records_name_what_there_is();
+        let number = model.leaves();
+        let watchers = Watchers::new(alloc, &model)?;
+        let leaves = FlatLeaves::new(alloc, model, stock)?;
+        let mut queue = queue;
+        wait_all(&leaves, &mut queue);
+        Ok(FlatRun {
+            woken: BitSet::with_leaves(alloc, number)?,
+            touched: BitSet::with_leaves(alloc, number)?,
+            due: Vec::with_capacity(alloc, number as usize)?,
+            moving: Vec::with_capacity(alloc, number as usize)?,
+            inputs: Vec::new(alloc),
+            room: Room::none(alloc),
+            leaves,
+            watchers,
+            routes,
+            events,
+            queue,
+            end,
+            limit,
+            last: None,
+            count: 0,
+            stopped: None,
+        })
     }
 
     /// Runs the next cycle, whose records are then those in `records`, or says how the run ended; then there are none. After
     /// a stop the same stop is answered for ever, and after Done, Done.
-    // Not built yet: it stops for want of memory.
     pub fn cycle<L: Ledger>(
         &mut self,
         records: &mut Records,
@@ -118,8 +142,68 @@ impl<Q: TimeQueue, M: AtomicModel> FlatRun<Q, M> {
         if let Some(stop) = self.stopped {
             return Err(stop);
         }
-        self.stopped = Some(Stop::Memory);
-        Err(Stop::Memory)
+        let Some(t) = self.next_time() else {
+            return Ok(Progress::Done);
+        };
+        if self.end.ms() < t.ms() {
+            return Ok(Progress::Done);
+        }
+        let had = cycles_had(self.last, self.count, t);
+        if self.limit <= had {
+            self.stopped = Some(Stop::TooManyCycles(t));
+            return Err(Stop::TooManyCycles(t));
+        }
+        self.cycle_at(t, had, records, steps)
+    }
+
+    /// Runs the cycle at the next instant, which has had so many cycles.
+    fn cycle_at<L: Ledger>(
+        &mut self,
+        t: Time,
+        had: u32,
+        records: &mut Records,
+        steps: &mut Steps<L>,
+    ) -> Result<Progress, Stop>
+        requires goes { self.old.stopped ≡ None }
+        requires instant { next_instant self.old.state ≡ Some t }
+        requires within { t ≤ self.old.end }
+        requires had { had ≡ cycles_at t self.old.state }
+        requires few { had < self.old.limit }
+        requires records { AreEmpty records.old }
+        ensures steps { StepsTo self.old result self.new records.new }
+        ensures visits { steps.new ≤ steps.old + visits_of self.old (next_of self.old) }
+    {
+        sparse_cycle::laws::a_cycle_is_what_its_leaves_make_of_it();
+        sparse_cycle::laws::a_stopping_cycle_costs_its_parts();
+        sparse_cycle::laws::leaves_move_one_after_another();
+        let result = run_cycle(
+            &mut self.leaves,
+            &self.watchers,
+            &self.routes,
+            &mut self.events,
+            &mut self.queue,
+            &mut self.woken,
+            &mut self.touched,
+            &mut self.due,
+            &mut self.moving,
+            &mut self.inputs,
+            &mut self.room,
+            t,
+            records,
+            steps,
+        );
+        match result {
+            Ok(()) => {
+                self.last = Some(t);
+                self.count = had + 1;
+                Ok(Progress::Cycled(t))
+            }
+            Err(halt) => {
+                clear(records);
+                self.stopped = Some(stop_of(&halt, t));
+                Err(stop_of(&halt, t))
+            }
+        }
     }
 
     /// The instant of the next cycle, None where nothing waits.
@@ -138,8 +222,7 @@ impl<Q: TimeQueue, M: AtomicModel> FlatRun<Q, M> {
         self.leaves.model()
     }
 
-    /// The state of a cell.
-    // Not built yet: it answers want of memory.
+    /// The state of a cell. It takes one visit.
     pub fn cell_state<L: Ledger>(
         &self,
         leaf: u32,
@@ -151,20 +234,18 @@ impl<Q: TimeQueue, M: AtomicModel> FlatRun<Q, M> {
         ensures state { IfOk result (λ c. leaf_of self.now.state.leaf_states leaf ≡ cell_state (cell_of_saved c)) }
         ensures steps { steps.new ≡ steps.old + 1 }
     {
-        let _ = leaf;
-        steps.tick();
-        Err(OutOfMemory)
+        self.leaves.save_cell(*self.due.allocator(), leaf, steps)
     }
 
     /// The numbers of the state of a leaf's box.
-    // Not built yet: it answers want of memory.
     pub fn box_state(&self, leaf: u32) -> Result<Vec<i64>, OutOfMemory>
         requires goes { self.now.stopped ≡ None }
         requires leaf { IsTrue (is_box (leaf_of self.now.state.leaf_states leaf)) }
         ensures state { IfOk result (λ words. words.items ≡ words_of (leaf_of self.now.state.leaf_states leaf)) }
     {
-        let _ = leaf;
-        Err(OutOfMemory)
+        let mut words = Vec::new(*self.due.allocator());
+        self.leaves.save_box(leaf, &mut words)?;
+        Ok(words)
     }
 
     /// The next time of a leaf's box. It takes no memory.
@@ -177,26 +258,29 @@ impl<Q: TimeQueue, M: AtomicModel> FlatRun<Q, M> {
     }
 
     /// The cell has this state, before the first cycle. Without memory nothing changes.
-    // Not built yet: it answers want of memory.
     pub fn put_cell(&mut self, leaf: u32, state: &CellState) -> Result<(), OutOfMemory>
         requires fresh { (self.old.state.last ≡ None) × (self.old.stopped ≡ None) }
         requires state { CanPut (tree_in self.old) leaf (cell_of_saved state.now) }
         ensures ok { OnOk result (self.new ≡ with_leaf_state self.old leaf (cell_state (cell_of_saved state.now))) }
         ensures err { OnErr result (self.new ≡ self.old) }
     {
-        Err(OutOfMemory)
+        self.leaves.put_cell(leaf, state)?;
+        set_next(&mut self.queue, leaf, least_time(&state.ports));
+        Ok(())
     }
 
     /// The leaf's box has the state of these numbers, before the first cycle. BadState exactly where they are none of its
     /// class with its settings; a refusal changes nothing.
-    // Not built yet: it answers want of memory.
     pub fn put_box(&mut self, leaf: u32, words: &[i64]) -> Result<(), RestoreRefusal>
         requires fresh { (self.old.state.last ≡ None) × (self.old.stopped ≡ None) }
         requires leaf { IsTrue (is_box (leaf_of self.old.state.leaf_states leaf)) }
         ensures { (b : Held) → leaf_of self.old.state.leaf_states leaf ≡ box_state b
             → (c : Held) × RestoreGives words.now b c result × (self.new ≡ with_leaf_state self.old leaf (box_state c)) }
     {
-        Err(RestoreRefusal::Memory)
+        let alloc = *self.due.allocator();
+        self.leaves.put_box(alloc, leaf, words)?;
+        set_next(&mut self.queue, leaf, self.leaves.box_next(leaf));
+        Ok(())
     }
 
     /// Drops the events up to this time, before the first cycle. It takes no memory.
@@ -209,7 +293,7 @@ impl<Q: TimeQueue, M: AtomicModel> FlatRun<Q, M> {
 }
 
 /// The earlier of two times, and the one that there is.
-fn earlier(a: Option<Time>, b: Option<Time>) -> Option<Time>
+pub(crate) fn earlier(a: Option<Time>, b: Option<Time>) -> Option<Time>
     ensures { result ≡ least a b }
 {
     match (a, b) {

@@ -1,21 +1,20 @@
 -- What all leaves become where one cell gives or moves.
-use Rattle.std.proofs.Common.{◌≡◌, ℕ, ◌<◌, ◌≤◌, Option, Some, List, [], ◌∷◌, map, length, refl, sym, ◌∙◌, ap, subst, arith}
-use Rattle.std.specs.Prelude.{slice_get, slice_set, ℤ}
-use Rattle.std.proofs.lemmas.List.{length-map, length-set}
+use Rattle.std.proofs.Common.{◌≡◌, ℕ, Some, List, length, sym, ◌∙◌, ap}
+use Rattle.std.specs.Prelude.{slice_get, slice_set}
+use Rattle.std.proofs.lemmas.List.{length-map}
 use Rattle.atomic_face.specs.StockView.{Stocked}
 use Rattle.model_tree.specs.declared.table.Model.{Model}
 use Rattle.model_tree.specs.declared.leaves.LeafAt.{LeafAt}
-use Rattle.model_tree.specs.declared.leaves.LeafAt.TheVariants.{Atomic, Cell}
+use Rattle.model_tree.specs.declared.leaves.LeafAt.TheVariants.{Cell}
 use Rattle.model_tree.specs.Tree.{Tree}
-use Rattle.run_model.specs.CellStep.{CellState, cell_emitted}
-use Rattle.run_model.specs.Cycle.{LeafState, cell_state, leaf_emitted}
-use Rattle.cell_engine.specs.Cells.{Cells, with_cell}
+use Rattle.run_model.specs.CellStep.{CellState}
+use Rattle.run_model.specs.Cycle.{cell_state}
+use Rattle.cell_engine.specs.Cells.{Cells}
 use Rattle.cell_table.specs.Told.{cell_at}
-use Rattle.sparse_cycle.specs.Sparse.{leaf_of}
 use Rattle.run_leaves.specs.Seated.{Seated, states_in, settings_in, layouts_in, sizes_in, Places, HavePorts, HasPort}
 use Rattle.run_leaves.specs.Moving.{with_state, StaysAs}
 use Rattle.run_leaves.proofs.Places.{map-kept}
-use Rattle.run_leaves.proofs.Inside.{cell-inside, cell-is, places-kept, ports-in, port-of, ports-kept}
+use Rattle.run_leaves.proofs.Inside.{cell-inside, places-kept, ports-in, port-of, ports-kept}
 use Rattle.run_leaves.proofs.Moved.{cell-changed}
 
 -- the leaves as they are seen

@@ -1,8 +1,8 @@
 -- What the places of leaves say of boxes and cells.
-use Rattle.std.proofs.Common.{◌≡◌, ℕ, zero, suc, true, ◌+◌, ◌<◌, ◌≤◌, Option, Some, None, List, [], ◌∷◌, map, length, refl, sym, ◌∙◌, ap, subst, arith}
-use Rattle.std.specs.Prelude.{slice_get, slice_set, slice_index_or, ℤ}
+use Rattle.std.proofs.Common.{◌≡◌, ℕ, zero, suc, true, ◌<◌, Some, List, [], ◌∷◌, map, length, sym, ◌∙◌, ap, subst, arith}
+use Rattle.std.specs.Prelude.{slice_get, slice_set}
 use Rattle.std.specs.List.{All}
-use Rattle.std.proofs.lemmas.List.{length-map, length-set}
+use Rattle.std.proofs.lemmas.List.{length-map}
 use Rattle.std.proofs.lemmas.List.Elements.{All-set}
 use Rattle.cell_grid.specs.Space.{cell_count}
 use Rattle.atomic_face.specs.declared.stock.BoxNo.{BoxNo}
@@ -17,7 +17,7 @@ use Rattle.cell_table.specs.Told.{no_cell, cell_at}
 use Rattle.cell_engine.specs.Layout.{Layout}
 use Rattle.sparse_cycle.specs.Sparse.{leaf_of, no_leaf}
 use Rattle.run_leaves.specs.Seated.{is_box, box_there, cell_there, state_there, states_in, settings_in, layouts_in, sizes_in, Places, HasPort, HavePorts}
-use Rattle.run_leaves.proofs.Places.{get-map, get-within, within-get, index-get, map-kept, some-is, get-map-back}
+use Rattle.run_leaves.proofs.Places.{get-map, get-within, index-get, map-kept, get-map-back}
 
 -- a box stands at a place that there is
 pub box-within : (f : LeafAt → LeafState) (seats : List LeafAt) (l : ℕ) → is_box (leaf_of (map f seats) l) ≡ true → l < length seats

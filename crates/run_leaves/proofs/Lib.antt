@@ -1,3 +1,7 @@
+pub mod GroupRuns
+pub mod WhoWatches
+pub mod Seats
+pub mod MovedOn
 pub mod Places
 pub mod Moved
 pub mod Emitting
@@ -6,3 +10,10 @@ pub mod Stepped
 pub mod Given
 pub mod Steps
 pub mod Short
+pub mod Joined
+pub mod SameSettings
+pub mod Once
+pub mod SoundParts
+pub mod Groups
+pub mod Starting
+pub mod Putting

@@ -1,6 +1,6 @@
 -- What a change of one cell or of one box makes of all leaves.
-use Rattle.std.proofs.Common.{◌≡◌, ◌≢◌, ℕ, ◌<◌, Bool, true, false, true≢false, eqb, eqb-true, eq-eqb, Option, Some, None, List, [], ◌∷◌, map, length, refl, sym, ◌∙◌, ap, arith}
-use Rattle.std.specs.Prelude.{slice_get, slice_set, ℤ}
+use Rattle.std.proofs.Common.{◌≡◌, ◌≢◌, ℕ, ◌<◌, Bool, true, false, true≢false, eqb, eqb-true, eq-eqb, Some, List, length, refl, sym, ◌∙◌, ap}
+use Rattle.std.specs.Prelude.{slice_get, slice_set}
 use Rattle.std.proofs.lemmas.List.{get_or-set_same, get_or-set_other}
 use Rattle.atomic_face.specs.declared.stock.BoxNo.{BoxNo}
 use Rattle.atomic_face.specs.Held.{Held}
@@ -8,12 +8,12 @@ use Rattle.atomic_face.specs.StockView.{Stocked}
 use Rattle.model_tree.specs.declared.leaves.LeafAt.{LeafAt}
 use Rattle.model_tree.specs.declared.leaves.LeafAt.TheVariants.{Atomic, Cell}
 use Rattle.run_model.specs.CellStep.{CellState}
-use Rattle.run_model.specs.Cycle.{LeafState, box_state, cell_state}
+use Rattle.run_model.specs.Cycle.{box_state, cell_state}
 use Rattle.cell_engine.specs.Cells.{Cells}
 use Rattle.cell_table.specs.Told.{no_cell, cell_at}
 use Rattle.run_leaves.specs.Seated.{box_there, cell_there, state_there, states_in, settings_in}
 use Rattle.run_leaves.specs.Moving.{with_box}
-use Rattle.run_leaves.proofs.Places.{map-set, get-set, get-other, map-kept, set-same}
+use Rattle.run_leaves.proofs.Places.{map-set, get-set, get-other, map-kept}
 
 -- no two leaves have one place
 abbrev pub AreApart : List LeafAt → Type 0

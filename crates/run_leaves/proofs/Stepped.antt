@@ -1,6 +1,6 @@
 -- A step of one cell or one box, as it is told.
-use Rattle.std.proofs.Common.{◌≡◌, ℕ, suc, ◌<◌, ◌≤◌, Option, Some, None, List, [], ◌∷◌, map, length, Ok, Err, refl, sym, ◌∙◌, ap, subst, arith}
-use Rattle.std.specs.Prelude.{slice_get, slice_set, slice_index_or, ℤ}
+use Rattle.std.proofs.Common.{◌≡◌, ℕ, suc, ◌<◌, ◌≤◌, Some, None, List, [], ◌∷◌, map, length, Ok, Err, refl, sym, ◌∙◌, ap, subst, arith}
+use Rattle.std.specs.Prelude.{slice_get, slice_set, slice_index_or}
 use Rattle.std.specs.List.{HoldsAt}
 use Rattle.std.specs.declared.result.Result.{Result}
 use Rattle.std.proofs.lemmas.List.{get_or-set_same}
@@ -8,7 +8,6 @@ use Rattle.quantity.specs.declared.value.Value.{Value}
 use Rattle.quantity.specs.declared.value.Value.TheVariants.{Undefined}
 use Rattle.rule_tree.specs.declared.outcome.RuleStop.{RuleStop}
 use Rattle.rule_tree.specs.declared.outcome.RuleStop.TheVariants as rules
-use Rattle.atomic_face.specs.Held.{Held}
 use Rattle.atomic_face.specs.Classes.{Bag}
 use Rattle.atomic_face.specs.Moves.{next_of_box, with_state, AdvanceGives}
 use Rattle.atomic_face.specs.StockView.{Stocked}
@@ -19,12 +18,11 @@ use Rattle.run_model.specs.Run as run
 use Rattle.cell_table.specs.declared.cell.Cell.{Cell}
 use Rattle.cell_engine.specs.declared.stop.CellStop.{CellStop}
 use Rattle.cell_engine.specs.declared.stop.CellStop.TheVariants as cell
-use Rattle.cell_table.specs.Told.{no_cell, cell_at, computed_of, in_four, Tells, OnlyCell, emitted_of}
+use Rattle.cell_table.specs.Told.{no_cell, cell_at, in_four, Tells, OnlyCell}
 use Rattle.cell_engine.specs.Cells.{Computes, stop_of}
 use Rattle.cycle_steps.specs.declared.halt.Told.{Told}
-use Rattle.cycle_steps.specs.declared.halt.LeafStop.{LeafStop}
 use Rattle.run_leaves.specs.Seated.{HasPort}
-use Rattle.run_leaves.specs.Moving.{MovesCell, HasMovedCell, leaf_stop, MovesBox, GoesTo, HasMovedBox, with_box}
+use Rattle.run_leaves.specs.Moving.{MovesCell, HasMovedCell, leaf_stop, MovesBox, GoesTo, with_box}
 use Rattle.run_leaves.proofs.Places.{get-set, index-get}
 
 -- ---- a cell

@@ -1,25 +1,19 @@
 -- What all leaves become where a box or a cell moves.
-use Rattle.std.proofs.Common.{◌≡◌, ℕ, ◌+◌, ◌<◌, ◌≤◌, Bool, Option, Some, None, List, [], ◌∷◌, map, length, Ok, Err, refl, sym, ◌∙◌, ap, subst, arith}
+use Rattle.std.proofs.Common.{◌≡◌, ℕ, ◌+◌, Bool, Option, Some, None, List, Ok, Err, refl, sym, ◌∙◌, ap, subst, arith}
 use Rattle.std.specs.Prelude.{slice_get, slice_set, ℤ}
 use Rattle.std.specs.declared.result.Result.{Result}
-use Rattle.std.proofs.lemmas.List.{length-map, length-set}
-use Rattle.rule_tree.specs.declared.outcome.RuleStop.{RuleStop}
-use Rattle.rule_tree.specs.declared.outcome.RuleStop.TheVariants as rules
-use Rattle.cell_grid.specs.Space.{cell_count}
-use Rattle.atomic_face.specs.declared.class.Class.{Class}
 use Rattle.atomic_face.specs.declared.stock.BoxNo.{BoxNo}
 use Rattle.atomic_face.specs.Classes.{Bag, moved_state}
 use Rattle.atomic_face.specs.Moves.{with_state}
 use Rattle.atomic_face.specs.StockView.{Stocked}
 use Rattle.model_tree.specs.declared.leaves.LeafAt.{LeafAt}
 use Rattle.model_tree.specs.declared.leaves.LeafAt.TheVariants.{Atomic, Cell}
-use Rattle.model_tree.specs.Tree.{Word, Tree, Group, Leaf, atomic_leaf, cell_leaf, leaves}
-use Rattle.run_model.specs.CellStep.{CellState, Stepped, cell_moved}
-use Rattle.run_model.specs.Cycle.{LeafState, box_state, cell_state, Moved, box_moved, cell_result, sight_of}
-use Rattle.cell_engine.specs.Cells.{Cells, computed_at, sight_in}
+use Rattle.model_tree.specs.Tree.{Tree, leaves}
+use Rattle.run_model.specs.CellStep.{Stepped, cell_moved}
+use Rattle.run_model.specs.Cycle.{Moved, box_moved, cell_result}
+use Rattle.cell_engine.specs.Cells.{Cells, computed_at}
 use Rattle.cell_table.specs.Told.{cell_at}
 use Rattle.cell_engine.specs.Laws.{SeesItsGroup, StandAt}
-use Rattle.cell_engine.specs.Layout.{Layout}
 use Rattle.sparse_cycle.specs.Sparse.{leaf_of, move_to}
 use Rattle.cycle_steps.specs.Moving.{Moves}
 use Rattle.cycle_steps.specs.declared.halt.Told.{Told}
@@ -27,8 +21,8 @@ use Rattle.cycle_steps.specs.declared.halt.LeafStop.{LeafStop}
 use Rattle.cycle_steps.specs.declared.halt.LeafStop.TheVariants.{Rule, Memory}
 use Rattle.run_leaves.specs.Seated.{cell_there, state_there, states_in, settings_in, layouts_in, sizes_in, Places}
 use Rattle.run_leaves.specs.Moving.{GoesTo, MovesBox, MovesCell, with_box}
-use Rattle.run_leaves.proofs.Places.{get-map, map-kept, index-get}
-use Rattle.run_leaves.proofs.Moved.{AreApart, box-changed, settings-kept, cell-changed}
+use Rattle.run_leaves.proofs.Places.{get-map, map-kept}
+use Rattle.run_leaves.proofs.Moved.{AreApart, box-changed, cell-changed}
 use Rattle.run_leaves.proofs.Inside.{box-is, cell-is, size-is, cell-inside}
 
 -- ---- a box

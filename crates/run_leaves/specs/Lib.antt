@@ -1,3 +1,5 @@
 pub mod Seated
 pub mod Moving
 pub mod Watching
+pub mod Saved
+pub mod Placed

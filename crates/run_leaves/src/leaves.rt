@@ -1,24 +1,34 @@
 // The leaves of a run: each is asked for its output, and then to move.
-ghost use Rattle.std.specs.Prelude.{◌≡◌, ℕ, ◌+◌, ◌<◌, ◌≤◌, Some, List, [], length, map, OnOk, IfOk, IsTrue, slice_get};
+ghost use Rattle.std.specs.Prelude.{◌≡◌, ℕ, ◌+◌, ◌<◌, ◌≤◌, ◌++◌, Some, List, [], length, map, OnOk, OnErr, IfOk, IsTrue, slice_get};
 ghost use Rattle.std.specs.List.{All};
 ghost use Rattle.quantity.specs.declared.value.Value.{Value as AnyValue};
 ghost use Rattle.atomic_face.specs.declared.class.PortNo.{PortNo as AnyPort};
+ghost use Rattle.atomic_face.specs.Held.{Held};
+ghost use Rattle.atomic_face.specs.Moves.{RestoreGives};
 ghost use Rattle.model_tree.specs.Tree.{leaves, groups};
+ghost use Rattle.model_tree.specs.Sound.{is_sound_model};
+ghost use Rattle.started_boxes.specs.Boxes.{BoxesStand};
 ghost use Rattle.run_model.specs.Visits.{most_offsets};
-ghost use Rattle.run_model.specs.Cycle.{initial_leaf, leaf_next, leaf_emitted, collected_of};
+ghost use Rattle.run_model.specs.Waiting.{CellWaitsFrom};
+ghost use Rattle.run_model.specs.Fitting.{Fits, OfLeaf};
+ghost use Rattle.run_model.specs.Cycle.{initial_leaf, box_state, cell_state, leaf_next, leaf_emitted, collected_of};
+ghost use Rattle.cell_table.specs.Saved.{cell_of_saved};
 ghost use Rattle.sparse_cycle.specs.Sparse.{leaf_of, move_to};
 ghost use Rattle.cycle_steps.specs.Moving.{Moves};
-ghost use Rattle.run_leaves.specs.Seated.{is_box, ports_at, visits_at, tree_at};
+ghost use Rattle.run_leaves.specs.Seated.{is_box, ports_at, visits_at, settings_in, tree_at};
+ghost use Rattle.run_leaves.specs.Saved.{is_cell, words_of};
 ghost use Rattle.run_leaves.specs.Moving.{with_state, StaysAs};
 
 use crate::boxes::move_box;
 use crate::cells::{give_of_cell, move_cell};
-use atomic_face::{AtomicModel, PortNo, Stock};
-use cell_engine::{CellStore, Steps};
+use crate::start::{places_of, stores_of};
+use atomic_face::{AtomicModel, PortNo, RestoreRefusal, Stock};
+use cell_engine::{CellState, CellStore, Steps};
 use cycle_steps::halt::{LeafStop, Told};
 use cycle_steps::leaves::Leaves;
 use model_tree::{LeafAt, Model as Tree};
 use quantity::{OutOfMemory, Time, Value};
+use std::alloc::Global;
 use std::marker::Model;
 use std::sync::ledger::Ledger;
 
@@ -54,6 +64,26 @@ impl<M: AtomicModel> Model for FlatLeaves<M> {
 }
 
 impl<M: AtomicModel> FlatLeaves<M> {
+    /// The leaves of a sound model at their start. Each atomic component has a box of its own, at the start that its
+    /// settings give.
+    pub fn new(alloc: Global, model: Tree, stock: Stock<M>) -> Result<FlatLeaves<M>, OutOfMemory>
+        requires sound { IsTrue (is_sound_model (tree_at model (settings_in stock))) }
+        requires boxes { BoxesStand stock model }
+        ensures model { IfOk result (λ s. s.model ≡ model) }
+        ensures settings { IfOk result (λ s. s.settings ≡ settings_in stock) }
+        ensures states { IfOk result
+            (λ s. s.states ≡ map initial_leaf (leaves (tree_at model (settings_in stock)))) }
+    {
+        let seats = places_of(alloc, &model)?;
+        let stores = stores_of(alloc, &model)?;
+        Ok(FlatLeaves {
+            model,
+            seats,
+            stores,
+            stock,
+        })
+    }
+
     /// The model.
     pub fn model(&self) -> &Tree
         ensures { result.now ≡ self.now.model }
@@ -69,6 +99,24 @@ impl<M: AtomicModel> FlatLeaves<M> {
         let _count = self.seats.len();
     }
 
+    /// The number of leaves.
+    pub fn count(&self) -> u32
+        ensures { result ≡ length self.now.states }
+    {
+        self.model.leaves()
+    }
+
+    /// The next time of a leaf. It takes no memory and no visit.
+    pub fn next(&self, leaf: u32) -> Option<Time>
+        requires { leaf < length self.now.states }
+        ensures { result ≡ leaf_next (leaf_of self.now.states leaf) }
+    {
+        match self.seats[leaf as usize] {
+            LeafAt::Atomic(at) => self.stock.next(at),
+            LeafAt::Cell { group, cell } => self.stores[group as usize].next(cell),
+        }
+    }
+
     /// The next time of a leaf's box.
     pub fn box_next(&self, leaf: u32) -> Option<Time>
         requires { IsTrue (is_box (leaf_of self.now.states leaf)) }
@@ -76,6 +124,63 @@ impl<M: AtomicModel> FlatLeaves<M> {
     {
         match self.seats[leaf as usize] {
             LeafAt::Atomic(at) => self.stock.next(at),
+            LeafAt::Cell { group: _, cell: _ } => unreachable!(),
+        }
+    }
+
+    /// Appends the numbers of the state of a leaf's box.
+    pub fn save_box(&self, leaf: u32, into: &mut Vec<i64>) -> Result<(), OutOfMemory>
+        requires { IsTrue (is_box (leaf_of self.now.states leaf)) }
+        ensures { OnOk result (into.new.items ≡ into.old.items ++ words_of (leaf_of self.now.states leaf)) }
+    {
+        match self.seats[leaf as usize] {
+            LeafAt::Atomic(at) => self.stock.save(at, into),
+            LeafAt::Cell { group: _, cell: _ } => unreachable!(),
+        }
+    }
+
+    /// The state of a cell. It takes one visit.
+    pub fn save_cell<L: Ledger>(
+        &self,
+        alloc: Global,
+        leaf: u32,
+        steps: &mut Steps<L>,
+    ) -> Result<CellState, OutOfMemory>
+        requires cell { IsTrue (is_cell (leaf_of self.now.states leaf)) }
+        requires within { leaf < length self.now.states }
+        ensures state { IfOk result (λ c. leaf_of self.now.states leaf ≡ cell_state (cell_of_saved c)) }
+        ensures steps { steps.new ≡ steps.old + 1 }
+    {
+        match self.seats[leaf as usize] {
+            LeafAt::Atomic(_) => unreachable!(),
+            LeafAt::Cell { group, cell } => self.stores[group as usize].state(alloc, cell, steps),
+        }
+    }
+
+    /// A cell has another state. Without memory nothing changes.
+    pub fn put_cell(&mut self, leaf: u32, state: &CellState) -> Result<(), OutOfMemory>
+        requires fits { OfLeaf (tree_at self.old.model self.old.settings) leaf
+            (λ l. Fits l (cell_state (cell_of_saved state.now))) }
+        requires rising { CellWaitsFrom 0 (cell_of_saved state.now) }
+        ensures ok { OnOk result (self.new ≡ with_state self.old leaf (cell_state (cell_of_saved state.now))) }
+        ensures err { OnErr result (self.new ≡ self.old) }
+    {
+        match self.seats[leaf as usize] {
+            LeafAt::Atomic(_) => unreachable!(),
+            LeafAt::Cell { group, cell } => self.stores[group as usize].put(cell, state),
+        }
+    }
+
+    /// A leaf's box has the state of these numbers. BadState exactly where they are none of its class with its settings; a
+    /// refusal changes nothing.
+    pub fn put_box(&mut self, alloc: Global, leaf: u32, words: &[i64]) -> Result<(), RestoreRefusal>
+        requires { IsTrue (is_box (leaf_of self.old.states leaf)) }
+        ensures puts { (b : Held) → leaf_of self.old.states leaf ≡ box_state b
+            → (c : Held) × RestoreGives words.now b c result × (self.new ≡ with_state self.old leaf (box_state c)) }
+        ensures err { OnErr result (self.new ≡ self.old) }
+    {
+        match self.seats[leaf as usize] {
+            LeafAt::Atomic(at) => self.stock.restore(at, alloc, words),
             LeafAt::Cell { group: _, cell: _ } => unreachable!(),
         }
     }

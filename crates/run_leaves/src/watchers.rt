@@ -1,30 +1,48 @@
 // Who watches whom.
-ghost use Rattle.std.specs.Prelude.{◌≡◌, ℕ, [], length, map, IfOk, OnOk};
-ghost use Rattle.std.specs.List.{All};
+ghost use Rattle.std.specs.Prelude.{IfOk};
+ghost use Rattle.model_tree.specs.Leaves.{OfTree};
 
-use cell_grid::Reach;
+use crate::blocks::{Block, seat_at};
 use cycle_steps::wake::Watched;
-use model_tree::LeafAt;
+use model_tree::Model as Tree;
 use quantity::OutOfMemory;
+use std::alloc::{AllocError, Global};
 use std::marker::Model;
 
 /// The leaves that watch each leaf: of a cell those cells of its group that have it as a neighbour, found by fixed
-/// differences. It is seen as the leaves' places and the neighbourhoods of the groups.
+/// differences. It is seen as the number of the block that each leaf is in, and the blocks.
 #[derive(Drop)]
 pub struct Watchers {
-    seats: Vec<LeafAt>,
-    reaches: Vec<Reach>,
+    seats: Vec<Option<u32>>,
+    blocks: Vec<Block>,
 }
 
 impl Model for Watchers {
     ghost use Rattle.std.specs.Prelude.{◌<◌, ◌^◌, length};
-    ghost use Rattle.run_leaves.specs.Watching.{Watching, StandInRuns};
+    ghost use Rattle.run_leaves.specs.Watching.{Watching, StandInBlocks};
 
     ghost Value = { Watching };
 
-    ghost view = { λ w. record { seats = w.seats.items; reaches = w.reaches.items } };
+    ghost view = { λ w. record { seats = w.seats.items; blocks = w.blocks.items } };
 
-    ghost invariant = { λ w. (length w.seats.items < 4294967296) × StandInRuns w.seats.items w.reaches.items };
+    ghost invariant = { λ w. (length w.seats.items < 2 ^ 32) × StandInBlocks w.seats.items w.blocks.items };
+}
+
+impl Watchers {
+    ghost use Rattle.run_leaves.specs.Watching.{IsWatchingOf};
+
+    /// The watchers of a model. It goes through the leaves once.
+    pub fn new(alloc: Global, model: &Tree) -> Result<Watchers, OutOfMemory>
+        ensures { IfOk result (λ w. OfTree model.now (λ tree. IsWatchingOf tree w)) }
+    {
+        let mut seats = Vec::new(alloc);
+        let mut blocks = Vec::new(alloc);
+        for leaf in 0..model.leaves() {
+            let seat = seat_at(alloc, model, leaf, &seats, &mut blocks)?;
+            seats.push(seat).map_err(AllocError::from)?;
+        }
+        Ok(Watchers { seats, blocks })
+    }
 }
 
 impl Watched for Watchers {
@@ -36,6 +54,13 @@ impl Watched for Watchers {
     ghost watches = { λ w k l. watches_by w k l };
 
     fn watchers_of(&self, leaf: u32, into: &mut Vec<u32>) -> Result<(), OutOfMemory> {
-        Err(OutOfMemory)
+        let at = leaf as usize;
+        if self.seats.len() <= at {
+            return Ok(());
+        }
+        match self.seats[at] {
+            None => Ok(()),
+            Some(number) => self.blocks[number as usize].put_watchers(leaf, into),
+        }
     }
 }

@@ -1,5 +1,5 @@
 use Rattle.run_leaves.proofs.Stepped.{moves-ok, moves-err}
-use Rattle.std.proofs.Common.{sym, ap, subst}
+use Rattle.std.proofs.Common.{sym, subst}
 use Rattle.std.specs.declared.result.Result.TheVariants.{Err}
 use Rattle.cell_engine.specs.Cells.{computed_at}
 use Rattle.cycle_steps.specs.declared.halt.LeafStop.{LeafStop}

@@ -1,4 +1,4 @@
-use Rattle.std.proofs.Common.{◌≡◌, ◌∙◌, ℕ, Option, None, List, sym, ap}
+use Rattle.std.proofs.Common.{◌≡◌, ◌∙◌, ap}
 use Rattle.time_queue.specs.Waiting.{least_of}
 use Rattle.run_model.specs.CellStep.{least}
 use Rattle.run_model.specs.Cycle.{next_of_all}

@@ -1,6 +1,5 @@
 use Rattle.std.proofs.Common.{◌<◌, List, length, sym, subst}
 use Rattle.std.specs.Prelude.{nat_lt}
-use Rattle.std.specs.List.{All}
 use Rattle.event_list.specs.Events.{Event}
 use Rattle.model_tree.specs.Tree.{ins_of}
 use Rattle.sparse_cycle.specs.Feed.{AreAtInputs}

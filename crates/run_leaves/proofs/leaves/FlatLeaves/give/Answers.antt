@@ -1,20 +1,19 @@
-use Rattle.std.proofs.Common.{◌≡◌, ◌∙◌, ℕ, ◌+◌, ◌<◌, ◌≤◌, true, Some, List, [], ◌++◌, length, refl, sym, ap, subst, arith}
-use Rattle.std.specs.Prelude.{slice_get, slice_set, slice_index_or}
+use Rattle.std.proofs.Common.{◌≡◌, ◌∙◌, Some, List, ◌++◌, length, sym, ap, arith}
+use Rattle.std.specs.Prelude.{slice_get, slice_set}
 use Rattle.std.proofs.lemmas.Result.{on_ok_weaker}
-use Rattle.atomic_face.specs.StockView.{Stocked}
 use Rattle.model_tree.specs.declared.leaves.LeafAt.TheVariants.{Atomic, Cell}
-use Rattle.run_model.specs.CellStep.{CellState, cell_next, cell_emitted, cell_output}
+use Rattle.run_model.specs.CellStep.{cell_emitted, cell_output}
 use Rattle.run_model.specs.Cycle.{LeafState, cell_state, leaf_next, leaf_emitted, collected_of}
 use Rattle.cell_engine.specs.Cells.{Cells}
 use Rattle.cell_table.specs.Told.{cell_at}
 use Rattle.sparse_cycle.specs.Sparse.{leaf_of}
-use Rattle.run_leaves.specs.Seated.{Seated, states_in, settings_in, layouts_in}
-use Rattle.run_leaves.specs.Moving.{with_state, StaysAs}
-use Rattle.run_leaves.proofs.Places.{read-at, found-at, index-get, map-kept}
+use Rattle.run_leaves.specs.Seated.{Seated, states_in}
+use Rattle.run_leaves.specs.Moving.{with_state}
+use Rattle.run_leaves.proofs.Places.{read-at, found-at, index-get}
 use Rattle.run_leaves.specs.Seated.{state_there}
 use Rattle.run_leaves.proofs.Inside.{due-within, box-inside, box-is, store-inside, cell-inside, cell-is}
 use Rattle.run_leaves.proofs.Emitting.{due-gives, emitted-port, box-collected}
-use Rattle.run_leaves.proofs.Given.{seen, stays, one-cell, still-placed, still-ports, port-here}
+use Rattle.run_leaves.proofs.Given.{stays, one-cell, still-placed, still-ports, port-here}
 use Rattle.std.proofs.lemmas.List.{length-set}
 use Rattle.atomic_face.specs.Moves.{output_of_box}
 use Rattle.run_leaves.proofs.leaves.FlatLeaves.give.Goals as goal

@@ -1,28 +1,23 @@
-use Rattle.std.proofs.Common.{◌≡◌, ◌∙◌, ℕ, ◌+◌, ◌<◌, ◌≤◌, Some, List, length, refl, sym, ap, subst, arith}
+use Rattle.std.proofs.Common.{◌≡◌, ◌∙◌, ℕ, ◌+◌, ◌<◌, Some, List, length, refl, sym, ap, subst, arith}
 use Rattle.std.specs.Prelude.{slice_get, slice_set, ℤ}
 use Rattle.std.specs.List.{All}
 use Rattle.std.proofs.lemmas.List.{length-map, length-set}
 use Rattle.quantity.specs.declared.value.Value.{Value}
 use Rattle.atomic_face.specs.declared.class.PortNo.{PortNo}
-use Rattle.atomic_face.specs.StockView.{Stocked}
 use Rattle.model_tree.specs.declared.leaves.LeafAt.TheVariants.{Atomic, Cell}
-use Rattle.model_tree.specs.Tree.{Leaf, leaves}
-use Rattle.model_tree.specs.LeafTexts.{in_ports}
+use Rattle.model_tree.specs.Tree.{leaves}
 use Rattle.model_tree.specs.Leaves.{no_settings}
 use Rattle.model_tree.proofs.Read.{rows-length}
-use Rattle.run_model.specs.CellStep.{CellState}
-use Rattle.run_model.specs.Cycle.{LeafState}
 use Rattle.cell_engine.specs.Cells.{Cells}
 use Rattle.cell_table.specs.Told.{cell_at}
 use Rattle.cell_engine.specs.Layout.{Layout, StandsFor}
 use Rattle.sparse_cycle.specs.Sparse.{leaf_of, move_to}
 use Rattle.cycle_steps.specs.Moving.{Moves}
 use Rattle.run_leaves.specs.Seated.{Seated, state_there, states_in, settings_in, settings_at, layouts_in, sizes_in, tree_at, ports_of, ports_at, visits_in, visits_there, visits_at, Places}
-use Rattle.run_leaves.specs.Moving.{StaysAs}
 use Rattle.run_leaves.proofs.Places.{read-at, get-map, some-is}
 use Rattle.run_leaves.proofs.Inside.{box-inside, store-inside, cell-inside}
 use Rattle.run_leaves.proofs.Stepped.{port-stays}
-use Rattle.run_leaves.proofs.Given.{seen, stays, still-placed, still-ports, port-here}
+use Rattle.run_leaves.proofs.Given.{stays, still-placed, still-ports, port-here}
 use Rattle.run_leaves.proofs.Steps.{box-settings, box-moves-all, cell-moves-all}
 use Rattle.run_leaves.proofs.leaves.FlatLeaves.move_leaf.Goals as goal
 

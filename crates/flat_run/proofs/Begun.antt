@@ -1,0 +1,123 @@
+-- What a call of a run answers, from the next cycle.
+use Rattle.std.proofs.Common.{◌≡◌, ℕ, ◌+◌, ◌≤◌, ◌<◌, Option, Some, None, List, refl, sym, ◌∙◌, ap, subst}
+use Rattle.std.specs.declared.result.Result.{Result}
+use Rattle.std.specs.declared.result.Result.TheVariants.{Err}
+use Rattle.rule_tree.specs.declared.outcome.RuleStop.{RuleStop}
+use Rattle.rule_tree.specs.declared.outcome.RuleStop.TheVariants as rules
+use Rattle.event_list.specs.Events.{Event}
+use Rattle.run_model.specs.Cycle.{LeafState}
+use Rattle.run_model.specs.Run.{next_instant, cycles_at, cycled, unless_stop}
+use Rattle.run_model.specs.Fitting.{FitsTree}
+use Rattle.record_text.specs.declared.records.Records.{Records}
+use Rattle.record_text.specs.Held.{AreEmpty}
+use Rattle.sparse_cycle.specs.Laws.{NextIsSparse}
+use Rattle.sparse_cycle.specs.Woken.{CostsItsParts}
+use Rattle.sparse_cycle.specs.Sparse.{Parts, parts_of, first_stop_among, cycle_of_parts, state_of_parts, next_of_parts}
+use Rattle.sparse_cycle.specs.Walk.{EachMoves}
+use Rattle.cycle_steps.specs.declared.halt.Halt.{Halt}
+use Rattle.cycle_steps.specs.declared.halt.Halt.TheVariants.{Stopped, Memory as NoRoom}
+use Rattle.run_leaves.specs.Seated.{Seated}
+use Rattle.flat_run.specs.declared.progress.Progress.{Progress}
+use Rattle.flat_run.specs.declared.progress.Stop.{Stop}
+use Rattle.flat_run.specs.Standing.{Standing, tree_in, next_of}
+use Rattle.flat_run.specs.Steps.{Keeps, Cycles, Steps, Goes, visits_of}
+use Rattle.flat_run.specs.Running.{RanTo, Runs, visits_in, stop_of_halt}
+use Rattle.flat_run.proofs.Instants.{next-by-parts}
+use Rattle.flat_run.proofs.Costs.{cycle-costs}
+
+-- a cycle begins: the states fit, and this is its instant
+pub record Begins (s : Standing) (t : ℕ) : Type 0 where
+  pub fits : FitsTree (tree_in s) s.state.leaf_states
+  pub next : next_instant s.state ≡ Some t
+  pub within : t ≤ s.end
+  pub few : cycles_at t s.state < s.limit
+
+-- where a run stands, by its parts
+abbrev pub standing : Seated → List Event → Option ℕ → ℕ → ℕ → ℕ → Option Stop → Standing
+standing leaves events last count end limit stopped =
+    record {
+      model = leaves.model;
+      settings = leaves.settings;
+      state = record { leaf_states = leaves.states; events = events; last = last; count = count };
+      end = end;
+      limit = limit;
+      stopped = stopped;
+    }
+
+-- its parts
+abbrev pub parts_in : Standing → ℕ → Parts
+parts_in s t = parts_of (tree_in s) t s.state
+
+next-is : NextIsSparse → (s : Standing) (t : ℕ) → Begins s t → next_of s ≡ next_of_parts t s.state (parts_in s t)
+next-is sparse s t begins =
+    next-by-parts sparse (tree_in s) s.end s.limit s.state t begins.fits begins.next begins.within begins.few
+
+-- the next cycle, or the stop of a leaf
+next-at : NextIsSparse → (s : Standing) (t : ℕ) → Begins s t → (o : Option (ℕ × RuleStop)) → first_stop_among (parts_in s t).move (parts_in s t).touched ≡ o
+    → next_of s ≡ unless_stop t o (cycle_of_parts t (parts_in s t)) (state_of_parts t s.state (parts_in s t))
+next-at sparse s t begins o is =
+    next-is sparse s t begins ∙ ap (λ o. unless_stop t o (cycle_of_parts t (parts_in s t)) (state_of_parts t s.state (parts_in s t))) is
+
+-- ---- what is answered
+
+-- where a run goes on, the call is the next step
+pub goes-on : (o : Option Stop) (s : Standing) (r : Result Progress Stop) (s' : Standing) (records : Records) → o ≡ None → Steps s r s' records → Goes o s r s' records
+goes-on None s r s' records none h = h
+goes-on (Some why) s r s' records none h = absurd (not-none none)
+  where
+    IsThere : Option Stop → Type 0
+    IsThere None = ⊥
+    IsThere (Some why) = Unit {0}
+
+    not-none : Some why ≡ None → ⊥
+    not-none e = subst IsThere e tt
+
+-- the cycle
+pub cycles-on : NextIsSparse → (s s' : Standing) (t : ℕ) (records : Records) (waiting : List (Option ℕ)) → Begins s t
+    → RanTo t (parts_in s t) s.state.events s'.state.leaf_states waiting s'.state.events records
+    → s'.state.last ≡ Some t → s'.state.count ≡ cycles_at t s.state + 1 → Keeps s s' → s'.stopped ≡ None → Cycles s t s' records
+cycles-on sparse s s' t records waiting begins ran last_is count_is keeps goes =
+    let after : state_of_parts t s.state (parts_in s t) ≡ s'.state =
+    λ i. record { leaf_states = sym ran.states_are i; events = sym ran.left_are i; last = sym last_is i; count = sym count_is i }
+    in
+    record {
+      cycle = cycle_of_parts t (parts_in s t);
+      next = next-at sparse s t begins None ran.none ∙ ap (λ n. cycled (cycle_of_parts t (parts_in s t)) n) after;
+      time = refl;
+      records_are = ran.records_are;
+      keeps = keeps;
+      goes_on = goes;
+    }
+
+-- a leaf stops
+stops-at : NextIsSparse → (s s' : Standing) (t : ℕ) (records : Records) → Begins s t → (l : ℕ) (why : RuleStop)
+    → first_stop_among (parts_in s t).move (parts_in s t).touched ≡ Some (l, why)
+    → AreEmpty records → Keeps s s' → s'.stopped ≡ Some (stop_of_halt t (Stopped l why)) → Steps s (Err (stop_of_halt t (Stopped l why))) s' records
+stops-at sparse s s' t records begins l rules.NoTrueRule is empty keeps stopped =
+    record { next = next-at sparse s t begins (Some (l, rules.NoTrueRule)) is; empty = empty; keeps = keeps; stopped = stopped }
+stops-at sparse s s' t records begins l rules.Overflow is empty keeps stopped =
+    record { next = next-at sparse s t begins (Some (l, rules.Overflow)) is; empty = empty; keeps = keeps; stopped = stopped }
+stops-at sparse s s' t records begins l (rules.BadDelay delay) is empty keeps stopped =
+    record { next = next-at sparse s t begins (Some (l, rules.BadDelay delay)) is; empty = empty; keeps = keeps; stopped = stopped }
+
+-- a leaf stops, or memory ends
+pub halts-at : NextIsSparse → (U : Type 0) (s s' : Standing) (t : ℕ) (states : List LeafState) (waiting : List (Option ℕ)) (left : List Event) (went records : Records) (r : Result U Halt) (halt : Halt) → Begins s t
+    → r ≡ Err halt → Runs t (parts_in s t) s.state.events states waiting left went r
+    → AreEmpty records → Keeps s s' → s'.stopped ≡ Some (stop_of_halt t halt) → Steps s (Err (stop_of_halt t halt)) s' records
+halts-at sparse U s s' t states waiting left went records r (Stopped l why) begins is runs empty keeps stopped =
+    stops-at sparse s s' t records begins l why (subst (λ x. Runs t (parts_in s t) s.state.events states waiting left went x) is runs) empty keeps stopped
+halts-at sparse U s s' t states waiting left went records r NoRoom begins is runs empty keeps stopped = (keeps, stopped, empty)
+
+-- ---- what it costs
+
+costs : NextIsSparse → EachMoves → CostsItsParts → (s : Standing) (t : ℕ) → Begins s t → (o : Option (ℕ × RuleStop)) → first_stop_among (parts_in s t).move (parts_in s t).touched ≡ o
+    → visits_of s (next_of s) ≡ visits_in (tree_in s) (parts_in s t)
+costs sparse each cost s t begins None is =
+    ap (visits_of s) (next-at sparse s t begins None is) ∙ cycle-costs each (tree_in s) t s.state begins.fits begins.next is
+costs sparse each cost s t begins (Some p) is =
+    ap (visits_of s) (next-at sparse s t begins (Some p) is) ∙ cost (tree_in s) t s.state begins.fits begins.next
+
+-- what the next cycle costs at most, also where a leaf stops
+pub visits-are : NextIsSparse → EachMoves → CostsItsParts → (s : Standing) (t : ℕ) → Begins s t → visits_of s (next_of s) ≡ visits_in (tree_in s) (parts_in s t)
+visits-are sparse each cost s t begins =
+    costs sparse each cost s t begins (first_stop_among (parts_in s t).move (parts_in s t).touched) refl

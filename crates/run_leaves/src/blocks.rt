@@ -1,0 +1,100 @@
+// The cells of a group as a block of leaves that stand one after another.
+ghost use Rattle.std.specs.Prelude.{◌≡◌, ℕ, ◌+◌, ◌<◌, ◌≤◌, ◌^◌, Some, [], ◌∷◌, ◌++◌, length, map, OnOk, OnErr, IfOk};
+ghost use Rattle.std.specs.List.{All};
+ghost use Rattle.model_tree.specs.Stands.{group_of};
+ghost use Rattle.model_tree.specs.Leaves.{AtLeaf, IsLeafOf, OfTree};
+ghost use Rattle.sparse_cycle.specs.Collect.{is_among};
+ghost use Rattle.run_leaves.specs.Watching.{watches_in, end_of, block_of, IsSeatOf, AreSeated};
+
+use cell_grid::Reach;
+use model_tree::{CellGroup, LeafAt, Model as Tree};
+use quantity::OutOfMemory;
+use std::alloc::{AllocError, Global};
+
+/// The cells of a group: the number of the first one's leaf, the most cells that watch one of them, and which do.
+#[derive(Drop)]
+pub(crate) struct Block {
+    first: u32,
+    most: usize,
+    reach: Reach,
+}
+
+/// The number of the block that a leaf is in, if it is a cell. A group's first cell begins a block, and each other cell
+/// is in that of the leaf before it.
+pub(crate) fn seat_at(
+    alloc: Global,
+    model: &Tree,
+    leaf: u32,
+    seats: &[Option<u32>],
+    blocks: &mut Vec<Block>,
+) -> Result<Option<u32>, OutOfMemory>
+    requires leaf { IsLeafOf model.now leaf }
+    requires long { length seats.now ≡ leaf }
+    requires few { length blocks.old.items ≤ leaf }
+    requires seated { OfTree model.now (λ tree. AreSeated tree seats.now blocks.old.items) }
+    ensures few { length blocks.new.items ≤ leaf + 1 }
+    ensures seated { OfTree model.now (λ tree. AreSeated tree seats.now blocks.new.items) }
+    ensures seat { IfOk result (λ seat.
+        AtLeaf model.now leaf (λ l. IsSeatOf blocks.new.items l seat)) }
+{
+    match model.leaf_at(leaf) {
+        LeafAt::Atomic(_) => Ok(None),
+        LeafAt::Cell { group, cell } => {
+            if cell == 0 {
+                let number = begin(alloc, leaf, model.group(group), blocks)?;
+                return Ok(Some(number));
+            }
+            Ok(seats[leaf as usize - 1])
+        }
+    }
+}
+
+/// Begins the block of a group, and gives its number.
+fn begin(
+    alloc: Global,
+    first: u32,
+    group: &CellGroup,
+    blocks: &mut Vec<Block>,
+) -> Result<u32, OutOfMemory>
+    requires { length blocks.old.items ≤ first }
+    ensures number { IfOk result (λ number. number ≡ length blocks.old.items) }
+    ensures begun { OnOk result
+        (blocks.new.items ≡ blocks.old.items ++ block_of (group_of group.now) first ∷ []) }
+    ensures err { OnErr result (blocks.new.items ≡ blocks.old.items) }
+{
+    let number = blocks.len() as u32;
+    let most = group.offsets.len();
+    let reach = Reach::new(alloc, group.grid, &group.offsets)?;
+    let block = Block { first, most, reach };
+    blocks.push(block).map_err(AllocError::from)?;
+    Ok(number)
+}
+
+impl Block {
+    /// Puts the leaves that watch a leaf of this block.
+    pub(crate) fn put_watchers(&self, leaf: u32, into: &mut Vec<u32>) -> Result<(), OutOfMemory>
+        requires begun { self.now.first ≤ leaf }
+        requires inside { leaf < end_of self.now }
+        requires short { end_of self.now ≤ 2 ^ 32 }
+        requires room { length self.now.reach.offsets ≤ self.now.most }
+        requires empty { into.old.items ≡ [] }
+        ensures within { OnOk result (All (λ k. k < end_of self.now) into.new.items) }
+        ensures watch { OnOk result ((k : ℕ) → is_among into.new.items k
+            ≡ watches_in (Some self.now) k leaf) }
+    {
+        into.reserve(self.most)?;
+        self.reach.watchers(leaf - self.first, into);
+        move_on(into, self.first);
+        Ok(())
+    }
+}
+
+/// Adds to each number.
+fn move_on(numbers: &mut [u32], by: u32)
+    requires { All (λ k. by + k < 2 ^ 32) numbers.old }
+    ensures { numbers.new ≡ map (λ k. by + k) numbers.old }
+{
+    for number in numbers.iter_mut() {
+        *number += by;
+    }
+}
