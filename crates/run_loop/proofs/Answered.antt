@@ -110,7 +110,7 @@ run_is a o s are may =
     let limit : a.limit ≡ s.limit = are.limit ∙ sym may.limit in
     (λ i. run_from (most_cycles (are.end i) (are.limit i)) (tree_in s) (end i) (limit i) (sym may.starts i))
 
-run_is_run : (o : Outputs) (s : Standing) → MayRun o s → run (tree_in s) s.state.events s.end s.limit ≡ run_of (most_cycles o.end o.limit) s
+pub run_is_run : (o : Outputs) (s : Standing) → MayRun o s → run (tree_in s) s.state.events s.end s.limit ≡ run_of (most_cycles o.end o.limit) s
 unfolding run
 run_is_run o s may = λ i. run_from (most_cycles (may.end i) (may.limit i)) (tree_in s) s.end s.limit (sym may.starts i)
 

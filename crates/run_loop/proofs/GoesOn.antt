@@ -47,27 +47,27 @@ unfolding run_from
 from_ended zero tree end most s v is = ap (at_last s) is
 from_ended (suc n) tree end most s v is = ap (λ x. and_on s x (run_from n tree end most)) is
 
-from_cycled : (n : ℕ) (tree : Tree) (end most : ℕ) (s m : RunState) (c : Cycle) → next_cycle tree end most s ≡ cycled c m → run_from (suc n) tree end most s ≡ in_front c (run_from n tree end most m)
+pub from_cycled : (n : ℕ) (tree : Tree) (end most : ℕ) (s m : RunState) (c : Cycle) → next_cycle tree end most s ≡ cycled c m → run_from (suc n) tree end most s ≡ in_front c (run_from n tree end most m)
 unfolding run_from
 from_cycled n tree end most s m c is = ap (λ x. and_on s x (run_from n tree end most)) is
 
-from_none : (tree : Tree) (end most : ℕ) (s m : RunState) (c : Cycle) → next_cycle tree end most s ≡ cycled c m → run_from 0 tree end most s ≡ record { cycles = []; verdict = too_many c.time; left = s }
+pub from_none : (tree : Tree) (end most : ℕ) (s m : RunState) (c : Cycle) → next_cycle tree end most s ≡ cycled c m → run_from 0 tree end most s ≡ record { cycles = []; verdict = too_many c.time; left = s }
 unfolding run_from
 from_none tree end most s m c is = ap (at_last s) is
 
 -- the run ends here
-run_ended : (n : ℕ) (s : Standing) (v : Verdict) → next_of s ≡ ended v → run_of n s ≡ record { cycles = []; verdict = v; left = s.state }
+pub run_ended : (n : ℕ) (s : Standing) (v : Verdict) → next_of s ≡ ended v → run_of n s ≡ record { cycles = []; verdict = v; left = s.state }
 run_ended n s v is = from_ended n (tree_in s) s.end s.limit s.state v is
 
 -- a cycle is due where no more are counted
 run_stopped : (n : ℕ) (s : Standing) (m : RunState) (c : Cycle) → n ≡ 0 → next_of s ≡ cycled c m → run_of n s ≡ record { cycles = []; verdict = too_many c.time; left = s.state }
 run_stopped n s m c none is = ap (λ k. run_of k s) none ∙ from_none (tree_in s) s.end s.limit s.state m c is
 
-same_tree : (s m : Standing) → Keeps s m → tree_in m ≡ tree_in s
+pub same_tree : (s m : Standing) → Keeps s m → tree_in m ≡ tree_in s
 same_tree s m keeps = λ i. tree_of (keeps.model i) (settings_at (keeps.settings i))
 
 -- the run goes on after a cycle
-run_more : (n : ℕ) (s m : Standing) (c : Cycle) → 0 < n → next_of s ≡ cycled c m.state → Keeps s m → run_of n s ≡ in_front c (run_of (n - 1) m)
+pub run_more : (n : ℕ) (s m : Standing) (c : Cycle) → 0 < n → next_of s ≡ cycled c m.state → Keeps s m → run_of n s ≡ in_front c (run_of (n - 1) m)
 run_more n s m c some is keeps =
     let e : n ≡ suc (n - 1) = omega arith in
     ap (λ k. run_of k s) e ∙ from_cycled (n - 1) (tree_in s) s.end s.limit s.state m.state c is

@@ -1,4 +1,5 @@
 pub mod Known
 pub mod GoesOn
+pub mod Costs
 pub mod Ended
 pub mod Answered

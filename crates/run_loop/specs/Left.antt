@@ -3,6 +3,7 @@ use Rattle.std.specs.Prelude.{◌≡◌, ℕ, Option, Some, List, slice_get}
 use Rattle.std.specs.List.{All}
 use Rattle.model_tree.specs.Tree.{Tree, Leaf, leaves}
 use Rattle.run_model.specs.Run.{Cycle, Run, run_from}
+use Rattle.run_model.specs.Runs.{Runs}
 use Rattle.run_model.specs.Instants.{InstantsNeverFall}
 use Rattle.run_model.specs.Fitting.{NamesItsParts}
 use Rattle.record_text.specs.CycleNames.{HasPortValues}
@@ -12,6 +13,10 @@ use Rattle.run_files.specs.Showing.{Showing, IsBegunBy}
 -- at most n cycles from where a run stands
 abbrev pub run_of : ℕ → Standing → Run
 run_of n s = run_from n (tree_in s) s.end s.limit s.state
+
+-- so many cycles are enough for a verdict: no more is due after them
+abbrev pub EndsWithin : ℕ → Standing → Type 0
+EndsWithin n s = let r = run_of n s in Runs (tree_in s) s.end s.limit s.state r.cycles r.verdict r.left
 
 -- each further port of a cell of the model has a value at the start
 abbrev pub HaveValues : Tree → Type 0

@@ -1,11 +1,12 @@
 // A run goes on, cycle by cycle, and each cycle is written.
-ghost use Rattle.std.specs.Prelude.{◌≡◌, ◌+◌, ◌<◌, ◌^◌, None};
+ghost use Rattle.std.specs.Prelude.{◌≡◌, ◌+◌, ◌<◌, ◌≤◌, ◌^◌, None};
+ghost use Rattle.run_model.specs.Visits.{visits};
 ghost use Rattle.record_text.specs.Chosen.{letters_of};
 ghost use Rattle.flat_run.specs.Standing.{tree_in};
 ghost use Rattle.flat_run.specs.Steps.{Keeps};
 ghost use Rattle.run_files.specs.AskedFiles.{names_of};
 ghost use Rattle.run_files.specs.Texts.{AreApart, AreCreated};
-ghost use Rattle.run_loop.specs.Left.{run_of, AreFit, HaveValues};
+ghost use Rattle.run_loop.specs.Left.{run_of, EndsWithin, AreFit, HaveValues};
 ghost use Rattle.run_loop.specs.Ran.{RunsTo, RunsWhole};
 ghost use Rattle.run_loop.specs.Stopping.{StopsAs};
 
@@ -34,9 +35,11 @@ pub(crate) fn run_all<R: Room, Q: TimeQueue, M: AtomicModel, L: Ledger>(
     requires few { going.old.cycles + most < 2 ^ 64 }
     requires values { HaveValues (tree_in run.old) }
     requires cycles { AreFit (tree_in run.old) going.old.drawn (run_of most run.old).cycles }
+    requires whole { EndsWithin most run.old }
     ensures runs { RunsWhole (names_of named.now) (tree_in run.old) (letters_of named.now.letters) (run_of most run.old)
         going.old going.new (R.outside room.old) (R.outside room.new) result }
     ensures keeps { Keeps run.old run.new }
+    ensures visits { steps.new ≤ steps.old + visits (tree_in run.old) (run_of most run.old) }
 {
     let ending = run_cycles(room, named, going, run, most, steps)?;
     write_last(room, named, &mut going.drawn, &mut going.piece)?;
@@ -58,9 +61,11 @@ fn run_cycles<R: Room, Q: TimeQueue, M: AtomicModel, L: Ledger>(
     requires few { going.old.cycles + most < 2 ^ 64 }
     requires values { HaveValues (tree_in run.old) }
     requires cycles { AreFit (tree_in run.old) going.old.drawn (run_of most run.old).cycles }
+    requires whole { EndsWithin most run.old }
     ensures runs { RunsTo (names_of named.now) (tree_in run.old) (letters_of named.now.letters) (run_of most run.old)
         going.old going.new (R.outside room.old) (R.outside room.new) result }
     ensures keeps { Keeps run.old run.new }
+    ensures visits { steps.new ≤ steps.old + visits (tree_in run.old) (run_of most run.old) }
 {
     let mut left = most;
     'cycles: loop {

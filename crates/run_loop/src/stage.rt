@@ -1,7 +1,8 @@
 // All of the program after its inputs are read.
-ghost use Rattle.std.specs.Prelude.{◌≡◌, List, Contains};
+ghost use Rattle.std.specs.Prelude.{◌≡◌, ◌+◌, ◌≤◌, List, Contains};
 ghost use Rattle.model_tree.specs.Tree.{Word};
 ghost use Rattle.run_model.specs.Run.{most_cycles as most};
+ghost use Rattle.run_model.specs.Visits.{visits};
 ghost use Rattle.record_text.specs.Chosen.{letters_of};
 ghost use Rattle.room_edge.specs.Faults.{WriteFaultCounted};
 ghost use Rattle.answer_model.specs.Answer.{Answer};
@@ -15,7 +16,7 @@ ghost use Rattle.run_loop.specs.Asks.{AreOutputsOf};
 ghost use Rattle.run_loop.specs.Answers.{MayRun, answer_to, run_statuses};
 ghost use Rattle.run_loop.specs.Begins.{BeginsWith};
 ghost use Rattle.run_loop.specs.Ends.{said_by};
-ghost use Rattle.run_loop.specs.Left.{run_of, AreFit, HaveValues};
+ghost use Rattle.run_loop.specs.Left.{run_of, EndsWithin, AreFit, HaveValues};
 ghost use Rattle.run_loop.specs.ToBe.{IsAnswerOf};
 
 use crate::begin::{begin, most_cycles, named_of};
@@ -27,6 +28,7 @@ use atomic_face::AtomicModel;
 use flat_run::{FlatRun, Steps};
 use room_edge::Room;
 use run_files::{Named, Outputs, create_files, tell_unwritten};
+use run_model::laws::a_run_ends;
 use std::alloc::Global;
 use std::sync::ledger::Ledger;
 use time_queue::TimeQueue;
@@ -47,8 +49,12 @@ pub fn run_and_tell<R: Room, Q: TimeQueue, M: AtomicModel, L: Ledger>(
         EndsWith (answer_to a run.old inputs) (looked_for inputs) (R.outside room.old) (R.outside room.new) result }
     ensures known { Contains run_statuses result }
     ensures write_fault { result ≡ 5 → WriteFaultCounted (R.outside room.old) (R.outside room.new) }
+    // The visits that the reference run may cost.
+    ensures visits { let r = run_of (most outputs.now.end outputs.now.limit) run.old in
+        steps.new ≤ steps.old + visits (tree_in run.old) r }
 {
     runs_are_fit();
+    a_run_ends();
     let Ok(mut going) = begin(alloc, outputs, run.model()) else {
         return NO_MEMORY;
     };
@@ -75,6 +81,7 @@ fn run_created<R: Room, Q: TimeQueue, M: AtomicModel, L: Ledger>(
     requires begins { BeginsWith outputs.now (tree_in run.old) going.old }
     requires cycles { AreFit (tree_in run.old) going.old.drawn (run_of (most outputs.now.end outputs.now.limit) run.old).cycles }
     requires values { HaveValues (tree_in run.old) }
+    requires whole { EndsWithin (most outputs.now.end outputs.now.limit) run.old }
     ensures ends { let r = run_of (most outputs.now.end outputs.now.limit) run.old in
         let tree = tree_in run.old in
         let texts = left_texts tree (letters_of named.now.letters) going.old.drawn r.cycles in
@@ -82,6 +89,9 @@ fn run_created<R: Room, Q: TimeQueue, M: AtomicModel, L: Ledger>(
         EndsWith a (made_after inputs (files (names_of named.now) no_texts)) (R.outside room.old) (R.outside room.new) result }
     ensures known { Contains run_statuses result }
     ensures write_fault { result ≡ 5 → WriteFaultCounted (R.outside room.old) (R.outside room.new) }
+    // The visits that the reference run may cost.
+    ensures visits { let r = run_of (most outputs.now.end outputs.now.limit) run.old in
+        steps.new ≤ steps.old + visits (tree_in run.old) r }
 {
     let most = most_cycles(outputs.end, outputs.limit);
     match run_all(room, named, going, run, most, steps) {

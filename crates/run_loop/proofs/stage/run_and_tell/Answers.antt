@@ -18,6 +18,7 @@ use Rattle.run_files.proofs.Making.{all_created, unmade_ends, making_blames, tel
 use Rattle.run_loop.specs.Answers.{answer_to, run_statuses}
 use Rattle.run_loop.specs.Begins.{BeginsWith}
 use Rattle.run_loop.specs.Left.{run_of}
+use Rattle.run_loop.proofs.Costs.{ends_whole}
 use Rattle.run_loop.proofs.Answered.{names_are, names_apart, answer_as, run_fit, have_values}
 use Rattle.run_loop.proofs.stage.run_and_tell.Goals as goal
 
@@ -53,6 +54,9 @@ run_created-requires-clause-cycles g c =
 
 pub run_created-requires-clause-values : goal.run_created-requires-clause-values
 run_created-requires-clause-values g c = have_values (tree_in c.args.run.now) c.requires.sound
+
+pub run_created-requires-clause-whole : goal.run_created-requires-clause-whole
+run_created-requires-clause-whole g c = ends_whole c.args.outputs.now c.args.run.now c.requires c.a_run_ends.ensures.whole
 
 pub returns-in-Ok-create_files-clause-ends : goal.returns-in-Ok-create_files-clause-ends
 returns-in-Ok-create_files-clause-ends g c = λ a inputs are.

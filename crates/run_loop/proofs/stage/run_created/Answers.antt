@@ -1,4 +1,5 @@
-use Rattle.std.proofs.Common.{◌≡◌, ℕ, ◌∙◌, List, sym, ap, subst, arith, lit<, refl}
+use Rattle.std.proofs.Common.{◌≡◌, ℕ, ◌+◌, ◌≤◌, ◌∙◌, List, sym, ap, subst, arith, lit<, refl}
+use Rattle.run_model.specs.Visits.{visits}
 use Rattle.record_text.specs.Chosen.{letters_of}
 use Rattle.model_tree.specs.declared.table.Model.{Model}
 use Rattle.model_tree.specs.Tree.{Word}
@@ -14,7 +15,7 @@ use Rattle.run_files.specs.AskedFiles.{names_of}
 use Rattle.run_files.proofs.Making.{fell_ends, falls_blames, tells_among, tells_rose}
 use Rattle.run_loop.specs.Answers.{run_statuses}
 use Rattle.run_loop.specs.Ends.{said_by}
-use Rattle.run_loop.specs.Left.{run_of, AreFit}
+use Rattle.run_loop.specs.Left.{run_of, EndsWithin, AreFit}
 use Rattle.run_loop.specs.ToBe.{IsAnswerOf}
 use Rattle.run_loop.proofs.Ended.{TellsAny, created_ends, created_known, created_rose}
 use Rattle.run_loop.proofs.stage.run_created.Goals as goal
@@ -29,6 +30,9 @@ pub run_all-requires-clause-cycles : goal.run_all-requires-clause-cycles
 run_all-requires-clause-cycles g c =
     let s = c.args.run.now in
     subst (λ (k : ℕ). AreFit (tree_in s) c.args.going.now.drawn (run_of k s).cycles) (sym c.most_cycles-most.ensures.value) c.requires.cycles
+
+pub run_all-requires-clause-whole : goal.run_all-requires-clause-whole
+run_all-requires-clause-whole g c = subst (λ (k : ℕ). EndsWithin k c.args.run.now) (sym c.most_cycles-most.ensures.value) c.requires.whole
 
 pub returns-in-Ok-clause-ends : goal.returns-in-Ok-clause-ends
 returns-in-Ok-clause-ends g c =
@@ -90,3 +94,13 @@ pub returns-in-Err-clause-write_fault : goal.returns-in-Err-clause-write_fault
 returns-in-Err-clause-write_fault g c = λ five.
     let n = names_of c.args.named.now in
     tells_rose n c.in-Err.why (g.R.Room.outside c.args.room.now) (g.R.Room.outside c.run_all.new.room) (g.R.Room.outside c.tell_unwritten.new.room) c.tell_unwritten.result (falls_blames n c.in-Err.why _ _ _ c.in-Err.ensures.runs) c.in-Err.ensures.runs.adds.keeps c.in-Err.ensures.runs.fault c.tell_unwritten.ensures five
+
+pub returns-in-Ok-clause-visits : goal.returns-in-Ok-clause-visits
+returns-in-Ok-clause-visits g c =
+    let s = c.args.run.now in
+    subst (λ (k : ℕ). c.run_all.new.steps ≤ c.args.steps.now + visits (tree_in s) (run_of k s)) c.most_cycles-most.ensures.value c.run_all.ensures.visits
+
+pub returns-in-Err-clause-visits : goal.returns-in-Err-clause-visits
+returns-in-Err-clause-visits g c =
+    let s = c.args.run.now in
+    subst (λ (k : ℕ). c.run_all.new.steps ≤ c.args.steps.now + visits (tree_in s) (run_of k s)) c.most_cycles-most.ensures.value c.run_all.ensures.visits
