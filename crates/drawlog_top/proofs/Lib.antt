@@ -1,0 +1,2 @@
+pub mod AskedPictures
+pub mod DrawnAnswers

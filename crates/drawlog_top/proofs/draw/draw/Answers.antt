@@ -1,0 +1,52 @@
+use Rattle.std.proofs.Common.{[], ◌∷◌, refl, sym, subst, lit<}
+use Rattle.answer_model.specs.Answer.{Answer, only_complains, only_shows}
+use Rattle.answer_model.specs.Drawlog.{drawn_answer, log_refused}
+use Rattle.answer_model.specs.Endings.{ShowsEnd, looked_for, EndsWith}
+use Rattle.answer_model.proofs.Outcomes.{none_begun}
+use Rattle.answer_model.proofs.Endings.{endings_follow}
+use Rattle.answer_model.proofs.Said.{said_among, shown_among}
+use Rattle.asked_words.specs.Shown.{drawing_of}
+use Rattle.drawlog_top.specs.Ends.{drawn_statuses}
+use Rattle.drawlog_top.proofs.DrawnAnswers.{drawn_shows, drawn_refuses}
+use Rattle.drawlog_top.proofs.draw.draw.Goals as goal
+
+pub returns-in-Ok-clause-ends : goal.returns-in-Ok-clause-ends
+returns-in-Ok-clause-ends g c =
+    let a = drawing_of c.args.asked.now in
+    let inputs = a.log ∷ [] in
+    let old = g.R.Room.outside c.args.room.now in
+    let new = g.R.Room.outside c.show.new.room in
+    let given = c.show.result in
+    let frames = c.in-Ok.frames.items in
+    let is = drawn_shows a c.args.log.now frames inputs c.requires.short c.in-Ok.ensures in
+    subst (λ (o : Answer). EndsWith o (looked_for inputs) old new given) (sym is)
+    (endings_follow.ended (only_shows frames inputs) (looked_for inputs) old new frames given refl refl refl (subst (λ bytes. ShowsEnd bytes 0 old new given) c.deref.ensures.value c.show.ensures))
+
+pub returns-in-Ok-clause-known : goal.returns-in-Ok-clause-known
+returns-in-Ok-clause-known g c = shown_among drawn_statuses _ 0 _ _ c.show.result (0, lit< tt, refl) (1, lit< tt, refl) (2, lit< tt, refl) c.show.ensures
+
+pub returns-in-Err-LogRefused-clause-ends : goal.returns-in-Err-LogRefused-clause-ends
+returns-in-Err-LogRefused-clause-ends g c =
+    let a = drawing_of c.args.asked.now in
+    let inputs = a.log ∷ [] in
+    let old = g.R.Room.outside c.args.room.now in
+    let new = g.R.Room.outside c.refuse.new.room in
+    let given = c.refuse.result in
+    let line = c.in-Err-LogRefused.line in
+    let e = rw c.in-Err-LogRefused.field-0-is at c.in-Err-LogRefused.ensures in
+    let is = drawn_refuses a c.args.log.now line inputs c.requires.short e in
+    subst (λ (o : Answer). EndsWith o (looked_for inputs) old new given) (sym is)
+    (endings_follow.said (only_complains 13 (log_refused line) inputs) (looked_for inputs) old new given refl refl c.refuse.ensures)
+
+pub returns-in-Err-LogRefused-clause-known : goal.returns-in-Err-LogRefused-clause-known
+returns-in-Err-LogRefused-clause-known g c = said_among drawn_statuses _ 13 _ _ c.refuse.result (3, lit< tt, refl) (1, lit< tt, refl) (2, lit< tt, refl) c.refuse.ensures
+
+pub returns-in-Err-Memory-clause-ends : goal.returns-in-Err-Memory-clause-ends
+returns-in-Err-Memory-clause-ends g c =
+    let a = drawing_of c.args.asked.now in
+    let inputs = a.log ∷ [] in
+    let x = drawn_answer a c.args.log.now inputs in
+    endings_follow.memory x (looked_for inputs) (g.R.Room.outside c.args.room.now) (none_begun x (looked_for inputs) refl refl)
+
+pub returns-in-Err-Memory-clause-known : goal.returns-in-Err-Memory-clause-known
+returns-in-Err-Memory-clause-known g c = (2, lit< tt, refl)

@@ -1,0 +1,13 @@
+//! The drawing program over any room.
+#![tactic(auto)]
+
+mod draw;
+mod program;
+mod refuse;
+mod sure;
+
+pub use program::drawlog;
+pub use sure::drawlog_surely;
+
+#[cfg(test)]
+mod tests;

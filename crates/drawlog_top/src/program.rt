@@ -1,0 +1,66 @@
+// The drawing program.
+ghost use Rattle.std.specs.Prelude.{◌≡◌, [], map, Contains, IfSome};
+ghost use Rattle.std.specs.String.{string_bytes};
+ghost use Rattle.room_edge.specs.Faults.{MissCounted, ReadFaultCounted, WriteFaultCounted};
+ghost use Rattle.frame_draw.specs.Drawing.{CanDraw};
+ghost use Rattle.answer_model.specs.Endings.{looked_for, EndsWith};
+ghost use Rattle.answer_model.specs.Headline.{WritesNothing};
+ghost use Rattle.asked_words.specs.Shown.{drawing_of};
+ghost use Rattle.drawlog_top.specs.Ends.{answer_to_file, DrawingEnds, DrawingCauses, read_statuses};
+
+use crate::draw::draw;
+use crate::refuse::refuse;
+use asked_words::{AskedDrawing, read_drawing_words};
+use quantity::MAX_LOG_BYTES;
+use room_edge::{ReadWhole, Room, read_whole};
+use std::alloc::Global;
+use told_lines::status::{MISSING, NO_MEMORY, READ_FAULT, USAGE};
+use told_lines::{complain, complain_named};
+
+// The most bytes that a log may have.
+const MOST_BYTES: u32 = MAX_LOG_BYTES as u32;
+
+// Reads the log and draws it.
+fn draw_asked<R: Room>(alloc: Global, room: &mut R, asked: &AskedDrawing<'_>) -> u8
+    requires { CanDraw asked.now.space asked.now.plane asked.now.width asked.now.decimals }
+    ensures ends { IfSome (R.outside room.old).files (λ files. EndsWith (answer_to_file (drawing_of asked.now) (files asked.now.log.now)) (looked_for []) (R.outside room.old) (R.outside room.new) result) }
+    ensures known { Contains read_statuses result }
+    ensures missing { result ≡ 3 → MissCounted (R.outside room.old) (R.outside room.new) }
+    ensures read_fault { result ≡ 4 → ReadFaultCounted (R.outside room.old) (R.outside room.new) }
+    ensures write_fault { result ≡ 5 → WriteFaultCounted (R.outside room.old) (R.outside room.new) }
+    ensures nothing { result ≡ 4 → WritesNothing (R.outside room.old) (R.outside room.new) }
+{
+    match read_whole(alloc, room, asked.log, MOST_BYTES) {
+        Ok(log) => draw(alloc, room, asked, &log),
+        Err(ReadWhole::Missing) => complain_named(alloc, room, b"missing: ", asked.log, MISSING),
+        Err(ReadWhole::ReadFault) => {
+            complain_named(alloc, room, b"read fault: ", asked.log, READ_FAULT)
+        }
+        Err(ReadWhole::TooLong(_)) => refuse(alloc, room, 0),
+        Err(ReadWhole::Memory) => NO_MEMORY,
+    }
+}
+
+/// Runs the drawing program for the words of a command line, of which the first is its name:
+/// `drawlog -l LOG -g GROUP -s SIZE [-w WIDTH] [-p DECIMALS] [-f PLANE]`. Answers what a process ends
+/// with, one of `told_lines::status`: the frames are shown; the words are refused; the log is missing; a
+/// read failed; a write failed; the log is refused; want of memory.
+pub fn drawlog<R: Room>(alloc: Global, words: &[String], room: &mut R) -> u8
+    // Where the files are told: the answer whole, or what a fault or want of memory leaves of it,
+    // with the line of that fault.
+    ensures ends { DrawingEnds (map string_bytes words.now) (R.outside room.old) (R.outside room.new) result }
+    // Over every room: each status only where its cause was counted, and 2 just where the words
+    // are refused and the complaint didn't fail.
+    ensures causes { DrawingCauses (map string_bytes words.now) (R.outside room.old) (R.outside room.new) result }
+    ensures nothing { result ≡ 4 → WritesNothing (R.outside room.old) (R.outside room.new) }
+{
+    match read_drawing_words(alloc, words) {
+        Ok(Some(asked)) => draw_asked(alloc, room, &asked),
+        Ok(None) => complain(
+            room,
+            b"usage: drawlog -l LOG -g GROUP -s SIZE [-w WIDTH] [-p DECIMALS] [-f PLANE]\n",
+            USAGE,
+        ),
+        Err(_) => NO_MEMORY,
+    }
+}

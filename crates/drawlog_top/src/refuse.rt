@@ -1,0 +1,31 @@
+// What is said of a log that is refused.
+ghost use Rattle.std.specs.Prelude.{◌≡◌, IfOk};
+ghost use Rattle.text_forms.specs.Lines.{ended};
+ghost use Rattle.answer_model.specs.Drawlog.{log_refused};
+ghost use Rattle.answer_model.specs.Endings.{Says};
+
+use quantity::OutOfMemory;
+use room_edge::Room;
+use std::alloc::Global;
+use told_lines::complain;
+use told_lines::status::{LOG_REFUSED, NO_MEMORY};
+
+/// The line that names the first line that is refused, or 0 for a log that is too long.
+fn refused_line(alloc: Global, line: u32) -> Result<Vec<u8>, OutOfMemory>
+    ensures { IfOk result (λ text. text.items ≡ ended (log_refused line)) }
+{
+    let mut text = b"log refused: line ".to_vec(alloc)?;
+    text.extend_from_slice(line.to_string(alloc)?.as_bytes())?;
+    text.extend_from_slice(b"\n")?;
+    Ok(text)
+}
+
+/// Tells that the log is refused at a line.
+pub(crate) fn refuse<R: Room>(alloc: Global, room: &mut R, line: u32) -> u8
+    ensures { Says (ended (log_refused line)) 13 (R.outside room.old) (R.outside room.new) result }
+{
+    let Ok(text) = refused_line(alloc, line) else {
+        return NO_MEMORY;
+    };
+    complain(room, &text, LOG_REFUSED)
+}
