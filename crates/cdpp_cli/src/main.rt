@@ -1,58 +1,110 @@
-//! The program over the real folder: `cdpp -m MODEL -t END [-l LOG]`.
+//! The program over the real folder, with a stock of 4096 boxes of each class: docs/COMMANDS.md has its words.
 #![tactic(auto)]
 
-ghost use Rattle.std.specs.Prelude.{◌≡◌, ◌<◌};
+ghost use Rattle.std.specs.Prelude.{◌≡◌, ◌<◌, ◌^◌, length};
 
+use atomic_face::{AtomicModel, Class};
+use atomic_kinds::{CounterModel, CpuModel, GeneratorModel, QueueModel};
 use cdpp_top::cdpp;
-use cdpp_top::status::{NO_MEMORY, USAGE, WRITE_FAULT};
-use ring_cells::Steps;
+use cell_engine::Steps;
+use quantity::OutOfMemory;
 use room_edge::FolderRoom;
-use std::alloc::Global;
-use std::env;
+use state_tables::TableModel;
+use std::alloc::{AllocError, Global};
+use std::env::{self, Env};
 use std::io::ErrorKind;
 use std::marker::Brand;
 use std::process::ExitCode;
 use std::sync::ledger::{Blank, Ledger};
+use told_lines::status::{NO_MEMORY, USAGE, WRITE_FAULT};
 
-// Words that are no text are refused as all others that the program doesn't take.
+/// The classes of the boxes, in the order in which they stand in the stock.
+const CLASSES: [Class; 5] = [
+    Class::Queue,
+    Class::Generator,
+    Class::Cpu,
+    Class::Counter,
+    Class::Table,
+];
+
+/// How many boxes there are of each class.
+const BOXES: usize = 4096;
+
+/// Words that are no text are refused as all others that the program doesn't take.
 fn refuse(rt: &impl Eprint) -> u8 {
-    match rt.eprintln("usage: cdpp -m MODEL -t END [-l LOG]") {
+    match rt.eprintln(
+        "usage: cdpp (-m MODEL | -G N) -t END [-e EVENTS] [-l LOG] [-o OUT] [-d FRAMES -g GROUP] [-L LETTERS] [-c LIMIT] [-w WIDTH] [-p DECIMALS] [-f PLANE]",
+    ) {
         Ok(()) => USAGE,
         Err(_) => WRITE_FAULT,
     }
 }
 
-// Runs the program with a counter of its own.
+/// Runs the program with a counter of its own.
 fn counted<L: Ledger>(
     alloc: Global,
     words: &[String],
+    boxes: Vec<Box<dyn AtomicModel>>,
     room: &mut FolderRoom<HostRuntime>,
     blank: Blank,
 ) -> u8
+    requires few { length boxes.items < 2 ^ 32 }
     requires name { blank.name ≡ L.name }
     requires parts { blank.parts ≡ L.parts }
     requires some { 0 < L.parts }
 {
     let mut steps: Steps<L> = Steps::new(blank);
-    cdpp(alloc, words, room, &mut steps)
+    cdpp(alloc, words, boxes, room, &mut steps)
 }
 
-fn main(rt: HostRuntime) -> ExitCode {
-    let alloc = rt.alloc();
-    let mut words: Vec<String> = Vec::new(alloc);
-    let args = match env::args(&rt) {
+/// The words of the command line; else the status to end with.
+fn words_of(rt: &(impl AllocGlobal + Env + Eprint)) -> Result<Vec<String>, u8> {
+    let mut words: Vec<String> = Vec::new(rt.alloc());
+    let args = match env::args(rt) {
         Ok(args) => args,
         Err(error) => match error.kind() {
-            ErrorKind::OutOfMemory => return ExitCode::from(NO_MEMORY),
-            _ => return ExitCode::from(refuse(&rt)),
+            ErrorKind::OutOfMemory => return Err(NO_MEMORY),
+            _ => return Err(refuse(rt)),
         },
     };
     for word in args {
         let Ok(()) = words.push(word) else {
-            return ExitCode::from(NO_MEMORY);
+            return Err(NO_MEMORY);
         };
     }
-    let mut room = FolderRoom::new(rt);
+    Ok(words)
+}
+
+/// Runs the program with all boxes.
+fn run_with_boxes(
+    alloc: Global,
+    words: &[String],
+    room: &mut FolderRoom<HostRuntime>,
+) -> Result<u8, OutOfMemory> {
+    let mut boxes: Vec<Box<dyn AtomicModel>> = Vec::new(alloc);
+    for number in 0..CLASSES.len() * BOXES {
+        let made: Box<dyn AtomicModel> = match CLASSES[number / BOXES] {
+            Class::Queue => Box::new(alloc, QueueModel::new(alloc)).map_err(AllocError::from)?,
+            Class::Generator => Box::new(alloc, GeneratorModel::new()).map_err(AllocError::from)?,
+            Class::Cpu => Box::new(alloc, CpuModel::new(alloc)).map_err(AllocError::from)?,
+            Class::Counter => Box::new(alloc, CounterModel::new()).map_err(AllocError::from)?,
+            Class::Table => Box::new(alloc, TableModel::new(alloc)?).map_err(AllocError::from)?,
+        };
+        let Ok(()) = boxes.push(made) else {
+            return Err(OutOfMemory);
+        };
+    }
     let blank = Blank::new(1);
-    ExitCode::from(counted::<Brand>(alloc, &words, &mut room, blank))
+    Ok(counted::<Brand>(alloc, words, boxes, room, blank))
+}
+
+fn main(rt: HostRuntime) -> ExitCode {
+    let alloc = rt.alloc();
+    let words = match words_of(&rt) {
+        Ok(words) => words,
+        Err(status) => return ExitCode::from(status),
+    };
+    let mut room = FolderRoom::new(rt);
+    let status = run_with_boxes(alloc, &words, &mut room).unwrap_or(NO_MEMORY);
+    ExitCode::from(status)
 }

@@ -1,18 +1,15 @@
-//! The program over any room.
+//! The program: words, a model, its events, and its run, over any room.
 #![tactic(auto)]
 
-mod complain;
-mod ending;
+mod events;
+pub mod laws;
 mod lines;
-mod log;
+mod outputs;
 mod program;
+mod reading;
 mod run;
-pub mod status;
 mod sure;
-mod words;
+mod tell;
 
-pub use program::cdpp;
+pub use program::{cdpp, cdpp_over};
 pub use sure::cdpp_surely;
-
-#[cfg(test)]
-mod tests;

@@ -1,42 +1,35 @@
-// The lines that are shown and complained.
+// Lines that are complained.
 ghost use Rattle.std.specs.Prelude.{◌≡◌, ◌++◌, IfOk};
 ghost use Rattle.text_forms.specs.Lines.{ended};
-ghost use Rattle.cdpp_top.specs.Lines.{end_text};
-ghost use Rattle.answer_model.specs.RunEnd.{many_line};
+ghost use Rattle.answer_model.specs.Answer.{refused_text};
 
-use quantity::{OutOfMemory, Time};
+use quantity::OutOfMemory;
 use std::alloc::Global;
 
-/// What is said of a file or a stream, on a line of its own.
-pub fn named_line(alloc: Global, what: &[u8], name: &str) -> Result<Vec<u8>, OutOfMemory>
+/// What is said of a file of this name.
+pub(crate) fn named_line(alloc: Global, what: &[u8], name: &[u8]) -> Result<Vec<u8>, OutOfMemory>
     ensures { IfOk result (λ line. line.items ≡ ended (what.now ++ name.now)) }
 {
     let mut line = what.to_vec(alloc)?;
-    line.extend_from_slice(name.as_bytes())?;
+    line.extend_from_slice(name)?;
     line.extend_from_slice(b"\n")?;
     Ok(line)
 }
 
-/// The line that is shown at the end.
-pub fn end_line(alloc: Global, end: Time, cycles: u64) -> Result<Vec<u8>, OutOfMemory>
-    ensures { IfOk result (λ line. line.items ≡ ended (end_text end cycles)) }
+/// What is refused, at which line and why.
+pub(crate) fn refused_line(
+    alloc: Global,
+    what: &[u8],
+    number: u32,
+    why: &[u8],
+) -> Result<Vec<u8>, OutOfMemory>
+    ensures { IfOk result (λ line. line.items ≡ ended (refused_text what.now number why.now)) }
 {
-    let mut line = b"end ".to_vec(alloc)?;
-    end.text(&mut line)?;
-    line.extend_from_slice(b" cycles ")?;
-    line.extend_from_slice(cycles.to_string(alloc)?.as_bytes())?;
-    line.extend_from_slice(b"\n")?;
-    Ok(line)
-}
-
-/// The line of a run that has too many cycles at one instant.
-pub fn many_cycles_line(alloc: Global, limit: u32, t: Time) -> Result<Vec<u8>, OutOfMemory>
-    ensures { IfOk result (λ line. line.items ≡ ended (many_line limit t)) }
-{
-    let mut line = b"too many cycles: limit ".to_vec(alloc)?;
-    line.extend_from_slice(limit.to_string(alloc)?.as_bytes())?;
-    line.extend_from_slice(b" at ")?;
-    t.text(&mut line)?;
+    let mut line = what.to_vec(alloc)?;
+    line.extend_from_slice(b" refused: line ")?;
+    line.extend_from_slice(number.to_string(alloc)?.as_bytes())?;
+    line.extend_from_slice(b": ")?;
+    line.extend_from_slice(why)?;
     line.extend_from_slice(b"\n")?;
     Ok(line)
 }

@@ -1,87 +1,66 @@
-// The loop of a run: cycle after cycle, each one's lines on the log.
-ghost use Rattle.std.specs.Prelude.{◌≡◌, ℕ, ◌≤◌, length, IfOk, OnOk, IsErrOf, IsSome};
-ghost use Rattle.quantity.specs.Bytes.{Bytes};
-ghost use Rattle.run_model.specs.Run.{done, too_many};
-ghost use Rattle.room_edge.specs.Outside.{OnlyMade};
-ghost use Rattle.room_edge.specs.Faults.{Rose};
-ghost use Rattle.answer_model.specs.Headline.{Begins};
-ghost use Rattle.cdpp_top.specs.AskedOf.{name_of};
-ghost use Rattle.cdpp_top.specs.Logged.{logs, IsAmong, FallsShortOn};
-ghost use Rattle.cdpp_top.specs.RunOf.{run_of, log_of};
-ghost use Rattle.cdpp_top.specs.Trouble as trouble;
+// The run of a model with its events.
+ghost use Rattle.std.specs.Prelude.{◌≡◌, ◌+◌, ◌≤◌, None, List};
+ghost use Rattle.model_tree.specs.Tree.{Word, ins_of};
+ghost use Rattle.run_model.specs.Run.{run as run_of};
+ghost use Rattle.run_model.specs.Visits.{visits};
+ghost use Rattle.sparse_cycle.specs.Feed.{AreAtInputs};
+ghost use Rattle.answer_model.specs.Cdpp.{answer_from};
+ghost use Rattle.answer_model.specs.Endings.{looked_for, EndsWith};
+ghost use Rattle.asked_words.specs.Shown.{asked_of};
+ghost use Rattle.cdpp_top.specs.Starting.{tree_on, MayStart};
+ghost use Rattle.cdpp_top.specs.Statuses.{EndsBy};
 
-use crate::log::write_log;
-use quantity::Time;
-use ring_cells::Steps;
-use ring_run::{Progress, RingRun, Stop};
-use room_edge::{Room, WriteError};
+use crate::outputs::outputs_of;
+use asked_words::Asked;
+use atomic_face::{AtomicModel, Stock};
+use event_list::Events;
+use flat_run::{FlatRun, Steps};
+use model_tree::Model;
+use room_edge::Room;
+use route_flat::Routes;
+use run_loop::run_and_tell;
 use std::alloc::Global;
 use std::sync::ledger::Ledger;
+use time_queue::LinkedQueue;
+use told_lines::status::NO_MEMORY;
 
-/// Why a run stops early.
-#[derive(Clone, Copy, Debug, PartialEq, Eq)]
-pub enum Trouble {
-    WriteFault,
-    Memory,
-    TooManyCycles(Time),
-}
-
-/// Runs at most so many cycles, and says how many there were. One that were due after them is one too many.
-pub fn run_cycles<R: Room, L: Ledger>(
+/// Runs a model with these events, and tells how that went.
+pub(crate) fn run_from<R: Room, M: AtomicModel, L: Ledger>(
     alloc: Global,
     room: &mut R,
-    log: Option<&str>,
-    run: &mut RingRun,
-    most: u64,
+    asked: &Asked<'_>,
+    model: Model,
+    routes: Routes,
+    stock: Stock<M>,
+    events: Events,
     steps: &mut Steps<L>,
-) -> Result<u64, Trouble>
-    requires { IsAmong (name_of log) (R.outside room.old).created }
-    ensures cycles { IfOk result (λ n. n ≡ length (run_of most run.old).cycles) }
-    ensures done { OnOk result ((run_of most run.old).verdict ≡ done) }
-    ensures many { (t : ℕ) → IsErrOf result (Trouble.TooManyCycles t) → (run_of most run.old).verdict ≡ too_many t }
-
-    // What is on the log: all of it, or a part where the call fails.
-    ensures log { OnOk result ((R.outside room.new).made ≡ logs (name_of log.entry) (R.outside room.old).made (log_of run.old.ring (run_of most run.old).cycles)) }
-    ensures log_many { (t : ℕ) → IsErrOf result (Trouble.TooManyCycles t) → (R.outside room.new).made ≡ logs (name_of log.entry) (R.outside room.old).made (log_of run.old.ring (run_of most run.old).cycles) }
-    ensures part { (part : Bytes) × Begins part (log_of run.old.ring (run_of most run.old).cycles) × ((R.outside room.new).made ≡ logs (name_of log.entry) (R.outside room.old).made part) }
-
-    ensures short { IsErrOf result Trouble.WriteFault → FallsShortOn (name_of log.entry) (log_of run.old.ring (run_of most run.old).cycles) (R.outside room.old).made (R.outside room.new).made }
-    ensures fault { IsErrOf result Trouble.WriteFault → Rose (R.outside room.old).write_faults (R.outside room.new).write_faults }
-    ensures some { IsErrOf result Trouble.WriteFault → IsSome log.entry }
-    ensures faults { (R.outside room.old).write_faults ≤ (R.outside room.new).write_faults }
-    ensures created { (R.outside room.new).created ≡ (R.outside room.old).created }
-    ensures only { OnlyMade (R.outside room.old) (R.outside room.new) }
+) -> u8
+    requires start { MayStart asked.now stock model routes }
+    requires at_inputs { AreAtInputs (ins_of (tree_on model stock)) events }
+    ensures ends { (inputs : List Word) → EndsWith
+        (answer_from (asked_of asked.now) (tree_on model stock) events inputs None)
+        (looked_for inputs) (R.outside room.old) (R.outside room.new) result }
+    ensures causes { EndsBy (R.outside room.old) (R.outside room.new) result }
+    // The visits that the reference run may cost.
+    ensures visits { let tree = tree_on model stock in
+        steps.new ≤ steps.old + visits tree (run_of tree events asked.now.end asked.now.limit) }
 {
-    let mut cycles: u64 = 0;
-    let mut left = most;
-    'cycles: loop {
-        let mut text: Vec<u8> = Vec::new(alloc);
-        let progress = match run.cycle(&mut text, steps) {
-            Ok(progress) => progress,
-            Err(stop) => return Err(trouble_of(stop)),
-        };
-        let t = match progress {
-            Progress::Cycled(t) => t,
-            Progress::Done => return Ok(cycles),
-        };
-        if left == 0 {
-            return Err(Trouble::TooManyCycles(t));
-        }
-        match write_log(room, log, &text) {
-            Ok(()) => {}
-            Err(WriteError::Failed) => return Err(Trouble::WriteFault),
-            Err(WriteError::Memory) => return Err(Trouble::Memory),
-        }
-        cycles += 1;
-        left -= 1;
-    }
-}
-
-fn trouble_of(stop: Stop) -> Trouble
-    ensures { result ≡ trouble.trouble_of stop }
-{
-    match stop {
-        Stop::TooManyCycles(t) => Trouble::TooManyCycles(t),
-        Stop::Memory => Trouble::Memory,
-    }
+    let Ok(queue) = LinkedQueue::with_leaves(alloc, model.leaves()) else {
+        return NO_MEMORY;
+    };
+    let run = FlatRun::new(
+        alloc,
+        model,
+        routes,
+        stock,
+        events,
+        queue,
+        asked.end,
+        asked.limit,
+    );
+    let Ok(mut run) = run else {
+        return NO_MEMORY;
+    };
+    let outputs = outputs_of(asked);
+    run_and_tell(alloc, room, &outputs, &mut run, steps)
 }

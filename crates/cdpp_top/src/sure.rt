@@ -1,12 +1,14 @@
 // Over a room that never fails, what comes is the answer.
-ghost use Rattle.std.specs.Prelude.{◌≡◌, ◌⊎◌, map, IfSome};
+ghost use Rattle.std.specs.Prelude.{◌≡◌, ◌<◌, ◌^◌, ◌⊎◌, length, map, IfSome};
 ghost use Rattle.std.specs.String.{string_bytes};
 ghost use Rattle.room_edge.specs.Sure.{sure_outside};
+ghost use Rattle.answer_model.specs.Cdpp.{answer};
 ghost use Rattle.answer_model.specs.Headline.{Writes};
-ghost use Rattle.cdpp_top.specs.Answer.{answer};
+ghost use Rattle.cdpp_top.specs.Starting.{classes_by};
 
 use crate::program::cdpp;
-use ring_cells::Steps;
+use atomic_face::AtomicModel;
+use flat_run::Steps;
 use room_edge::SureRoom;
 use std::alloc::Global;
 use std::sync::ledger::Ledger;
@@ -15,10 +17,15 @@ use std::sync::ledger::Ledger;
 pub fn cdpp_surely<L: Ledger>(
     alloc: Global,
     words: &[String],
+    boxes: Vec<Box<dyn AtomicModel>>,
     room: &mut SureRoom,
     steps: &mut Steps<L>,
 ) -> u8
-    ensures { IfSome (sure_outside room.old).files (λ files. (result ≡ 12) ⊎ Writes (answer (map string_bytes words.now) files) (sure_outside room.old) (sure_outside room.new) result) }
+    requires few { length boxes.items < 2 ^ 32 }
+    ensures { IfSome (sure_outside room.old).files (λ files. (result ≡ 12) ⊎ Writes
+        (answer (map string_bytes words.now) files
+        (classes_by (λ b. (AtomicModel-box b).held b.value) boxes.items))
+        (sure_outside room.old) (sure_outside room.new) result) }
 {
-    cdpp(alloc, words, room, steps)
+    cdpp(alloc, words, boxes, room, steps)
 }

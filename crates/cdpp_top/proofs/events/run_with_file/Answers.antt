@@ -1,0 +1,111 @@
+use Rattle.std.proofs.Common.{List, Some, None, [], ◌∷◌, ◌++◌, refl, sym, ◌∙◌, ap, subst, arith, lit<}
+use Rattle.std.proofs.lemmas.List.{append-nil}
+use Rattle.std.proofs.lemmas.Option.{IfSome_then}
+use Rattle.model_tree.specs.Tree.{Word, ins_of}
+use Rattle.event_list.specs.Events.{events_of}
+use Rattle.event_list.specs.declared.refusal.EventRefusal.TheVariants as E
+use Rattle.asked_words.specs.Shown.{asked_of}
+use Rattle.answer_model.specs.Answer.{Answer, only_complains}
+use Rattle.answer_model.specs.Refusals.{events_refused}
+use Rattle.answer_model.specs.Endings.{looked_for, EndsWith}
+use Rattle.answer_model.proofs.Stages.{then_ends, was_tried, read_failed, read_and_said, read_unread}
+use Rattle.cdpp_top.specs.Starting.{tree_on}
+use Rattle.cdpp_top.specs.Reading.{answer_by_events, answer_by_file}
+use Rattle.cdpp_top.proofs.Causing.{later_ends, said_ends, events_told, memory_ends}
+use Rattle.cdpp_top.proofs.Files.{file_begins, long_refused}
+use Rattle.cdpp_top.proofs.Reached.{if_some_all}
+use Rattle.cdpp_top.proofs.events.run_with_file.Goals as goal
+
+pub returns-in-Ok-clause-ends : goal.returns-in-Ok-clause-ends
+returns-in-Ok-clause-ends g c =
+    let a = asked_of c.args.asked.now in
+    let tree = tree_on c.args.model c.args.stock in
+    let name = c.args.name.now in
+    let old = g.R.Room.outside c.args.room.now in
+    let mid = g.R.Room.outside c.read_whole.new.room in
+    let new = g.R.Room.outside c.run_with_bytes.new.room in
+    let given = c.run_with_bytes.result in
+    let e = c.in-Ok.ensures in
+    IfSome_then old.files {Q = λ files. (inputs : List Word) → EndsWith (answer_by_file a tree name inputs (files name)) (looked_for inputs) old new given} e.bytes (λ files f inputs.
+    let y = answer_by_file a tree name inputs (Some c.in-Ok.bytes.items) in
+    let runs = subst (λ bytes. EndsWith (answer_by_events a tree (inputs ++ name ∷ []) (events_of bytes (ins_of tree))) (looked_for (inputs ++ name ∷ [])) mid new given) c.deref.ensures.value (c.run_with_bytes.ensures.ends (inputs ++ name ∷ [])) in
+    subst (λ (o : Answer). EndsWith o (looked_for inputs) old new given) (sym (ap (answer_by_file a tree name inputs) f.0))
+    (then_ends y (looked_for inputs) (looked_for (inputs ++ name ∷ [])) old mid new given
+    (was_tried y inputs old mid name (file_begins a tree name inputs (Some c.in-Ok.bytes.items)) e.tried e.only e.faults) runs))
+
+pub returns-in-Ok-clause-causes : goal.returns-in-Ok-clause-causes
+returns-in-Ok-clause-causes g c =
+    let e = c.in-Ok.ensures in
+    later_ends _ _ _ c.run_with_bytes.result e.only e.misses e.faults c.run_with_bytes.ensures.causes
+
+pub returns-in-Err-Missing-clause-ends : goal.returns-in-Err-Missing-clause-ends
+returns-in-Err-Missing-clause-ends g c =
+    let a = asked_of c.args.asked.now in
+    let tree = tree_on c.args.model c.args.stock in
+    let name = c.args.name.now in
+    let old = g.R.Room.outside c.args.room.now in
+    let mid = g.R.Room.outside c.read_whole.new.room in
+    let new = g.R.Room.outside c.complain_named.new.room in
+    let given = c.complain_named.result in
+    let e = rw c.in-Err-Missing.field-0-is at c.in-Err-Missing.ensures in
+    IfSome_then old.files {Q = λ files. (inputs : List Word) → EndsWith (answer_by_file a tree name inputs (files name)) (looked_for inputs) old new given} e.bytes (λ files f inputs.
+    subst (λ (o : Answer). EndsWith o (looked_for inputs) old new given) (sym (ap (answer_by_file a tree name inputs) f))
+    (read_and_said (answer_by_file a tree name inputs None) inputs old mid new name given (file_begins a tree name inputs None) refl refl e.tried e.only e.faults c.complain_named.ensures))
+
+pub returns-in-Err-Missing-clause-causes : goal.returns-in-Err-Missing-clause-causes
+returns-in-Err-Missing-clause-causes g c =
+    let e = rw c.in-Err-Missing.field-0-is at c.in-Err-Missing.ensures in
+    said_ends _ 3 _ _ _ c.complain_named.result (0, lit< tt, refl) (λ e. omega (arith, e)) (λ three. e.missing refl) (λ four. absurd (omega (arith, four))) e.only c.complain_named.ensures
+
+pub returns-in-Err-ReadFault-clause-ends : goal.returns-in-Err-ReadFault-clause-ends
+returns-in-Err-ReadFault-clause-ends g c =
+    let a = asked_of c.args.asked.now in
+    let tree = tree_on c.args.model c.args.stock in
+    let name = c.args.name.now in
+    let old = g.R.Room.outside c.args.room.now in
+    let mid = g.R.Room.outside c.read_whole.new.room in
+    let new = g.R.Room.outside c.complain_named-in-Err-ReadFault.new.room in
+    let given = c.complain_named-in-Err-ReadFault.result in
+    let e = rw c.in-Err-ReadFault.field-0-is at c.in-Err-ReadFault.ensures in
+    if_some_all old.files _ (λ files inputs.
+    read_failed (answer_by_file a tree name inputs (files name)) inputs old mid new name given (file_begins a tree name inputs (files name)) e.tried e.only e.faults (e.fault refl) c.complain_named-in-Err-ReadFault.ensures)
+
+pub returns-in-Err-ReadFault-clause-causes : goal.returns-in-Err-ReadFault-clause-causes
+returns-in-Err-ReadFault-clause-causes g c =
+    let e = rw c.in-Err-ReadFault.field-0-is at c.in-Err-ReadFault.ensures in
+    said_ends _ 4 _ _ _ c.complain_named-in-Err-ReadFault.result (1, lit< tt, refl) (λ e. omega (arith, e)) (λ three. absurd (omega (arith, three))) (λ four. e.fault refl) e.only c.complain_named-in-Err-ReadFault.ensures
+
+pub returns-in-Err-TooLong-clause-ends : goal.returns-in-Err-TooLong-clause-ends
+returns-in-Err-TooLong-clause-ends g c =
+    let a = asked_of c.args.asked.now in
+    let tree = tree_on c.args.model c.args.stock in
+    let name = c.args.name.now in
+    let old = g.R.Room.outside c.args.room.now in
+    let mid = g.R.Room.outside c.read_whole.new.room in
+    let new = g.R.Room.outside c.tell_events.new.room in
+    let given = c.tell_events.result in
+    let e = rw c.in-Err-TooLong.field-0-is at c.in-Err-TooLong.ensures in
+    IfSome_then old.files {Q = λ files. (inputs : List Word) → EndsWith (answer_by_file a tree name inputs (files name)) (looked_for inputs) old new given} e.bytes (λ files f inputs.
+    let x = only_complains 7 (events_refused (E.TooLarge 0)) (inputs ++ name ∷ []) in
+    let is = ap (answer_by_file a tree name inputs) f.1 ∙ ap (answer_by_events a tree (inputs ++ name ∷ [])) (long_refused f.0 (ins_of tree) (omega (arith, f.2, f.3))) in
+    subst (λ (o : Answer). EndsWith o (looked_for inputs) old new given) (sym is)
+    (read_and_said x inputs old mid new name given ([], sym (append-nil (inputs ++ name ∷ []))) refl refl e.tried e.only e.faults c.tell_events.ensures))
+
+pub returns-in-Err-TooLong-clause-causes : goal.returns-in-Err-TooLong-clause-causes
+returns-in-Err-TooLong-clause-causes g c =
+    let e = rw c.in-Err-TooLong.field-0-is at c.in-Err-TooLong.ensures in
+    events_told (E.TooLarge 0) _ _ _ c.tell_events.result e.only c.tell_events.ensures
+
+pub returns-clause-ends : goal.returns-clause-ends
+returns-clause-ends g c =
+    let a = asked_of c.args.asked.now in
+    let tree = tree_on c.args.model c.args.stock in
+    let name = c.args.name.now in
+    let old = g.R.Room.outside c.args.room.now in
+    let mid = g.R.Room.outside c.read_whole.new.room in
+    let e = rw c.in-Err-Memory.field-0-is at c.in-Err-Memory.ensures in
+    if_some_all old.files _ (λ files inputs.
+    read_unread (answer_by_file a tree name inputs (files name)) inputs old mid name (file_begins a tree name inputs (files name)) e.tried e.only e.faults)
+
+pub returns-clause-causes : goal.returns-clause-causes
+returns-clause-causes g c = memory_ends _ _

@@ -1,0 +1,30 @@
+use Rattle.model_tree.specs.declared.table.Model.{Model}
+use Rattle.route_flat.specs.declared.routes.Routes.{Routes}
+use Rattle.model_stock.specs.Settled.{classes_of}
+use Rattle.cdpp_top.proofs.Causing.{later_ends, model_told}
+use Rattle.cdpp_top.proofs.Reached.{runs_on, stops_at}
+use Rattle.cdpp_top.proofs.reading.read_asked.Goals as goal
+
+pub returns-in-Ok-clause-ends : goal.returns-in-Ok-clause-ends
+returns-in-Ok-clause-ends g c =
+    let old = g.R.Room.outside c.args.room.now in
+    let mid = g.R.Room.outside c.read_source.new.room in
+    let new = g.R.Room.outside c.run_with_events.new.room in
+    runs_on c.args.asked.now (classes_of c.args.stock) c.read_source.new.stock c.in-Ok.model c.in-Ok.routes old mid new c.run_with_events.result c.in-Ok.ensures.reads c.run_with_events.ensures.ends
+
+pub returns-in-Ok-clause-causes : goal.returns-in-Ok-clause-causes
+returns-in-Ok-clause-causes g c =
+    let e = c.in-Ok.ensures.reads in
+    later_ends _ _ _ c.run_with_events.result e.only e.misses e.faults c.run_with_events.ensures.causes
+
+pub returns-in-Err-clause-ends : goal.returns-in-Err-clause-ends
+returns-in-Err-clause-ends g c =
+    let old = g.R.Room.outside c.args.room.now in
+    let mid = g.R.Room.outside c.read_source.new.room in
+    let new = g.R.Room.outside c.tell_model.new.room in
+    stops_at c.args.asked.now (classes_of c.args.stock) c.read_source.new.stock c.in-Err.why old mid new c.tell_model.result c.in-Err.ensures.reads c.tell_model.ensures
+
+pub returns-in-Err-clause-causes : goal.returns-in-Err-clause-causes
+returns-in-Err-clause-causes g c =
+    let e = c.in-Err.ensures.reads in
+    model_told (Model × Routes) c.in-Err.why _ _ _ c.tell_model.result e.counted e.only c.tell_model.ensures

@@ -1,0 +1,108 @@
+// The events of a run, and the run.
+ghost use Rattle.std.specs.Prelude.{◌≡◌, ◌≤◌, List, IfSome, length};
+ghost use Rattle.model_tree.specs.Tree.{Word, ins_of};
+ghost use Rattle.event_list.specs.Events.{events_of};
+ghost use Rattle.answer_model.specs.Cdpp.{answer_with};
+ghost use Rattle.answer_model.specs.Endings.{looked_for, EndsWith};
+ghost use Rattle.asked_words.specs.Shown.{asked_of};
+ghost use Rattle.cdpp_top.specs.Starting.{tree_on, MayStart};
+ghost use Rattle.cdpp_top.specs.Statuses.{EndsBy};
+ghost use Rattle.cdpp_top.specs.Reading.{answer_by_file, answer_by_events};
+
+use crate::run::run_from;
+use crate::tell::tell_events;
+use answer_model::drawn::accepted_events_are_at_ports;
+use asked_words::Asked;
+use atomic_face::{AtomicModel, Stock};
+use event_list::{EventRefusal, Events};
+use flat_run::Steps;
+use model_tree::Model;
+use room_edge::{ReadWhole, Room, read_whole};
+use route_flat::Routes;
+use std::alloc::Global;
+use std::sync::ledger::Ledger;
+use told_lines::complain_named;
+use told_lines::status::{MISSING, NO_MEMORY, READ_FAULT};
+
+// The most bytes that a file of events may have.
+const LONGEST: u32 = 16_777_216;
+
+/// Reads the events, where there are to be some, and runs the model.
+pub(crate) fn run_with_events<R: Room, M: AtomicModel, L: Ledger>(
+    alloc: Global,
+    room: &mut R,
+    asked: &Asked<'_>,
+    model: Model,
+    routes: Routes,
+    stock: Stock<M>,
+    steps: &mut Steps<L>,
+) -> u8
+    requires { MayStart asked.now stock model routes }
+    ensures ends { IfSome (R.outside room.old).files (λ files. (inputs : List Word) → EndsWith
+        (answer_with (asked_of asked.now) files (tree_on model stock) inputs)
+        (looked_for inputs) (R.outside room.old) (R.outside room.new) result) }
+    ensures causes { EndsBy (R.outside room.old) (R.outside room.new) result }
+{
+    match asked.events {
+        None => {
+            let none = Events::none(alloc);
+            run_from(alloc, room, asked, model, routes, stock, none, steps)
+        }
+        Some(name) => run_with_file(alloc, room, asked, name, model, routes, stock, steps),
+    }
+}
+
+/// Reads the events of a file, and runs the model.
+fn run_with_file<R: Room, M: AtomicModel, L: Ledger>(
+    alloc: Global,
+    room: &mut R,
+    asked: &Asked<'_>,
+    name: &str,
+    model: Model,
+    routes: Routes,
+    stock: Stock<M>,
+    steps: &mut Steps<L>,
+) -> u8
+    requires { MayStart asked.now stock model routes }
+    ensures ends { IfSome (R.outside room.old).files (λ files. (inputs : List Word) → EndsWith
+        (answer_by_file (asked_of asked.now) (tree_on model stock) name.now inputs (files name.now))
+        (looked_for inputs) (R.outside room.old) (R.outside room.new) result) }
+    ensures causes { EndsBy (R.outside room.old) (R.outside room.new) result }
+{
+    match read_whole(alloc, room, name, LONGEST) {
+        Ok(bytes) => run_with_bytes(alloc, room, asked, &bytes, model, routes, stock, steps),
+        Err(ReadWhole::Missing) => complain_named(alloc, room, b"missing: ", name, MISSING),
+        Err(ReadWhole::ReadFault) => {
+            complain_named(alloc, room, b"read fault: ", name, READ_FAULT)
+        }
+        Err(ReadWhole::TooLong(_)) => tell_events(alloc, room, EventRefusal::TooLarge(0)),
+        Err(ReadWhole::Memory) => NO_MEMORY,
+    }
+}
+
+/// Reads the events of these bytes, and runs the model.
+fn run_with_bytes<R: Room, M: AtomicModel, L: Ledger>(
+    alloc: Global,
+    room: &mut R,
+    asked: &Asked<'_>,
+    bytes: &[u8],
+    model: Model,
+    routes: Routes,
+    stock: Stock<M>,
+    steps: &mut Steps<L>,
+) -> u8
+    requires start { MayStart asked.now stock model routes }
+    requires short { length bytes.now ≤ 16777216 }
+    ensures ends { (inputs : List Word) → EndsWith
+        (answer_by_events (asked_of asked.now) (tree_on model stock) inputs
+        (events_of bytes.now (ins_of (tree_on model stock))))
+        (looked_for inputs) (R.outside room.old) (R.outside room.new) result }
+    ensures causes { EndsBy (R.outside room.old) (R.outside room.new) result }
+{
+    accepted_events_are_at_ports();
+    let read = Events::read(alloc, bytes, &model.top().ins);
+    match read {
+        Ok(events) => run_from(alloc, room, asked, model, routes, stock, events, steps),
+        Err(why) => tell_events(alloc, room, why),
+    }
+}

@@ -1,8 +1,0 @@
-pub mod Asked
-pub mod Idle
-pub mod LineTexts
-pub mod Logs
-pub mod Looped
-pub mod Moves
-pub mod Reference
-pub mod Starts

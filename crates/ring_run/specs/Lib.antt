@@ -1,4 +1,0 @@
-pub mod Holds
-pub mod RingCycle
-pub mod Standing
-pub mod Steps
