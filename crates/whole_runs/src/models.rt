@@ -1,0 +1,524 @@
+// The models that are run, and long logs of them.
+
+/// Three cells in a ring: a cell is 1 where one of the three is.
+pub(crate) const RING: &str = "[top]
+components : line
+[line]
+type : cell
+dim : (1,3)
+delay : transport
+defaultDelayTime : 100
+border : wrapped
+neighbors : line(0,-1) line(0,0) line(0,1)
+initialvalue : 0
+initialrowvalue : 0 010
+localtransition : r
+[r]
+rule : 1 100 { truecount = 1 }
+rule : 0 100 { t }
+";
+
+/// The log of the ring: five lines of 45 bytes.
+pub(crate) const RING_LOG: &str = "Y / 00:00:00:000 / line(0,0) / out / 0.00000
+Y / 00:00:00:000 / line(0,1) / out / 1.00000
+Y / 00:00:00:000 / line(0,2) / out / 0.00000
+Y / 00:00:00:100 / line(0,0) / out / 1.00000
+Y / 00:00:00:100 / line(0,2) / out / 1.00000
+";
+
+/// Life with a blinker, a comment, capitals, and a rule over two lines.
+pub(crate) const LIFE: &str = "[Top]
+components : Life
+[Life]          % Conway
+type : cell
+width : 5
+height : 5
+delay : transport
+defaultDelayTime : 100
+border : wrapped
+neighbors : life(-1,-1) life(-1,0) life(-1,1)
+neighbors : life(0,-1) life(0,0) life(0,1)
+neighbors : life(1,-1) life(1,0) life(1,1)
+initialvalue : 0
+initialrowvalue : 2 01110
+localtransition : life-rule
+[life-rule]
+rule : 1 100 { (0,0) = 1 and
+   (trueCount = 3 or trueCount = 4) }
+rule : 1 100 { (0,0) = 0 and trueCount = 3 }
+rule : 0 100 { t }
+";
+
+/// The log of the blinker up to 300.
+pub(crate) const LIFE_LOG: &str = "Y / 00:00:00:000 / life(0,0) / out / 0.00000
+Y / 00:00:00:000 / life(0,1) / out / 0.00000
+Y / 00:00:00:000 / life(0,2) / out / 0.00000
+Y / 00:00:00:000 / life(0,3) / out / 0.00000
+Y / 00:00:00:000 / life(0,4) / out / 0.00000
+Y / 00:00:00:000 / life(1,0) / out / 0.00000
+Y / 00:00:00:000 / life(1,1) / out / 0.00000
+Y / 00:00:00:000 / life(1,2) / out / 0.00000
+Y / 00:00:00:000 / life(1,3) / out / 0.00000
+Y / 00:00:00:000 / life(1,4) / out / 0.00000
+Y / 00:00:00:000 / life(2,0) / out / 0.00000
+Y / 00:00:00:000 / life(2,1) / out / 1.00000
+Y / 00:00:00:000 / life(2,2) / out / 1.00000
+Y / 00:00:00:000 / life(2,3) / out / 1.00000
+Y / 00:00:00:000 / life(2,4) / out / 0.00000
+Y / 00:00:00:000 / life(3,0) / out / 0.00000
+Y / 00:00:00:000 / life(3,1) / out / 0.00000
+Y / 00:00:00:000 / life(3,2) / out / 0.00000
+Y / 00:00:00:000 / life(3,3) / out / 0.00000
+Y / 00:00:00:000 / life(3,4) / out / 0.00000
+Y / 00:00:00:000 / life(4,0) / out / 0.00000
+Y / 00:00:00:000 / life(4,1) / out / 0.00000
+Y / 00:00:00:000 / life(4,2) / out / 0.00000
+Y / 00:00:00:000 / life(4,3) / out / 0.00000
+Y / 00:00:00:000 / life(4,4) / out / 0.00000
+Y / 00:00:00:100 / life(1,2) / out / 1.00000
+Y / 00:00:00:100 / life(2,1) / out / 0.00000
+Y / 00:00:00:100 / life(2,3) / out / 0.00000
+Y / 00:00:00:100 / life(3,2) / out / 1.00000
+Y / 00:00:00:200 / life(1,2) / out / 0.00000
+Y / 00:00:00:200 / life(2,1) / out / 1.00000
+Y / 00:00:00:200 / life(2,3) / out / 1.00000
+Y / 00:00:00:200 / life(3,2) / out / 0.00000
+Y / 00:00:00:300 / life(1,2) / out / 1.00000
+Y / 00:00:00:300 / life(2,1) / out / 0.00000
+Y / 00:00:00:300 / life(2,3) / out / 0.00000
+Y / 00:00:00:300 / life(3,2) / out / 1.00000
+";
+
+/// A cell that takes values at a port.
+pub(crate) const PORT_CELL: &str = "[top]
+components : g
+in : p
+link : p in@g
+[g]
+type : cell
+dim : (1,1)
+delay : transport
+defaultDelayTime : 100
+border : nowrapped
+initialvalue : 0
+in : in
+link : in v@g(0,0)
+localtransition : r
+[r]
+rule : 0 100 { t }
+";
+
+/// The same with an inertial delay.
+pub(crate) const LATE_CELL: &str = "[top]
+components : g
+in : p
+link : p in@g
+[g]
+type : cell
+dim : (1,1)
+delay : inertial
+defaultDelayTime : 100
+border : nowrapped
+initialvalue : 0
+in : in
+link : in v@g(0,0)
+localtransition : r
+[r]
+rule : 0 100 { t }
+";
+
+/// The same with a rule of its port, whose delay shrinks with the time.
+pub(crate) const PORT_RULE: &str = "[top]
+components : g
+in : p
+link : p in@g
+[g]
+type : cell
+dim : (1,1)
+delay : transport
+defaultDelayTime : 100
+border : nowrapped
+initialvalue : 0
+in : in
+link : in v@g(0,0)
+localtransition : r
+portInTransition : v@g(0,0) pr
+[r]
+rule : 0 100 { t }
+[pr]
+rule : { portValue(thisPort) } { 110 - time } { t }
+";
+
+/// A cell whose one rule compares with `?`.
+pub(crate) const COMPARED: &str = "[top]
+components : g
+[g]
+type : cell
+dim : (1,1)
+neighbors : g(0,0)
+initialvalue : 0
+localtransition : r
+[r]
+rule : 1 100 { (0,0) > ? }
+";
+
+/// Two generators and a queue.
+pub(crate) const SERVED: &str = "[top]
+components : s h@generator q@queue
+out : o
+link : out@h in@q
+link : a@s in@q
+link : b@s in@q
+link : out@q o
+[s]
+components : g@generator
+out : a b
+link : out@g a
+link : out@g b
+[g]
+value : 7
+count : 1
+[h]
+value : 8
+count : 1
+";
+
+/// Two cells in a ring, each of which has the other twice as a neighbour.
+pub(crate) const PAIR: &str = "[top]
+components : line
+[line]
+type : cell
+dim : (1,2)
+delay : transport
+defaultDelayTime : 100
+border : wrapped
+neighbors : line(0,-1) line(0,1)
+initialvalue : 0
+initialrowvalue : 0 01
+localtransition : r
+[r]
+rule : 1 100 { truecount = 2 }
+rule : 0 100 { t }
+";
+
+/// Each cell sees the next one alone.
+pub(crate) const ONE_SIDE: &str = "[top]
+components : line
+[line]
+type : cell
+dim : (1,3)
+delay : transport
+defaultDelayTime : 100
+border : nowrapped
+neighbors : line(0,1)
+initialvalue : 0
+initialrowvalue : 0 001
+localtransition : r
+[r]
+rule : { (0,1) } 100 { not isundefined((0,1)) }
+rule : 0 100 { t }
+";
+
+/// Each cell of four counts what it does not see.
+pub(crate) const CORNERS: &str = "[Top]
+components : Life
+[Life]          % Conway
+type : cell
+width : 2
+height : 2
+delay : transport
+defaultDelayTime : 100
+border : nowrapped
+neighbors : life(-1,-1) life(-1,0) life(-1,1)
+neighbors : life(0,-1) life(0,0) life(0,1)
+neighbors : life(1,-1) life(1,0) life(1,1)
+initialvalue : 0
+localtransition : life-rule
+[life-rule]
+rule : { undefcount } 100 { t }
+";
+
+/// A cell that changes without a delay.
+pub(crate) const FLIPPING: &str = "[top]
+components : g
+[g]
+type : cell
+dim : (1,1)
+neighbors : g(0,0)
+initialvalue : 0
+localtransition : r
+[r]
+rule : { 1 - (0,0) } 0 { t }
+";
+
+/// A product that is too large.
+pub(crate) const TOO_LARGE: &str = "[top]
+components : g
+[g]
+type : cell
+dim : (1,1)
+neighbors : g(0,0)
+initialvalue : 0
+localtransition : r
+[r]
+rule : { 100000 * 100001 } 100 { t }
+";
+
+/// The largest product.
+pub(crate) const LARGEST: &str = "[top]
+components : g
+[g]
+type : cell
+dim : (1,1)
+neighbors : g(0,0)
+initialvalue : 0
+localtransition : r
+[r]
+rule : { 100000 * 100000 } 100 { t }
+";
+
+/// A function of chance.
+pub(crate) const RANDOM: &str = "[top]
+components : g
+[g]
+type : cell
+dim : (1,1)
+neighbors : g(0,0)
+initialvalue : 0
+localtransition : r
+[r]
+rule : { uniform(0,1) } 100 { t }
+";
+
+/// A cell that is no neighbour.
+pub(crate) const STRANGER: &str = "[top]
+components : g
+[g]
+type : cell
+dim : (1,1)
+neighbors : g(0,0)
+initialvalue : 0
+localtransition : r
+[r]
+rule : { (0,1) } 100 { t }
+";
+
+/// A value and a truth are added.
+pub(crate) const MIXED: &str = "[top]
+components : g
+[g]
+type : cell
+dim : (1,1)
+neighbors : g(0,0)
+initialvalue : 0
+localtransition : r
+[r]
+rule : { (0,0) + t } 100 { t }
+";
+
+/// A function that there is not.
+pub(crate) const NO_FUNCTION: &str = "[top]
+components : g
+[g]
+type : cell
+dim : (1,1)
+neighbors : g(0,0)
+initialvalue : 0
+localtransition : r
+[r]
+rule : { power(2,3) } 100 { t }
+";
+
+/// A brace that is never closed.
+pub(crate) const OPEN: &str = "[top]
+components : g
+[g]
+type : cell
+dim : (1,1)
+neighbors : g(0,0)
+initialvalue : 0
+localtransition : r
+[r]
+rule : 1 100 { t
+";
+
+/// Four cells in two planes, whose values come from a file.
+pub(crate) const PLANES: &str = "[top]
+components : g
+[g]
+type : cell
+dim : (1,2,2)
+initialvalue : 1
+initialcellsvalue : v.val
+localtransition : r
+[r]
+rule : 0 100 { t }
+";
+
+/// A generator and a counter, which grows too large.
+pub(crate) const COUNTING: &str = "[top]
+components : g@generator c@counter
+out : o
+link : out@g in@c
+link : out@c o
+[g]
+period : 00:00:00:010
+[c]
+step : 6000000000
+";
+
+/// A cell, before its rules.
+pub(crate) const RULED: &str = "[top]
+components : g
+[g]
+type : cell
+dim : (1,1)
+neighbors : g(0,0)
+initialvalue : 0
+localtransition : r
+[r]
+";
+
+/// Four links from a component to a queue, before the sections of its parts.
+pub(crate) const PATHS: &str = "[top]
+components : s15 q@queue
+link : a@s15 in@q
+link : a@s15 done@q
+link : b@s15 in@q
+link : b@s15 done@q
+";
+
+/// The same with an output.
+pub(crate) const PATHS_OUT: &str = "[top]
+components : s15 q@queue
+out : o
+link : out@q o
+link : a@s15 in@q
+link : a@s15 done@q
+link : b@s15 in@q
+link : b@s15 done@q
+";
+
+/// Life in a large space, whose values come from a file.
+pub(crate) const QUIET: &str = "[Top]
+components : Life
+[Life]          % Conway
+type : cell
+width : 50
+height : 50
+delay : transport
+defaultDelayTime : 100
+border : wrapped
+neighbors : life(-1,-1) life(-1,0) life(-1,1)
+neighbors : life(0,-1) life(0,0) life(0,1)
+neighbors : life(1,-1) life(1,0) life(1,1)
+initialvalue : 0
+initialcellsvalue : blink.val
+localtransition : life-rule
+[life-rule]
+rule : 1 100 { (0,0) = 1 and
+   (trueCount = 3 or trueCount = 4) }
+rule : 1 100 { (0,0) = 0 and trueCount = 3 }
+rule : 0 100 { t }
+";
+
+/// The ring in capitals, with a comment and a rule over two lines.
+pub(crate) const SHOUTED: &str = "[TOP]
+COMPONENTS : LINE
+[LINE]
+TYPE : CELL
+DIM : (1,3) % X
+DELAY : TRANSPORT
+DEFAULTDELAYTIME : 100
+BORDER : WRAPPED
+NEIGHBORS : LINE(0,-1) LINE(0,0) LINE(0,1)
+INITIALVALUE : 0
+INITIALROWVALUE : 0 010
+LOCALTRANSITION : R
+[R]
+RULE : 1 100 {
+ TRUECOUNT = 1 }
+RULE : 0 100 { T }
+";
+
+/// A cell with a port besides `out`.
+pub(crate) const TWO_PORTS: &str = "[top]
+components : g
+[g]
+type : cell
+dim : (1,1)
+neighbors : g(0,0)
+neighborports : p
+portvalues : 0
+initialvalue : 0
+localtransition : r
+[r]
+rule : { ~p := (0,0)~p + 1; ~out := (0,0) + (0,0)~p; } 100 { time < 200 }
+rule : { (0,0) } 100 { t }
+";
+
+/// A cell that counts down in a variable.
+pub(crate) const COUNTS_DOWN: &str = "[top]
+components : g
+[g]
+type : cell
+dim : (1,1)
+neighbors : g(0,0)
+statevariables : n
+statevalues : 3
+initialvalue : 0
+localtransition : r
+[r]
+rule : { $n } { $n := $n - 1; } 100 { $n > 0 }
+rule : 9 100 { t }
+";
+
+/// Three cells, the middle one in two zones: the first holds.
+pub(crate) const ZONES: &str = "[top]
+components : line
+[line]
+type : cell
+dim : (1,3)
+neighbors : line(0,0)
+initialvalue : 0
+localtransition : r
+zone : a { (0,0)..(0,1) }
+zone : b { (0,1) }
+[r]
+rule : 0 100 { t }
+[a]
+rule : 1 100 { t }
+[b]
+rule : 2 100 { t }
+";
+
+/// Three cells with a delay that is replaced: the ends change at 10 and at 30, and the middle one counts them.
+pub(crate) const REPLACED: &str = "[top]
+components : line
+[line]
+type : cell
+dim : (1,3)
+border : nowrapped
+delay : inertial
+neighbors : line(0,-1) line(0,1)
+initialvalue : 0
+localtransition : r
+[r]
+rule : 1 10 { cellpos(1) = 0 }
+rule : 1 30 { cellpos(1) = 2 }
+rule : { truecount } 100 { t }
+";
+
+/// A light whose states stand in the model.
+pub(crate) const LIGHT: &str = "[top]
+components : l@table
+in : p
+out : o
+link : p a@l
+link : out@l o
+[l]
+states : red green
+hold : red 00:00:00:030 1 green
+hold : green 00:00:00:050 2 red
+take : green a 9 red
+";
