@@ -1,9 +1,9 @@
 -- Lists in pieces of one width.
-use Rattle.std.proofs.Common.{◌≡◌, ℕ, ◌+◌, ◌*◌, ◌<◌, ◌≤◌, Bool, cond, List, [], ◌∷◌, ◌++◌, length, add-zero, count_by, get_or, drop, map, sym, ap, ◌∙◌, arith, inl, inr}
+use Rattle.std.proofs.Common.{◌≡◌, ℕ, ◌+◌, ◌*◌, ◌<◌, ◌≤◌, Bool, cond, List, [], ◌∷◌, ◌++◌, length, take, suc, zero, add-zero, add-one, mul-one, refl, subst, count_by, get_or, drop, map, sym, ap, ◌∙◌, arith, inl, inr}
 use Rattle.std.specs.Prelude.{slice_get, ℤ}
 use Rattle.std.specs.Option.{unwrap_or}
 use Rattle.std.specs.List.{range_with_len}
-use Rattle.std.proofs.lemmas.List.{get_or-take, get_or-drop, get_or_past, length-take, map-append}
+use Rattle.std.proofs.lemmas.List.{take_more, take_all, get_or-take, get_or-drop, get_or_past, length-take, map-append}
 use Rattle.std.proofs.lemmas.List.Sums.{sum_by-append}
 use Rattle.std.proofs.lemmas.List.FromFn.{get_or-map-range_with_len, length-map-range_with_len, map-range_with_len_more}
 use Rattle.std.proofs.lemmas.Bool.{cases_lt}
@@ -80,3 +80,20 @@ counts_here wanted values width k count b h so_far is =
 -- a number's count
 pub counted_number : (v : Value) (x : ℤ) (vs : List Value) → v ≡ Num x → state_count v vs ≡ whole (how_many v vs)
 counted_number v x vs is = ap (λ (w : Value). state_count w vs) is ∙ ap (λ (w : Value). whole (how_many w vs)) (sym is)
+
+firsts_taken : (values : List Value) (k : ℕ) → k ≤ length values → map (λ vs. value_at vs 0) (map (piece values 1) (range_with_len 0 k)) ≡ take k values
+firsts_taken values zero h = refl
+firsts_taken values (suc k) h =
+    let P : ℕ → Type 0 = λ n. map (λ vs. value_at vs 0) (map (piece values 1) (range_with_len 0 n)) ≡ take n values in
+    subst P (add-one k)
+    (first_more values 1 k (omega arith)
+    ∙ ap (λ (vs : List Value). vs ++ value_at values (k * 1) ∷ []) (firsts_taken values k (omega arith))
+    ∙ ap (λ (v : Value). take k values ++ v ∷ []) (ap (value_at values) (mul-one k) ∙ value_at-get values k)
+    ∙ sym (take_more values k Undefined (omega arith)))
+
+-- the firsts of pieces of one value are all values
+pub all_firsts : (values : List Value) (width pieces : ℕ) → width ≡ 1 → length values ≡ pieces * width → map (λ vs. value_at vs 0) (map (piece values width) (range_with_len 0 pieces)) ≡ values
+all_firsts values width pieces one whole =
+    let few : length values ≡ pieces = whole ∙ ap (λ w. pieces * w) one ∙ mul-one pieces in
+    ap (λ w. map (λ (vs : List Value). value_at vs 0) (map (piece values w) (range_with_len 0 pieces))) one
+    ∙ firsts_taken values pieces (omega arith) ∙ ap (λ k. take k values) (sym few) ∙ take_all (length values) values (omega arith)

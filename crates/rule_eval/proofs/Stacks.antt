@@ -54,5 +54,5 @@ pub pushed_is : (o : Option Answer) (st : List Answer) (a : Answer) (after : Lis
 pushed_is o st a after is on = ap (λ p. pushed p st) is ∙ ap Some (sym on)
 
 -- a slice to the end is what is left from its start on
-pub slice_rest : (xs : List Answer) (k : ℕ) → take (length xs - k) (drop k xs) ≡ drop k xs
+pub slice_rest : {A : Type 0} (xs : List A) (k : ℕ) → take (length xs - k) (drop k xs) ≡ drop k xs
 slice_rest xs k = take_all (length xs - k) (drop k xs) (omega (arith, length-drop k xs))

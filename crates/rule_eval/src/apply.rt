@@ -40,6 +40,7 @@ pub(crate) fn apply_unary(operator: Unary, a: Answer) -> Answer
     }
 }
 
+#[inline(always)]
 pub(crate) fn apply_binary(operator: Binary, a: Answer, b: Answer) -> Result<Answer, Overflow>
     ensures { result_ok result ≡ two_meaning operator a b }
 {

@@ -1,8 +1,9 @@
 // Evaluation of rules on a stack.
-ghost use Rattle.std.specs.Prelude.{◌≡◌, ◌≤◌, List, All, map, length, vec_capacity, slice_set};
+ghost use Rattle.std.specs.Prelude.{◌≡◌, ◌≤◌, List, [], ◌∷◌, All, IfSome, map, length, vec_capacity, slice_set};
 ghost use Rattle.rule_tree.specs.Expression.{Rule};
 ghost use Rattle.rule_tree.specs.Chosen.{chosen};
 ghost use Rattle.rule_eval.specs.Seen.{IsView, seen, sight_of};
+ghost use Rattle.rule_eval.specs.Kept.{AreCounts};
 ghost use Rattle.rule_eval.specs.Depth.{depth_of};
 ghost use Rattle.rule_eval.specs.RuleCodes.{codes_of, deepest, rule_depth};
 ghost use Rattle.rule_eval.specs.Numbered.{plain};
@@ -11,6 +12,7 @@ ghost use Rattle.rule_eval.specs.Evaluated.{Evaluates, Makes, GivesValues, SetsV
 
 use crate::apply::{number_in, truth_in};
 use crate::code::Op;
+use crate::counts::Counts;
 use crate::given::Given;
 use crate::machine::run;
 use crate::numbered::NumberedCode;
@@ -39,7 +41,8 @@ pub fn evaluate(
         → Evaluates (chosen trees (sight_of view.now)) result changed.new }
     ensures stack { stack.new ≡ stack.old }
 {
-    first_true(rules, view, changed, &mut stack.answers)
+    let mut counts = Counts::none(view);
+    first_true(rules, view, changed, &mut counts, &mut stack.answers)
 }
 
 #[tactic(auto, using(crate::proofs::Making::first_here, crate::proofs::Stacks::drop_end))]
@@ -47,30 +50,43 @@ fn first_true(
     rules: &[RuleCode],
     view: &View,
     changed: &mut [Value],
+    counts: &mut Counts,
     answers: &mut Vec<Answer>,
 ) -> Result<(Given, Time), RuleStop>
     requires view { IsView view.now }
+    requires counts { AreCounts counts.old view.now }
     requires variables { length changed.old ≡ length view.now.variables.now }
     requires room { All (λ rule. rule_depth rule ≤ vec_capacity answers.old) rules.now }
     ensures value { Makes (first_by_code rules.now (sight_of view.now)) result changed.new }
     ensures capacity { vec_capacity answers.new ≡ vec_capacity answers.old }
+    ensures counts { AreCounts counts.new view.now }
 {
     for rule in rules {
-        match condition(rule, view, answers)? {
-            Tri::True => return give(rule, view, changed, answers),
+        match condition(rule, view, counts, answers)? {
+            Tri::True => return give(rule, view, changed, counts, answers),
             Tri::False | Tri::Undef => {}
         }
     }
     Err(RuleStop::NoTrueRule)
 }
 
-fn condition(rule: &RuleCode, view: &View, answers: &mut Vec<Answer>) -> Result<Tri, RuleStop>
+fn condition(
+    rule: &RuleCode,
+    view: &View,
+    counts: &mut Counts,
+    answers: &mut Vec<Answer>,
+) -> Result<Tri, RuleStop>
     requires view { IsView view.now }
+    requires counts { AreCounts counts.old view.now }
     requires room { rule_depth rule.now ≤ vec_capacity answers.old }
     ensures value { result ≡ truth_by_code rule.now.condition (sight_of view.now) }
     ensures capacity { vec_capacity answers.new ≡ vec_capacity answers.old }
+    ensures counts { AreCounts counts.new view.now }
 {
-    match run(&rule.condition, view, view.variables, answers) {
+    if let Some(truth) = plain_truth(&rule.condition) {
+        return Ok(truth);
+    }
+    match run(&rule.condition, view, view.variables, counts, answers) {
         Ok(answer) => Ok(truth_in(answer)),
         Err(stop) => Err(stop),
     }
@@ -81,19 +97,22 @@ fn give(
     rule: &RuleCode,
     view: &View,
     changed: &mut [Value],
+    counts: &mut Counts,
     answers: &mut Vec<Answer>,
 ) -> Result<(Given, Time), RuleStop>
     requires view { IsView view.now }
+    requires counts { AreCounts counts.old view.now }
     requires variables { length changed.old ≡ length view.now.variables.now }
     requires room { rule_depth rule.now ≤ vec_capacity answers.old }
     ensures value { Makes (made_by_code rule.now (sight_of view.now)) result changed.new }
     ensures capacity { vec_capacity answers.new ≡ vec_capacity answers.old }
+    ensures counts { AreCounts counts.new view.now }
 {
-    let given = give_values(&rule.gives, view, answers)?;
-    let delay = number(&rule.delay, view, view.variables, answers)?;
+    let given = give_values(&rule.gives, view, counts, answers)?;
+    let delay = number(&rule.delay, view, view.variables, counts, answers)?;
     let delay = delay_in(&delay)?;
     changed.copy_from_slice(view.variables);
-    set_variables(&rule.sets, view, changed, answers)?;
+    set_variables(&rule.sets, view, changed, counts, answers)?;
     Ok((given, delay))
 }
 
@@ -101,16 +120,19 @@ fn give(
 fn give_values(
     gives: &[NumberedCode],
     view: &View,
+    counts: &mut Counts,
     answers: &mut Vec<Answer>,
 ) -> Result<Given, RuleStop>
     requires view { IsView view.now }
+    requires counts { AreCounts counts.old view.now }
     requires room { deepest (map plain gives.now) ≤ vec_capacity answers.old }
     ensures value { GivesValues (given_by_code (map plain gives.now) (sight_of view.now) no_values) result }
     ensures capacity { vec_capacity answers.new ≡ vec_capacity answers.old }
+    ensures counts { AreCounts counts.new view.now }
 {
     let mut given = Given { values: [None; 4] };
     for give in gives {
-        let value = number(&give.code, view, view.variables, answers)?;
+        let value = number(&give.code, view, view.variables, counts, answers)?;
         given.put(give.number, value);
     }
     Ok(given)
@@ -121,15 +143,18 @@ fn set_variables(
     sets: &[NumberedCode],
     view: &View,
     changed: &mut [Value],
+    counts: &mut Counts,
     answers: &mut Vec<Answer>,
 ) -> Result<(), RuleStop>
     requires view { IsView view.now }
+    requires counts { AreCounts counts.old view.now }
     requires room { deepest (map plain sets.now) ≤ vec_capacity answers.old }
     ensures value { SetsVariables (set_by_code (map plain sets.now) (seen view.now changed.old)) result changed.new }
     ensures capacity { vec_capacity answers.new ≡ vec_capacity answers.old }
+    ensures counts { AreCounts counts.new view.now }
 {
     for set in sets {
-        let value = number(&set.code, view, changed, answers)?;
+        let value = number(&set.code, view, changed, counts, answers)?;
         put(changed, usize::from(set.number), value);
     }
     Ok(())
@@ -148,16 +173,42 @@ fn number(
     code: &[Op],
     view: &View,
     variables: &[Value],
+    counts: &mut Counts,
     answers: &mut Vec<Answer>,
 ) -> Result<Value, RuleStop>
     requires view { IsView view.now }
+    requires counts { AreCounts counts.old view.now }
     requires room { depth_of code.now ≤ vec_capacity answers.old }
     ensures value { result ≡ number_by_code code.now (seen view.now variables.now) }
     ensures capacity { vec_capacity answers.new ≡ vec_capacity answers.old }
+    ensures counts { AreCounts counts.new view.now }
 {
-    match run(code, view, variables, answers) {
+    if let Some(value) = plain_number(code) {
+        return Ok(value);
+    }
+    match run(code, view, variables, counts, answers) {
         Ok(answer) => Ok(number_in(answer)),
         Err(stop) => Err(stop),
+    }
+}
+
+/// The number that code is, where it is no more than that.
+fn plain_number(code: &[Op]) -> Option<Value>
+    ensures { IfSome result (λ v. code.now ≡ Op.Number v ∷ []) }
+{
+    match code {
+        [Op::Number(value)] => Some(*value),
+        _ => None,
+    }
+}
+
+/// The truth value that code is, where it is no more than that.
+fn plain_truth(code: &[Op]) -> Option<Tri>
+    ensures { IfSome result (λ t. code.now ≡ Op.Truth t ∷ []) }
+{
+    match code {
+        [Op::Truth(truth)] => Some(*truth),
+        _ => None,
     }
 }
 

@@ -3,6 +3,7 @@
 
 mod apply;
 pub mod code;
+mod counts;
 mod evaluation;
 pub mod given;
 pub mod laws;

@@ -1,5 +1,5 @@
 // What a view shows: neighbours, counts and coordinates.
-ghost use Rattle.std.specs.Prelude.{◌≡◌, ◌≤◌, ◌^◌, List, [], slice_get};
+ghost use Rattle.std.specs.Prelude.{◌≡◌, ◌≤◌, ◌^◌, List, [], length, slice_get};
 ghost use Rattle.std.specs.Option.{unwrap_or};
 ghost use Rattle.quantity.specs.Arithmetic.{same_value};
 ghost use Rattle.rule_tree.specs.Meaning.{value_at, whole, outs, how_many, counted, state_count, coordinates, cell_position};
@@ -70,6 +70,34 @@ fn how_many(wanted: &Value, view: &View) -> u64
     ensures value { result ≡ how_many wanted.now (outs (sight_of view.now)) }
     ensures bounded { result ≤ 128 }
 {
+    if view.ports == 0 {
+        how_many_in(wanted, view.neighbours)
+    } else {
+        how_many_first(wanted, view)
+    }
+}
+
+/// The same where neighbours have no port but `out`.
+fn how_many_in(wanted: &Value, values: &[Value]) -> u64
+    requires { length values.now ≤ 128 }
+    ensures value { result ≡ how_many wanted.now values.now }
+    ensures bounded { result ≤ 128 }
+{
+    let mut count = 0;
+    for value in values {
+        if is_same(wanted, value) {
+            count += 1;
+        }
+    }
+    count
+}
+
+/// The same where they have further ports.
+fn how_many_first(wanted: &Value, view: &View) -> u64
+    requires { IsView view.now }
+    ensures value { result ≡ how_many wanted.now (outs (sight_of view.now)) }
+    ensures bounded { result ≤ 128 }
+{
     let width = usize::from(view.ports) + 1;
     let offsets = view.neighbours.len() / width;
     let mut count = 0;
@@ -99,10 +127,18 @@ pub(crate) fn counted(count: Count, view: &View) -> Value
     requires { IsView view.now }
     ensures { result ≡ whole (counted count (outs (sight_of view.now))) }
 {
+    let wanted = counted_value(count);
+    whole(how_many(&wanted, view))
+}
+
+/// The value that a word counts.
+fn counted_value(count: Count) -> Value
+    ensures { (vs : List Value) → how_many result vs ≡ counted count vs }
+{
     match count {
-        Count::Ones => whole(how_many(&whole(1), view)),
-        Count::Zeros => whole(how_many(&whole(0), view)),
-        Count::Undefs => whole(how_many(&Value::Undefined, view)),
+        Count::Ones => whole(1),
+        Count::Zeros => whole(0),
+        Count::Undefs => Value::Undefined,
     }
 }
 

@@ -1,4 +1,5 @@
 use Rattle.std.proofs.Common.{◌≡◌, drop, vec_capacity}
+use Rattle.rule_eval.specs.Kept.{AreCounts}
 use Rattle.rule_eval.specs.Seen.{sight_of}
 use Rattle.rule_eval.specs.ByCode.{first_by_code}
 use Rattle.rule_eval.proofs.evaluation.first_true.Given as goal
@@ -7,4 +8,5 @@ abbrev pub invariant-loop-rule : goal.invariant-loop-rule
 invariant-loop-rule l = record {
   same : first_by_code (drop l.rule-index l.rules) (sight_of l.view) ≡ first_by_code l.rules (sight_of l.view);
   capacity : vec_capacity l.answers ≡ vec_capacity l.fn.answers;
+  counts : AreCounts l.counts l.view;
 }

@@ -1,4 +1,5 @@
 use Rattle.std.proofs.Common.{◌≡◌, ◌≤◌, map, drop, vec_capacity}
+use Rattle.rule_eval.specs.Kept.{AreCounts}
 use Rattle.rule_eval.specs.Seen.{sight_of}
 use Rattle.rule_eval.specs.RuleCodes.{deepest}
 use Rattle.rule_eval.specs.Numbered.{plain}
@@ -10,4 +11,5 @@ invariant-loop-give l = record {
   same : given_by_code (map plain (drop l.give-index l.gives)) (sight_of l.view) l.given.values ≡ given_by_code (map plain l.gives) (sight_of l.view) no_values;
   room : deepest (map plain (drop l.give-index l.gives)) ≤ vec_capacity l.answers;
   capacity : vec_capacity l.answers ≡ vec_capacity l.fn.answers;
+  counts : AreCounts l.counts l.view;
 }

@@ -1,4 +1,5 @@
 use Rattle.std.proofs.Common.{◌≡◌, ◌≤◌, map, drop, vec_capacity}
+use Rattle.rule_eval.specs.Kept.{AreCounts}
 use Rattle.rule_eval.specs.Seen.{seen}
 use Rattle.rule_eval.specs.RuleCodes.{deepest}
 use Rattle.rule_eval.specs.Numbered.{plain}
@@ -10,4 +11,5 @@ invariant-loop-set l = record {
   same : set_by_code (map plain (drop l.set-index l.sets)) (seen l.view l.changed) ≡ set_by_code (map plain l.sets) (seen l.view l.fn.changed);
   room : deepest (map plain (drop l.set-index l.sets)) ≤ vec_capacity l.answers;
   capacity : vec_capacity l.answers ≡ vec_capacity l.fn.answers;
+  counts : AreCounts l.counts l.view;
 }

@@ -1,14 +1,10 @@
-use Rattle.std.proofs.Common.{true, false, sym, ◌∙◌, add-zero, arith}
-use Rattle.rule_eval.specs.Seen.{width_of}
-use Rattle.rule_eval.proofs.Pieces.{counts_here}
+use Rattle.std.proofs.Common.{sym, ap, ◌∙◌, arith}
+use Rattle.rule_tree.specs.Meaning.{how_many}
+use Rattle.rule_eval.specs.Seen.{width_of, offsets_of}
+use Rattle.rule_eval.proofs.Pieces.{all_firsts}
 use Rattle.rule_eval.proofs.seen.how_many.Goals as goal
-use Rattle.rule_eval.proofs.seen.how_many.Goals.{then-is_same, else-is_same}
 
-pub loop-k-preserved : goal.loop-k-preserved
-loop-k-preserved c =
-    let here = counts_here c.args.wanted.now c.args.view.now.neighbours.now (width_of c.args.view.now) c.loop-k.k c.loop-k.count in
-    elim c.if-is_same.branch [
-      | then-is_same w ↦ record { same = w.count-is ∙ here true (omega arith) c.loop-k.invariant.same (cc); few = omega arith }
-      | else-is_same w ↦
-          record { same = w.count-is ∙ sym (add-zero c.loop-k.count) ∙ here false (omega arith) c.loop-k.invariant.same (cc); few = omega arith }
-    ]
+pub returns-then-view-eq0-clause-value : goal.returns-then-view-eq0-clause-value
+returns-then-view-eq0-clause-value c =
+    let v = c.args.view.now in
+    c.how_many_in.ensures.value ∙ sym (ap (how_many c.args.wanted.now) (all_firsts v.neighbours.now (width_of v) (offsets_of v) (omega arith) c.requires.whole))

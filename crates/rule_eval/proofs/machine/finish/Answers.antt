@@ -1,6 +1,6 @@
 use Rattle.std.proofs.Common.{vec_len, vec_capacity}
 use Rattle.rule_eval.proofs.Depths.{room_here}
-use Rattle.rule_eval.proofs.machine.run.Goals as goal
+use Rattle.rule_eval.proofs.machine.finish.Goals as goal
 
 pub step-requires-clause-room : goal.step-requires-clause-room
 step-requires-clause-room c =
