@@ -1,6 +1,6 @@
 -- The neighbourhoods of all cells of a space: who their neighbours are, and who watches them.
-use Rattle.std.specs.Prelude.{◌≡◌, ℕ, ◌==◌, Bool, ◌&&◌, nat_lt, Option, List, map, ℤ, pos, ◌+ℤ◌, ◌*ℤ◌, ◌≤ℤ◌, ◌<ℤ◌}
-use Rattle.std.specs.List.{list_any}
+use Rattle.std.specs.Prelude.{◌≡◌, ℕ, ◌==◌, Bool, ◌&&◌, nat_lt, Option, Some, List, map, ℤ, pos, ◌+ℤ◌, ◌*ℤ◌, ◌≤ℤ◌, ◌<ℤ◌, unsigned_abs}
+use Rattle.std.specs.List.{All, list_any}
 use Rattle.quantity.specs.declared.place.Offset.{Offset}
 use Rattle.quantity.specs.declared.place.Place.{Place}
 use Rattle.cell_grid.specs.Space.{Space, plane_count, cell_count, neighbour, leads_to}
@@ -42,3 +42,16 @@ StaysInside s p o =
 -- how far on a neighbour's number is, where its offset leads past no edge
 abbrev pub difference : Space → Offset → ℤ
 difference s o = (o.row *ℤ pos s.columns +ℤ o.column) *ℤ pos (plane_count s) +ℤ o.plane
+
+-- the number so far on from a cell's
+abbrev pub further : ℕ → ℤ → ℕ
+further cell d = unsigned_abs (pos cell +ℤ d)
+
+-- the number so far on from a cell's is a cell's
+abbrev pub LeadsInside : Space → ℕ → ℤ → Type 0
+LeadsInside s cell d = (pos 0 ≤ℤ (pos cell +ℤ d)) × ((pos cell +ℤ d) <ℤ pos (cell_count s))
+
+-- how far on the number of each neighbour is from the cell's, in the order of the offsets
+pub record AreDifferences (n : Neighbourhood) (cell : ℕ) (ds : List ℤ) : Type 0 where
+  pub inside : All (LeadsInside n.space cell) ds
+  pub lead : neighbours n cell ≡ map (λ d. Some (further cell d)) ds

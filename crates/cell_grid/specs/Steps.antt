@@ -1,30 +1,26 @@
 -- How private code holds steps, and where none leads past an edge.
-use Rattle.std.specs.Prelude.{◌≡◌, ℕ, ◌+◌, ◌<◌, ◌≤◌, Some, pos, ◌+ℤ◌, ◌≤ℤ◌, ◌<ℤ◌, unsigned_abs}
+use Rattle.std.specs.Prelude.{◌≡◌, ℕ, ◌+◌, ◌<◌, ◌≤◌, Some, List, map, ℤ}
+use Rattle.std.specs.List.{All}
 use Rattle.quantity.specs.declared.place.Offset.{Offset}
 use Rattle.quantity.specs.declared.place.Place.{Place}
 use Rattle.cell_grid.specs.declared.step.Step.{Step}
-use Rattle.cell_grid.specs.declared.step.Stride.{Stride}
 use Rattle.cell_grid.specs.declared.inner.Span.{Span}
 use Rattle.cell_grid.specs.declared.inner.Inner.{Inner}
-use Rattle.cell_grid.specs.Space.{Space, cell_count, number_of, neighbour_at}
+use Rattle.cell_grid.specs.Space.{Space, number_of, neighbour_at}
+use Rattle.cell_grid.specs.Neighbourhoods.{further, LeadsInside}
 
 -- a step as an offset
 abbrev pub offset_of_step : Step → Offset
 offset_of_step t = record { row = t.rows; column = t.columns; plane = t.planes }
 
--- the offset of a stride
-abbrev pub offset_of_stride : Stride → Offset
-offset_of_stride t = offset_of_step t.step
-
--- a stride leads from a cell that stands at a place to a cell whose number is so much further
-abbrev pub IsFixed : Space → ℕ → Place → Stride → Type 0
-IsFixed s cell p t =
-    let to = pos cell +ℤ t.cells in
-    (pos 0 ≤ℤ to) × (to <ℤ pos (cell_count s)) × (neighbour_at s p (offset_of_stride t) ≡ Some (unsigned_abs to))
+-- how far on each step leads from a cell that stands at a place: to a cell, its neighbour there
+pub record AreFixed (s : Space) (cell : ℕ) (p : Place) (steps : List Step) (ds : List ℤ) : Type 0 where
+  pub inside : All (LeadsInside s cell) ds
+  pub lead : map (λ (step : Step). neighbour_at s p (offset_of_step step)) steps ≡ map (λ d. Some (further cell d)) ds
 
 -- the same of the cell at a place
-abbrev pub IsFixedAt : Space → Place → Stride → Type 0
-IsFixedAt s p t = IsFixed s (number_of s p.row p.column p.plane) p t
+abbrev pub AreFixedAt : Space → Place → List Step → List ℤ → Type 0
+AreFixedAt s p = AreFixed s (number_of s p.row p.column p.plane) p
 
 -- ---- numbers and places that no step leads out of the space
 

@@ -1,9 +1,9 @@
 // The neighbours and the watchers of all cells of a space.
-ghost use Rattle.std.specs.Prelude.{◌≡◌, ◌<◌, ◌≤◌, length, IfOk};
+ghost use Rattle.std.specs.Prelude.{◌≡◌, ◌<◌, ◌≤◌, length, IfOk, IfSome};
 ghost use Rattle.std.specs.List.{All};
 ghost use Rattle.std.specs.Vec.{vec_capacity};
 ghost use Rattle.cell_grid.specs.Space.{cell_count};
-ghost use Rattle.cell_grid.specs.Neighbourhoods.{Neighbourhood, neighbours, AreWatchers};
+ghost use Rattle.cell_grid.specs.Neighbourhoods.{Neighbourhood, neighbours, AreDifferences, AreWatchers};
 
 use crate::Grid;
 use crate::step::Step;
@@ -45,6 +45,17 @@ impl Reach {
             back.push(Step::back(*offset))?;
         }
         Ok(Reach { ahead, back })
+    }
+
+    /// How far each neighbour's number is from the cell's, in the order of the offsets, where the cell
+    /// stands so far from the edges that no offset leads past one. The differences are the same for all
+    /// such cells.
+    pub fn differences(&self, cell: u32) -> Option<&[i32]>
+        requires here { cell < cell_count self.now.space }
+        ensures all { IfSome result (λ ds. length ds.now ≡ length self.now.offsets) }
+        ensures far { IfSome result (λ ds. AreDifferences self.now cell ds.now) }
+    {
+        self.ahead.differences(cell)
     }
 
     /// Writes the neighbours of a cell by all offsets, in the order of the offsets, into a slice that has

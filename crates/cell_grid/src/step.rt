@@ -14,13 +14,6 @@ pub struct Step {
     pub planes: i16,
 }
 
-/// A step, and how much further the number is of the cell that it leads to where it passes no edge.
-#[derive(Clone, Copy, Debug)]
-pub struct Stride {
-    pub step: Step,
-    pub cells: i64,
-}
-
 impl Step {
     /// The step that an offset is.
     pub fn along(offset: Offset) -> Step

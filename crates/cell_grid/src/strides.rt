@@ -1,41 +1,47 @@
 // Strides from the cells of a space: at the edges as each coordinate moves, elsewhere by fixed differences.
 ghost use Rattle.std.specs.Prelude.{◌≡◌, [], ◌∷◌, ◌++◌, ◌+◌, ◌<◌, ◌≤◌, Some, length, map, pos};
-ghost use Rattle.std.specs.Prelude.{◌*◌, ◌^◌, ◌+ℤ◌, ◌*ℤ◌, ◌≤ℤ◌, ◌<ℤ◌, unsigned_abs, OnOk};
+ghost use Rattle.std.specs.Prelude.{◌*◌, ◌^◌, ◌+ℤ◌, ◌*ℤ◌, ◌≤ℤ◌, ◌<ℤ◌, unsigned_abs, OnOk, IfSome};
 ghost use Rattle.std.specs.List.{All, filter_map};
 ghost use Rattle.std.specs.Vec.{vec_capacity};
-ghost use Rattle.cell_grid.specs.Space.{IsInside, cell_count, place_of, neighbour, neighbour_at};
+ghost use Rattle.cell_grid.specs.Space.{IsInside, cell_count, neighbour, neighbour_at};
 ghost use Rattle.cell_grid.specs.Neighbourhoods.{Neighbourhood, neighbours, difference};
-ghost use Rattle.cell_grid.specs.Steps.{IsFixed, offset_of_step, offset_of_stride};
+ghost use Rattle.cell_grid.specs.Neighbourhoods.{further, LeadsInside, AreDifferences};
+ghost use Rattle.cell_grid.specs.Steps.{offset_of_step};
 
 use crate::Grid;
 use crate::inner::Inner;
-use crate::step::{Step, Stride};
+use crate::step::Step;
 use quantity::{OutOfMemory, Place};
-use std::alloc::{AllocError, Global};
+use std::alloc::Global;
 use std::marker::Model;
 
-/// A space and steps from its cells.
+/// The most cells that a space has.
+const MOST: u64 = 1048576;
+
+/// A space and steps from its cells. Each step has its difference: how much further the number is of
+/// the cell that it leads to where it passes no edge. The differences stand apart from the steps, one
+/// behind the other, so that many are added at once.
 #[derive(Drop)]
 pub struct Strides {
     grid: Grid,
-    strides: Vec<Stride>,
+    steps: Vec<Step>,
+    differences: Vec<i32>,
     inner: Inner,
 }
 
 impl Model for Strides {
     ghost use Rattle.std.specs.Prelude.{map};
-    ghost use Rattle.std.specs.List.{All};
     ghost use Rattle.quantity.specs.declared.place.Place.{Place as AnyPlace};
     ghost use Rattle.cell_grid.specs.Space.{IsInside};
     ghost use Rattle.cell_grid.specs.Neighbourhoods.{Neighbourhood};
-    ghost use Rattle.cell_grid.specs.Steps.{IsFixedAt, IsInner, offset_of_stride};
+    ghost use Rattle.cell_grid.specs.Steps.{AreFixedAt, IsInner, offset_of_step};
 
     ghost Value = { Neighbourhood };
 
-    ghost view = { λ s. record { space = s.grid; offsets = map offset_of_stride s.strides.items } };
+    ghost view = { λ s. record { space = s.grid; offsets = map offset_of_step s.steps.items } };
 
     ghost invariant = { λ s. (p : AnyPlace) → IsInner s.inner p
-        → IsInside s.grid p × All (IsFixedAt s.grid p) s.strides.items };
+        → IsInside s.grid p × AreFixedAt s.grid p s.steps.items s.differences.items };
 }
 
 impl Strides {
@@ -45,7 +51,8 @@ impl Strides {
     {
         Strides {
             grid,
-            strides: Vec::new(alloc),
+            steps: Vec::new(alloc),
+            differences: Vec::new(alloc),
             inner: Inner::whole(grid),
         }
     }
@@ -57,12 +64,25 @@ impl Strides {
           offsets = self.old.offsets ++ offset_of_step step ∷ [];
         }) }
     {
+        self.steps.reserve(1)?;
+        self.differences.reserve(1)?;
         self.inner = self.inner.narrowed(self.grid, step);
-        let cells = difference(self.grid, step);
-        self.strides
-            .push(Stride { step, cells })
-            .map_err(AllocError::from)?;
+        self.steps.push_reserved(step);
+        self.differences.push_reserved(difference(self.grid, step));
         Ok(())
+    }
+
+    /// How much further the cell is that each step leads to from this cell, where none passes an edge.
+    pub fn differences(&self, cell: u32) -> Option<&[i32]>
+        requires here { cell < cell_count self.now.space }
+        ensures all { IfSome result (λ ds. length ds.now ≡ length self.now.offsets) }
+        ensures far { IfSome result (λ ds. AreDifferences self.now cell ds.now) }
+    {
+        let place = self.grid.position(cell);
+        if self.inner.has(place) {
+            return Some(self.differences.as_slice());
+        }
+        None
     }
 
     /// Writes the cell that each step leads to from this cell.
@@ -71,12 +91,20 @@ impl Strides {
         requires length { length into.old ≡ length self.now.offsets }
         ensures { into.new ≡ neighbours self.now cell }
     {
-        let place = self.grid.position(cell);
-        if self.inner.has(place) {
-            fill_inside(self.grid, &self.strides, cell, into);
-        } else {
-            fill_at(self.grid, &self.strides, place, into);
+        match self.differences(cell) {
+            Some(differences) => fill_inside(self.grid, differences, cell, into),
+            None => self.fill_past_edges(cell, into),
         }
+    }
+
+    // Out of line, so that nothing is got ready for it where no step passes an edge.
+    #[inline(never)]
+    fn fill_past_edges(&self, cell: u32, into: &mut [Option<u32>])
+        requires here { cell < cell_count self.now.space }
+        requires length { length into.old ≡ length self.now.offsets }
+        ensures { into.new ≡ neighbours self.now cell }
+    {
+        fill_at(self.grid, &self.steps, self.grid.position(cell), into);
     }
 
     /// Puts the cells that the steps lead to from this cell into a list, in place of what it holds.
@@ -86,19 +114,39 @@ impl Strides {
         ensures cells { into.new.items ≡ filter_map (neighbour self.now.space cell) self.now.offsets }
         ensures capacity { vec_capacity into.new ≡ vec_capacity into.old }
     {
-        let place = self.grid.position(cell);
-        if self.inner.has(place) {
-            set_len(into, self.strides.len());
-            write_inside(self.grid, &self.strides, cell, into);
-        } else {
-            into.clear();
-            collect_at(self.grid, &self.strides, place, into);
+        match self.differences(cell) {
+            Some(differences) => {
+                set_len(into, differences.len());
+                write_inside(self.grid, differences, cell, into);
+            }
+            None => self.collect_past_edges(cell, into),
         }
+    }
+
+    // Out of line, as `fill_past_edges`.
+    #[inline(never)]
+    fn collect_past_edges(&self, cell: u32, into: &mut Vec<u32>)
+        requires here { cell < cell_count self.now.space }
+        requires room { length self.now.offsets ≤ vec_capacity into.old }
+        ensures cells { into.new.items ≡ filter_map (neighbour self.now.space cell) self.now.offsets }
+        ensures capacity { vec_capacity into.new ≡ vec_capacity into.old }
+    {
+        into.clear();
+        collect_at(self.grid, &self.steps, self.grid.position(cell), into);
     }
 }
 
-/// How much further the number of the cell is that a step leads to where it passes no edge.
-fn difference(grid: Grid, step: Step) -> i64
+/// How much further the number of the cell is that a step leads to where it passes no edge. Where
+/// that is further than any cell, the step passes one from each place.
+fn difference(grid: Grid, step: Step) -> i32
+    ensures { unsigned_abs (difference grid (offset_of_step step)) ≤ 1048576
+        → result ≡ difference grid (offset_of_step step) }
+{
+    if_near(distance(grid, step))
+}
+
+/// The difference, however far it is.
+fn distance(grid: Grid, step: Step) -> i64
     ensures { result ≡ difference grid (offset_of_step step) }
 {
     let rows = i64::from(step.rows);
@@ -115,34 +163,45 @@ fn with_part(wholes: i64, size: u32, parts: i16) -> i64
     wholes * i64::from(size) + i64::from(parts)
 }
 
-/// The cell whose number is so much further.
-fn further(cell: u32, cells: i64) -> u32
-    requires near { cell < 1048576 }
-    requires low { pos 0 ≤ℤ (pos cell +ℤ cells) }
-    requires high { (pos cell +ℤ cells) <ℤ pos 1048577 }
-    ensures { result ≡ unsigned_abs (pos cell +ℤ cells) }
+/// A difference, where it is not further than any cell.
+fn if_near(cells: i64) -> i32
+    ensures { unsigned_abs cells ≤ 1048576 → result ≡ cells }
 {
-    (i64::from(cell) + cells) as u32
-}
-
-fn fill_inside(grid: Grid, strides: &[Stride], cell: u32, into: &mut [Option<u32>])
-    requires here { cell < cell_count grid }
-    requires fixed { All (IsFixed grid cell (place_of grid cell)) strides.now }
-    requires length { length into.old ≡ length strides.now }
-    ensures { into.new ≡ map (λ stride. neighbour grid cell (offset_of_stride stride)) strides.now }
-{
-    for (place, stride) in strides.iter().enumerate() {
-        into[place] = Some(further(cell, stride.cells));
+    if cells.unsigned_abs() <= MOST {
+        cells as i32
+    } else {
+        0
     }
 }
 
-fn fill_at(grid: Grid, strides: &[Stride], from: Place, into: &mut [Option<u32>])
-    requires here { IsInside grid from }
-    requires length { length into.old ≡ length strides.now }
-    ensures { into.new ≡ map (λ stride. neighbour_at grid from (offset_of_stride stride)) strides.now }
+/// The cell whose number is so much further.
+fn further(cell: u32, cells: i32) -> u32
+    requires near { cell < 1048576 }
+    requires low { pos 0 ≤ℤ (pos cell +ℤ cells) }
+    requires high { (pos cell +ℤ cells) <ℤ pos 1048577 }
+    ensures { result ≡ further cell cells }
 {
-    for (place, stride) in strides.iter().enumerate() {
-        into[place] = grid.reached(from, stride.step);
+    (cell as i32 + cells) as u32
+}
+
+fn fill_inside(grid: Grid, differences: &[i32], cell: u32, into: &mut [Option<u32>])
+    requires here { cell < cell_count grid }
+    requires inside { All (LeadsInside grid cell) differences.now }
+    requires length { length into.old ≡ length differences.now }
+    ensures { into.new ≡ map (λ d. Some (further cell d)) differences.now }
+{
+    for (place, difference) in differences.iter().enumerate() {
+        into[place] = Some(further(cell, *difference));
+    }
+}
+
+fn fill_at(grid: Grid, steps: &[Step], from: Place, into: &mut [Option<u32>])
+    requires here { IsInside grid from }
+    requires length { length into.old ≡ length steps.now }
+    ensures { into.new ≡ map (λ step. neighbour_at grid from (offset_of_step step)) steps.now }
+{
+    for (place, step) in steps.iter().enumerate() {
+        into[place] = grid.reached(from, *step);
     }
 }
 
@@ -162,28 +221,27 @@ fn set_len(into: &mut Vec<u32>, len: usize)
 }
 
 // Written into a slice, since a list that grows would keep its length in memory at each step.
-fn write_inside(grid: Grid, strides: &[Stride], cell: u32, into: &mut [u32])
+fn write_inside(grid: Grid, differences: &[i32], cell: u32, into: &mut [u32])
     requires here { cell < cell_count grid }
-    requires fixed { All (IsFixed grid cell (place_of grid cell)) strides.now }
-    requires length { length into.old ≡ length strides.now }
-    ensures { map (λ to. Some to) into.new
-        ≡ map (λ stride. neighbour grid cell (offset_of_stride stride)) strides.now }
+    requires inside { All (LeadsInside grid cell) differences.now }
+    requires length { length into.old ≡ length differences.now }
+    ensures { into.new ≡ map (further cell) differences.now }
 {
-    for (place, stride) in strides.iter().enumerate() {
-        into[place] = further(cell, stride.cells);
+    for (place, difference) in differences.iter().enumerate() {
+        into[place] = further(cell, *difference);
     }
 }
 
-fn collect_at(grid: Grid, strides: &[Stride], from: Place, into: &mut Vec<u32>)
+fn collect_at(grid: Grid, steps: &[Step], from: Place, into: &mut Vec<u32>)
     requires here { IsInside grid from }
     requires empty { into.old.items ≡ [] }
-    requires room { length strides.now ≤ vec_capacity into.old }
+    requires room { length steps.now ≤ vec_capacity into.old }
     ensures cells { into.new.items
-        ≡ filter_map (λ stride. neighbour_at grid from (offset_of_stride stride)) strides.now }
+        ≡ filter_map (λ step. neighbour_at grid from (offset_of_step step)) steps.now }
     ensures capacity { vec_capacity into.new ≡ vec_capacity into.old }
 {
-    for stride in strides {
-        if let Some(to) = grid.reached(from, stride.step) {
+    for step in steps {
+        if let Some(to) = grid.reached(from, *step) {
             into.push_reserved(to);
         }
     }

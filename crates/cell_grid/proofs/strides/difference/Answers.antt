@@ -1,14 +1,12 @@
-use Rattle.std.proofs.Common.{rules, ◌≤◌, arith, FitsSigned, w16, w64, to_z, of_z}
+use Rattle.std.proofs.Common.{◌≤◌, rules, ℤ, sym, subst, ◌∙◌, FitsSigned, w32, w64}
 use Rattle.std.specs.Int.RustNames.{unsigned_abs}
-use Rattle.std.proofs.lemmas.Int.{ints}
-use Rattle.cell_grid.proofs.Differences.{few_wholes}
+use Rattle.std.proofs.lemmas.Int.{to_z-of_z}
 use Rattle.cell_grid.proofs.strides.difference.Goals as goal
 
-pub with_part-requires-clause-wholes : goal.with_part-requires-clause-wholes
-with_part-requires-clause-wholes c =
-    let row : FitsSigned w16 c.args.step.rows = search rules in
-    let column : FitsSigned w16 c.args.step.columns = search rules in
-    let fits = c.with_part-lines.type_inv in
-    let few : unsigned_abs c.with_part-lines.result ≤ 68719476736 =
-    few_wholes (to_z w64 (of_z w64 c.from-rows.result)) c.columns.result (to_z w16 (of_z w16 c.args.step.columns)) c.with_part-lines.result (omega (arith, ints)) (omega arith) (omega (arith, ints)) c.with_part-lines.ensures in
-    omega (arith, ints)
+pub returns : goal.returns
+returns c = λ near.
+    let small : FitsSigned w32 c.if_near.result = search rules in
+    let fits : FitsSigned w64 c.distance.result = search rules in
+    let is = to_z-of_z w64 c.distance.result fits ∙ c.distance.ensures in
+    let Near : ℤ → Type 0 = λ z. unsigned_abs z ≤ 1048576 in
+    to_z-of_z w32 c.if_near.result small ∙ c.if_near.ensures (subst Near (sym is) near) ∙ is

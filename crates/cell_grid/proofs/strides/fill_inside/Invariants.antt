@@ -1,8 +1,6 @@
-use Rattle.std.proofs.Common.{◌≡◌, map, take}
-use Rattle.cell_grid.specs.declared.step.Stride.{Stride}
-use Rattle.cell_grid.specs.Space.{neighbour}
-use Rattle.cell_grid.specs.Steps.{offset_of_stride}
+use Rattle.std.proofs.Common.{◌≡◌, Some, map, take}
+use Rattle.cell_grid.specs.Neighbourhoods.{further}
 use Rattle.cell_grid.proofs.strides.fill_inside.Given as goal
 
 abbrev pub invariant-loop-place : goal.invariant-loop-place
-invariant-loop-place l = take l.place l.into ≡ map (λ (t : Stride). neighbour l.fn.grid l.fn.cell (offset_of_stride t)) (take l.place l.strides)
+invariant-loop-place l = take l.place l.into ≡ map (λ d. Some (further l.fn.cell d)) (take l.place l.differences)
