@@ -2,9 +2,6 @@
 use Rattle.std.proofs.Common.{◌≡◌, ◌≢◌, ℕ, ◌<◌, ◌≤◌, List, [], length, get_or, set, replicate, Option, Some, None, sym, ◌∙◌, ap, subst, inl, inr, refl, arith}
 use Rattle.std.proofs.lemmas.Bool.{cases_eq}
 use Rattle.std.proofs.lemmas.List.{ext_get_or, get_or-map, get_or-set_same, get_or-set_other, get_or-replicate, length-map, length-replicate, length-set, set-set}
-use Rattle.std.proofs.lemmas.Grind.{common_steps}
-use Rattle.slab.specs.Slab.{ContainsKey, Slab, slab_len, with_value}
-use Rattle.slab.proofs.SlabLemmas.{ContainsKey-within}
 use Rattle.delay_lines.specs.Lists.{DelayLists, Pair, list_of}
 use Rattle.delay_lines.specs.Nodes.{AreLaid, IsChain, IsOrdered, Look, last_time, lists_from, node_of, pairs_from}
 use Rattle.delay_lines.specs.declared.nodes.Node.{Node}
@@ -88,9 +85,3 @@ le_last_time time le = le
 -- a list that is changed twice has the last
 pub changed_twice : (first mid last : List (List Pair)) (cell : ℕ) (a b : List Pair) → mid ≡ set first cell a → last ≡ set mid cell b → last ≡ set first cell b
 changed_twice first mid last cell a b one other = other ∙ ap (λ l. set l cell b) one ∙ set-set first cell a b
-
--- a write of a node keeps how many there are
-pub slab_len-with_value : (s : Slab Node) (key : ℕ) (value : Node) → ContainsKey s key → slab_len (with_value s key value) ≡ slab_len s
-slab_len-with_value s key value present =
-    let within = ContainsKey-within s key present in
-    grind (arith, common_steps)

@@ -1,3 +1,4 @@
 pub mod Lists
 pub mod Nodes
 pub mod Laws
+pub mod Places

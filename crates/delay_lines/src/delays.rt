@@ -5,8 +5,8 @@ ghost use Rattle.quantity.specs.declared.delay.DelayKind.TheVariants.{Transport,
 ghost use Rattle.delay_lines.specs.Lists.{list_of, first_pair, ChangesList, IsRising, KeepsPlaces};
 
 use crate::nodes::{Node, Spot, append_from, last_left, last_with, place_of};
+use crate::pool::Pool;
 use quantity::{OutOfMemory, Time, Value};
-use slab::Slab;
 use std::alloc::Global;
 use std::marker::Model;
 
@@ -15,28 +15,29 @@ use std::marker::Model;
 #[derive(Drop)]
 pub struct Delays {
     // All lists share these nodes, so a pair that leaves one list makes room in every other.
-    nodes: Slab<Node>,
+    nodes: Pool,
     // The number of the first node of each cell's list.
-    firsts: Vec<Option<usize>>,
+    firsts: Vec<Option<u32>>,
     // The number of the last node of each cell's list.
-    lasts: Vec<Option<usize>>,
+    lasts: Vec<Option<u32>>,
 }
 
 impl Model for Delays {
-    ghost use Rattle.std.specs.Prelude.{◌-◌};
-    ghost use Rattle.slab.specs.Slab.{get, slab_len};
     ghost use Rattle.delay_lines.specs.Lists.{DelayLists};
 
     ghost Value = { DelayLists };
 
     ghost use Rattle.delay_lines.specs.Nodes.{AreHeld, lists_from};
+    ghost use Rattle.delay_lines.specs.Places.{look_in};
 
     ghost view = { λ d. record {
-      lists = lists_from (get d.nodes) d.firsts.items;
-      spare = d.nodes.capacity - slab_len d.nodes;
+      lists = lists_from (look_in d.nodes) d.firsts.items;
+      spare = d.nodes.spare;
     } };
 
-    ghost invariant = { λ d. AreHeld (get d.nodes) d.firsts.items d.lasts.items (lists_from (get d.nodes) d.firsts.items) };
+    ghost invariant = { λ d.
+        AreHeld (look_in d.nodes) d.firsts.items d.lasts.items
+        (lists_from (look_in d.nodes) d.firsts.items) };
 }
 
 impl Delays {
@@ -45,7 +46,7 @@ impl Delays {
         ensures lists { IfOk result (λ d. d.lists ≡ replicate cells []) }
     {
         Ok(Delays {
-            nodes: Slab::new(alloc),
+            nodes: Pool::new(alloc),
             firsts: vec![in alloc; None; cells as usize]?,
             lasts: vec![in alloc; None; cells as usize]?,
         })
@@ -80,10 +81,10 @@ impl Delays {
         ensures spare { self.old.spare ≤ self.new.spare }
     {
         if let Some(key) = self.firsts[cell as usize] {
-            let node = self.nodes.remove(key);
-            self.firsts[cell as usize] = node.next;
+            let next = self.nodes.remove(key);
+            self.firsts[cell as usize] = next;
             let last = self.lasts[cell as usize];
-            self.lasts[cell as usize] = last_left(node.next, last);
+            self.lasts[cell as usize] = last_left(next, last);
         }
     }
 
@@ -104,14 +105,14 @@ impl Delays {
     {
         let last = self.lasts[cell as usize];
         match place_of(&self.nodes, self.firsts[cell as usize], last, at) {
-            Spot::Taken(key) => self.nodes[key].pair = (at, value),
+            Spot::Taken(key) => self.nodes.set_pair(key, at, value),
             Spot::Free(before, next) => {
                 let Ok(key) = self.nodes.insert(Node::new(at, value, next)) else {
                     return Err(OutOfMemory);
                 };
                 self.lasts[cell as usize] = last_with(next, key, last);
                 match before {
-                    Some(before) => self.nodes[before].next = Some(key),
+                    Some(before) => self.nodes.set_next(before, key),
                     None => self.firsts[cell as usize] = Some(key),
                 }
             }
@@ -151,7 +152,9 @@ impl Delays {
         ensures list { ChangesList self.old self.new cell ((at, value) ∷ []) }
         ensures spare { self.new.spare + 1 ≡ self.old.spare }
     {
-        let key = self.nodes.insert_reserved(Node::new(at, value, None));
+        let Ok(key) = self.nodes.insert(Node::new(at, value, None)) else {
+            unreachable!()
+        };
         self.firsts[cell as usize] = Some(key);
         self.lasts[cell as usize] = Some(key);
     }

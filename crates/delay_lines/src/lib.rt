@@ -4,6 +4,7 @@
 pub mod delays;
 pub mod laws;
 mod nodes;
+mod pool;
 #[cfg(test)]
 mod tests;
 

@@ -1,21 +1,21 @@
 // The nodes of all lists, and the links between them.
 ghost use Rattle.std.specs.Prelude.{◌≡◌, ◌≤◌, ◌++◌, OnOk, OnErr};
-ghost use Rattle.slab.specs.Slab.{get};
+ghost use Rattle.delay_lines.specs.Places.{look_in};
 ghost use Rattle.delay_lines.specs.Nodes.{BelongsAt, IsOrdered, last_left, last_link, last_time, last_with, node_of, pairs_from};
 
+use crate::pool::Pool;
 use quantity::{OutOfMemory, Time, Value};
-use slab::Slab;
 
 /// A pair of a list, and the number of the node of the next pair.
-#[derive(Drop)]
+#[derive(Clone, Copy)]
 pub struct Node {
     pub pair: (Time, Value),
-    pub next: Option<usize>,
+    pub next: Option<u32>,
 }
 
 impl Node {
     /// The node of a pair, whose time is at most the greatest.
-    pub fn new(at: Time, value: Value, next: Option<usize>) -> Node
+    pub fn new(at: Time, value: Value, next: Option<u32>) -> Node
         ensures node { result ≡ node_of (at, value) next }
         ensures time { at ≤ last_time }
     {
@@ -31,15 +31,15 @@ impl Node {
 #[derive(Drop)]
 pub enum Spot {
     /// In this node, which has a pair of the same time.
-    Taken(usize),
+    Taken(u32),
     /// After the first of these nodes, or at the head of the list, and before the second.
-    Free(Option<usize>, Option<usize>),
+    Free(Option<u32>, Option<u32>),
 }
 
 /// Where a pair of this time belongs in the list that begins at a node.
-pub fn spot_of(nodes: &Slab<Node>, first: Option<usize>, at: Time) -> Spot
-    requires { IsOrdered (get nodes.now) first }
-    ensures { BelongsAt (get nodes.now) first at result }
+pub fn spot_of(nodes: &Pool, first: Option<u32>, at: Time) -> Spot
+    requires { IsOrdered (look_in nodes.now) first }
+    ensures { BelongsAt (look_in nodes.now) first at result }
 {
     let mut before = None;
     let mut next = first;
@@ -59,10 +59,10 @@ pub fn spot_of(nodes: &Slab<Node>, first: Option<usize>, at: Time) -> Spot
 }
 
 /// The same where the last node is known: behind it a later pair finds its place at once.
-pub fn place_of(nodes: &Slab<Node>, first: Option<usize>, last: Option<usize>, at: Time) -> Spot
-    requires ordered { IsOrdered (get nodes.now) first }
-    requires last { last ≡ last_link (get nodes.now) first (pairs_from (get nodes.now) first) }
-    ensures { BelongsAt (get nodes.now) first at result }
+pub fn place_of(nodes: &Pool, first: Option<u32>, last: Option<u32>, at: Time) -> Spot
+    requires ordered { IsOrdered (look_in nodes.now) first }
+    requires last { last ≡ last_link (look_in nodes.now) first (pairs_from (look_in nodes.now) first) }
+    ensures { BelongsAt (look_in nodes.now) first at result }
 {
     let Some(key) = last else {
         return Spot::Free(None, None);
@@ -74,7 +74,7 @@ pub fn place_of(nodes: &Slab<Node>, first: Option<usize>, last: Option<usize>, a
 }
 
 /// The last node once this one stands before the next.
-pub fn last_with(next: Option<usize>, key: usize, last: Option<usize>) -> Option<usize>
+pub fn last_with(next: Option<u32>, key: u32, last: Option<u32>) -> Option<u32>
     ensures { result ≡ last_with next key last }
 {
     match next {
@@ -84,7 +84,7 @@ pub fn last_with(next: Option<usize>, key: usize, last: Option<usize>) -> Option
 }
 
 /// The last node once the first one is gone, behind which the next stood.
-pub fn last_left(next: Option<usize>, last: Option<usize>) -> Option<usize>
+pub fn last_left(next: Option<u32>, last: Option<u32>) -> Option<u32>
     ensures { result ≡ last_left next last }
 {
     match next {
@@ -95,12 +95,12 @@ pub fn last_left(next: Option<usize>, last: Option<usize>) -> Option<usize>
 
 /// Appends the pairs from a node on. Where memory is refused, `into` stays as it was.
 pub fn append_from(
-    nodes: &Slab<Node>,
-    first: Option<usize>,
+    nodes: &Pool,
+    first: Option<u32>,
     into: &mut Vec<(Time, Value)>,
 ) -> Result<(), OutOfMemory>
-    requires { IsOrdered (get nodes.now) first }
-    ensures ok { OnOk result (into.new.items ≡ into.old.items ++ pairs_from (get nodes.now) first) }
+    requires { IsOrdered (look_in nodes.now) first }
+    ensures ok { OnOk result (into.new.items ≡ into.old.items ++ pairs_from (look_in nodes.now) first) }
     ensures err { OnErr result (into.new.items ≡ into.old.items) }
 {
     let len = into.len();

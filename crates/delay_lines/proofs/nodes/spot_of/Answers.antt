@@ -1,5 +1,5 @@
 use Rattle.std.proofs.Common.{◌∷◌, ◌++◌, [], subst, None, refl, arith}
-use Rattle.slab.specs.Slab.{get}
+use Rattle.delay_lines.specs.Places.{look_in}
 use Rattle.delay_lines.specs.Nodes.{IsLink}
 use Rattle.delay_lines.proofs.Paths.{Begins-path, IsSome-path, length-next, nothing_left}
 use Rattle.delay_lines.proofs.Spots.{Each-from, Parts-at, Parts-more}
@@ -57,7 +57,7 @@ returns-then-time-ms-2 c =
       rest = node.pair ∷ begins.rest;
       parts = parts;
       later = Each-from _ _ _ _ here.front node.pair begins.rest c.requires parts (omega arith);
-      link = subst (λ o. IsLink (get c.args.nodes.now) c.args.first here.front c.loop-next.before o) c.in-Some.is here.link;
+      link = subst (λ o. IsLink (look_in c.args.nodes.now) c.args.first here.front c.loop-next.before o) c.in-Some.is here.link;
     }
 
 pub returns : goal.returns
@@ -69,5 +69,5 @@ returns c =
       rest = [];
       parts = Parts-at _ _ _ _ None here.front _ _ here.parts c.in_default.is none;
       later = tt;
-      link = subst (λ o. IsLink (get c.args.nodes.now) c.args.first here.front c.loop-next.before o) c.in_default.is here.link;
+      link = subst (λ o. IsLink (look_in c.args.nodes.now) c.args.first here.front c.loop-next.before o) c.in_default.is here.link;
     }

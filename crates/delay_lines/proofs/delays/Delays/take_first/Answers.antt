@@ -11,14 +11,18 @@ invariant_of-self c =
     let within = within_seen _ _ c.args.self.now c.args.cell (ap (λ d. d.lists) c.self.view_is) c.requires in
     let first = sym (get_or_read _ c.args.cell _ within c.index.ensures None) ∙ c.in-Some.is in
     let read = get_or_read _ c.args.cell _ (omega (arith, within, c.self.invariant.many)) c.index-last.ensures None in
-    rw (c.last_left.ensures, read) (AreHeld-seen _ _ _ _ (AreHeld-taken _ _ _ _ c.self.invariant c.args.cell c.in-Some.key c.remove-node.result within first c.remove-node.ensures.value c.remove-node.ensures.updates.others))
+    let taken = c.remove-next.ensures.taken in
+    let link = rw taken.held at c.remove-next.ensures.next in
+    rw (c.last_left.ensures, read, link) (AreHeld-seen _ _ _ _ (AreHeld-taken _ _ _ _ c.self.invariant c.args.cell c.in-Some.key taken.node within first taken.held taken.updates.others))
 
 pub returns-in-Some-clause-list : goal.returns-in-Some-clause-list
 returns-in-Some-clause-list c =
     let seen = ap (λ d. d.lists) c.self.view_is in
     let within = within_seen _ _ c.args.self.now c.args.cell seen c.requires in
     let first = sym (get_or_read _ c.args.cell _ within c.index.ensures None) ∙ c.in-Some.is in
-    let laid = AreLaid-taken _ _ _ c.self.invariant.laid c.args.cell c.in-Some.key c.remove-node.result within first c.remove-node.ensures.value c.remove-node.ensures.updates.others in
+    let taken = c.remove-next.ensures.taken in
+    let link = rw taken.held at c.remove-next.ensures.next in
+    let laid = rw (sym link) at (AreLaid-taken _ _ _ c.self.invariant.laid c.args.cell c.in-Some.key taken.node within first taken.held taken.updates.others) in
     lists_from-changed _ _ _ _ c.args.self.now c.args.cell (drop 1) seen within laid
 
 pub returns-in-Some-clause-places : goal.returns-in-Some-clause-places
@@ -26,9 +30,9 @@ returns-in-Some-clause-places c =
     let seen = ap (λ d. d.lists) c.self.view_is in
     let within = within_seen _ _ c.args.self.now c.args.cell seen c.requires in
     let first = sym (get_or_read _ c.args.cell _ within c.index.ensures None) ∙ c.in-Some.is in
-    let some = length-first _ _ c.self.invariant.laid c.args.cell c.in-Some.key _ within first c.remove-node.ensures.value in
+    let some = length-first _ _ c.self.invariant.laid c.args.cell c.in-Some.key _ within first c.remove-next.ensures.taken.held in
     let old = ap length (list_of-seen _ _ c.args.self.now c.args.cell seen within) in
     let new = ap length (list_of-changed c.args.self.now _ c.args.cell _ c.requires (returns-in-Some-clause-list c)) in
     let less = length-drop 1 (list_of c.args.self.now c.args.cell) in
     let spare = ap (λ d. d.spare) c.self.view_is in
-    omega (arith, c.remove-node.ensures.room)
+    omega (arith, c.remove-next.ensures.spare)

@@ -1,13 +1,12 @@
 use Rattle.std.proofs.Common.{None, Some, IsSome, ap, length, length-set, subst, sym, ◌∙◌, refl, arith}
 use Rattle.std.proofs.lemmas.List.{get_or_read}
 use Rattle.quantity.specs.Delay.{put_pair}
-use Rattle.slab.specs.Slab.{get}
-use Rattle.slab.proofs.SlabLemmas.{Updates-with_value}
+use Rattle.delay_lines.specs.Places.{look_in}
 use Rattle.delay_lines.specs.Lists.{list_of}
-use Rattle.delay_lines.specs.Nodes.{IsOrdered, IsTaken, last_link, node_of, pairs_from}
+use Rattle.delay_lines.specs.Nodes.{IsOrdered, IsTaken, last_link, pairs_from}
 use Rattle.delay_lines.proofs.Chains.{AreLaid-headed, AreLaid-replaced, AreLaid-stands_linked, length-free, length-taken}
 use Rattle.delay_lines.proofs.Ends.{AreHeld-headed, AreHeld-replaced, AreHeld-seen, AreHeld-stands_linked, end_of}
-use Rattle.delay_lines.proofs.Laid.{IsOrdered-laid, list_of-changed, list_of-seen, lists_from-changed, slab_len-with_value, within_seen}
+use Rattle.delay_lines.proofs.Laid.{IsOrdered-laid, list_of-changed, list_of-seen, lists_from-changed, within_seen}
 use Rattle.delay_lines.proofs.Puts.{length-put_pair}
 use Rattle.delay_lines.proofs.Spots.{IsFree-at}
 use Rattle.delay_lines.proofs.delays.Delays.transport.Goals as goal
@@ -16,37 +15,35 @@ pub place_of-requires-clause-ordered : goal.place_of-requires-clause-ordered
 place_of-requires-clause-ordered c =
     let within = within_seen _ _ c.args.self.now c.args.cell (ap (λ d. d.lists) c.self.view_is) c.requires in
     let read = get_or_read _ c.args.cell _ within c.index.ensures None in
-    subst (λ o. IsOrdered (get c.self.inside.nodes) o) (sym read) (IsOrdered-laid _ _ c.self.invariant.laid c.args.cell within)
+    subst (λ o. IsOrdered (look_in c.self.inside.nodes) o) (sym read) (IsOrdered-laid _ _ c.self.invariant.laid c.args.cell within)
 
 pub place_of-requires-clause-last : goal.place_of-requires-clause-last
 place_of-requires-clause-last c =
-    let look = get c.self.inside.nodes in
+    let look = (look_in c.self.inside.nodes) in
     let within = within_seen _ _ c.args.self.now c.args.cell (ap (λ d. d.lists) c.self.view_is) c.requires in
     let read = get_or_read _ c.args.cell _ within c.index.ensures None in
     let last = get_or_read _ c.args.cell _ (omega (arith, within, c.self.invariant.many)) c.index-last.ensures None in
     last ∙ end_of look c.self.inside.firsts.items c.self.inside.lasts.items c.self.invariant c.args.cell within ∙ ap (λ o. last_link look o (pairs_from look o)) (sym read)
 
-pub index_mut-requires : goal.index_mut-requires
-index_mut-requires c = subst IsSome (sym c.in-Taken.ensures.holds) refl
+pub set_pair-requires : goal.set_pair-requires
+set_pair-requires c = subst IsSome (sym c.in-Taken.ensures.holds) refl
 
 pub invariant_of-self : goal.invariant_of-self
 invariant_of-self c =
     let within = within_seen _ _ c.args.self.now c.args.cell (ap (λ d. d.lists) c.self.view_is) c.requires in
     let read = get_or_read _ c.args.cell _ within c.index.ensures None in
-    let taken = subst (λ o. IsTaken (get c.self.inside.nodes) o c.args.at c.in-Taken.key) read c.in-Taken.ensures in
-    let node = c.index_mut.result.now in
-    let written = Updates-with_value c.self.inside.nodes c.in-Taken.key (node_of (c.args.at, c.args.value) node.next) (subst IsSome (sym c.index_mut.ensures.value) refl) in
-    AreHeld-seen _ _ _ _ (AreHeld-replaced _ _ _ _ c.self.invariant c.args.cell c.args.at c.args.value c.in-Taken.key node within taken c.index_mut.ensures.value written.changed written.others)
+    let taken = subst (λ o. IsTaken (look_in c.self.inside.nodes) o c.args.at c.in-Taken.key) read c.in-Taken.ensures in
+    let pair = c.set_pair.ensures.pair in
+    AreHeld-seen _ _ _ _ (AreHeld-replaced _ _ _ _ c.self.invariant c.args.cell c.args.at c.args.value c.in-Taken.key pair.node within taken pair.held pair.updates.changed pair.updates.others)
 
 pub returns-in-Taken-clause-ok : goal.returns-in-Taken-clause-ok
 returns-in-Taken-clause-ok c =
     let seen = ap (λ d. d.lists) c.self.view_is in
     let within = within_seen _ _ c.args.self.now c.args.cell seen c.requires in
     let read = get_or_read _ c.args.cell _ within c.index.ensures None in
-    let taken = subst (λ o. IsTaken (get c.self.inside.nodes) o c.args.at c.in-Taken.key) read c.in-Taken.ensures in
-    let node = c.index_mut.result.now in
-    let written = Updates-with_value c.self.inside.nodes c.in-Taken.key (node_of (c.args.at, c.args.value) node.next) (subst IsSome (sym c.index_mut.ensures.value) refl) in
-    let laid = AreLaid-replaced _ _ _ c.self.invariant.laid c.args.cell c.args.at c.args.value c.in-Taken.key node within taken c.index_mut.ensures.value written.changed written.others in
+    let taken = subst (λ o. IsTaken (look_in c.self.inside.nodes) o c.args.at c.in-Taken.key) read c.in-Taken.ensures in
+    let pair = c.set_pair.ensures.pair in
+    let laid = AreLaid-replaced _ _ _ c.self.invariant.laid c.args.cell c.args.at c.args.value c.in-Taken.key pair.node within taken pair.held pair.updates.changed pair.updates.others in
     lists_from-changed _ _ _ _ c.args.self.now c.args.cell (put_pair c.args.at c.args.value) seen within laid
 
 pub returns-in-Taken-clause-rising : goal.returns-in-Taken-clause-rising
@@ -62,10 +59,9 @@ returns-in-Taken-clause-had_room c =
     let new = ap length (list_of-changed c.args.self.now _ c.args.cell _ c.requires (returns-in-Taken-clause-ok c)) in
     let old = list_of-seen _ _ c.args.self.now c.args.cell (ap (λ d. d.lists) c.self.view_is) within in
     let put = ap (λ l. length (put_pair c.args.at c.args.value l)) old in
-    let same = length-taken _ _ c.args.at c.args.value _ (subst (λ o. IsTaken (get c.self.inside.nodes) o c.args.at c.in-Taken.key) read c.in-Taken.ensures) in
+    let same = length-taken _ _ c.args.at c.args.value _ (subst (λ o. IsTaken (look_in c.self.inside.nodes) o c.args.at c.in-Taken.key) read c.in-Taken.ensures) in
     let had = ap length old in
     let spare = ap (λ d. d.spare) c.self.view_is in
-    let len = slab_len-with_value c.self.inside.nodes c.in-Taken.key (node_of (c.args.at, c.args.value) c.index_mut.result.now.next) (subst IsSome (sym c.index_mut.ensures.value) refl) in
     λ room. omega arith
 
 pub returns-in-Taken-clause-places : goal.returns-in-Taken-clause-places
@@ -73,7 +69,6 @@ returns-in-Taken-clause-places c =
     let new = ap length (list_of-changed c.args.self.now _ c.args.cell _ c.requires (returns-in-Taken-clause-ok c)) in
     let more = length-put_pair c.args.at c.args.value (list_of c.args.self.now c.args.cell) in
     let spare = ap (λ d. d.spare) c.self.view_is in
-    let len = slab_len-with_value c.self.inside.nodes c.in-Taken.key (node_of (c.args.at, c.args.value) c.index_mut.result.now.next) (subst IsSome (sym c.index_mut.ensures.value) refl) in
     omega (arith, more.0)
 
 pub invariant_of-self-in_default : goal.invariant_of-self-in_default
@@ -85,10 +80,9 @@ invariant_of-self-in-Some c =
     let read = get_or_read _ c.args.cell _ within c.index.ensures None in
     let free = IsFree-at _ _ _ _ _ _ _ read c.in-Some.is c.in-Free.ensures in
     let made = c.in-Ok.ensures in
-    let node = c.index_mut-in-Some.result.now in
-    let linked = Updates-with_value c.insert.new.self c.in-Some.before (node_of node.pair (Some c.in-Ok.key)) (subst IsSome (sym c.index_mut-in-Some.ensures.value) refl) in
+    let link = c.set_next.ensures.link in
     let last = get_or_read _ c.args.cell _ (omega (arith, within, c.self.invariant.many)) c.index-last.ensures None in
-    rw (c.last_with.ensures, last) (AreHeld-seen _ _ _ _ (AreHeld-stands_linked _ _ _ _ _ c.self.invariant c.args.cell c.args.at c.args.value c.in-Ok.key c.in-Some.before c.in-Free.next node within c.new.ensures.time free made.was_vacant (made.updates.changed ∙ ap Some c.new.ensures.node) made.updates.others c.index_mut-in-Some.ensures.value linked.changed linked.others))
+    rw (c.last_with.ensures, last) (AreHeld-seen _ _ _ _ (AreHeld-stands_linked _ _ _ _ _ c.self.invariant c.args.cell c.args.at c.args.value c.in-Ok.key c.in-Some.before c.in-Free.next link.node within c.new.ensures.time free made.was_vacant (made.updates.changed ∙ ap Some c.new.ensures.node) made.updates.others link.held link.updates.changed link.updates.others))
 
 pub returns-in-Some-clause-ok : goal.returns-in-Some-clause-ok
 returns-in-Some-clause-ok c =
@@ -97,9 +91,8 @@ returns-in-Some-clause-ok c =
     let read = get_or_read _ c.args.cell _ within c.index.ensures None in
     let free = IsFree-at _ _ _ _ _ _ _ read c.in-Some.is c.in-Free.ensures in
     let made = c.in-Ok.ensures in
-    let node = c.index_mut-in-Some.result.now in
-    let linked = Updates-with_value c.insert.new.self c.in-Some.before (node_of node.pair (Some c.in-Ok.key)) (subst IsSome (sym c.index_mut-in-Some.ensures.value) refl) in
-    let laid = AreLaid-stands_linked _ _ _ _ c.self.invariant.laid c.args.cell c.args.at c.args.value c.in-Ok.key c.in-Some.before c.in-Free.next node within c.new.ensures.time free made.was_vacant (made.updates.changed ∙ ap Some c.new.ensures.node) made.updates.others c.index_mut-in-Some.ensures.value linked.changed linked.others in
+    let link = c.set_next.ensures.link in
+    let laid = AreLaid-stands_linked _ _ _ _ c.self.invariant.laid c.args.cell c.args.at c.args.value c.in-Ok.key c.in-Some.before c.in-Free.next link.node within c.new.ensures.time free made.was_vacant (made.updates.changed ∙ ap Some c.new.ensures.node) made.updates.others link.held link.updates.changed link.updates.others in
     lists_from-changed _ _ _ _ c.args.self.now c.args.cell (put_pair c.args.at c.args.value) seen within laid
 
 pub returns-in-Some-clause-rising : goal.returns-in-Some-clause-rising
@@ -117,9 +110,7 @@ returns-in-Some-clause-had_room c =
     let more = length-free _ _ c.args.at c.args.value _ _ (IsFree-at _ _ _ _ _ _ _ read refl c.in-Free.ensures) in
     let had = ap length old in
     let spare = ap (λ d. d.spare) c.self.view_is in
-    let node = c.index_mut-in-Some.result.now in
-    let len = slab_len-with_value c.insert.new.self c.in-Some.before (node_of node.pair (Some c.in-Ok.key)) (subst IsSome (sym c.index_mut-in-Some.ensures.value) refl) in
-    λ room. let same = c.in-Ok.ensures.had_room (omega arith) in omega (arith, c.in-Ok.ensures.len)
+    λ room. let same = c.in-Ok.ensures.had_room (omega arith) in omega arith
 
 pub returns-in-Some-clause-places : goal.returns-in-Some-clause-places
 returns-in-Some-clause-places c =
@@ -131,9 +122,7 @@ returns-in-Some-clause-places c =
     let more = length-free _ _ c.args.at c.args.value _ _ (IsFree-at _ _ _ _ _ _ _ read refl c.in-Free.ensures) in
     let had = ap length old in
     let spare = ap (λ d. d.spare) c.self.view_is in
-    let node = c.index_mut-in-Some.result.now in
-    let len = slab_len-with_value c.insert.new.self c.in-Some.before (node_of node.pair (Some c.in-Ok.key)) (subst IsSome (sym c.index_mut-in-Some.ensures.value) refl) in
-    omega (arith, c.in-Ok.ensures.len, c.in-Ok.ensures.capacity)
+    omega (arith, c.in-Ok.ensures.spare)
 
 pub invariant_of-self-in-None : goal.invariant_of-self-in-None
 invariant_of-self-in-None c =
@@ -169,7 +158,7 @@ returns-in-None-clause-had_room c =
     let more = length-free _ _ c.args.at c.args.value _ _ (IsFree-at _ _ _ _ _ _ _ read refl c.in-Free.ensures) in
     let had = ap length old in
     let spare = ap (λ d. d.spare) c.self.view_is in
-    λ room. let same = c.in-Ok.ensures.had_room (omega arith) in omega (arith, c.in-Ok.ensures.len)
+    λ room. let same = c.in-Ok.ensures.had_room (omega arith) in omega arith
 
 pub returns-in-None-clause-places : goal.returns-in-None-clause-places
 returns-in-None-clause-places c =
@@ -181,4 +170,4 @@ returns-in-None-clause-places c =
     let more = length-free _ _ c.args.at c.args.value _ _ (IsFree-at _ _ _ _ _ _ _ read refl c.in-Free.ensures) in
     let had = ap length old in
     let spare = ap (λ d. d.spare) c.self.view_is in
-    omega (arith, c.in-Ok.ensures.len, c.in-Ok.ensures.capacity)
+    omega (arith, c.in-Ok.ensures.spare)
