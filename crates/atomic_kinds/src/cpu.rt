@@ -1,9 +1,9 @@
 // Cpus.
-ghost use Rattle.std.specs.Prelude.{◌≡◌, ◌==◌, ℕ, ◌<◌, ◌≤◌, ◌+◌, ◌++◌, [], ◌∷◌, length, vec_len, vec_capacity, nat_lt, not, if◌then◌else◌, IfOk, MatchOption};
-ghost use Rattle.std.specs.List.{filter, position, position_or_len};
-ghost use Rattle.atomic_face.specs.Classes.{cpu_inputs, cpu_next, cpu_put, is_at};
+ghost use Rattle.std.specs.Prelude.{◌≡◌, ◌<◌, ◌≤◌, ◌+◌, ◌++◌, length, drop, true, IfOk, MatchOption, OnOk, OnErr};
+ghost use Rattle.std.specs.VecDeque.{deque_len, deque_capacity};
+ghost use Rattle.atomic_face.specs.Classes.{cpu_inputs, cpu_next, cpu_put};
 ghost use Rattle.atomic_face.specs.Settings.{first_line_off};
-ghost use Rattle.atomic_kinds.specs.Pairs.{given_at, pair_words, word_pairs, HasPair, LacksPair, ReadsPair, ReadsPairs};
+ghost use Rattle.atomic_kinds.specs.Pairs.{given_at, given_by, left_at, pair_words, place_for, rises_from, word_pairs, GivenFrom, HasPair, LacksPair, ReadsPair, ReadsPairs};
 
 use crate::parameters::{Form, line_off, time_setting};
 use atomic_face::words::{is_at, put, time, time_of, time_word, value_of, value_word};
@@ -12,14 +12,16 @@ use atomic_face::{
 };
 use quantity::{OutOfMemory, Time, Value};
 use std::alloc::{AllocError, Global};
+use std::collections::VecDeque;
 
 /// Gives each value at `in` on after a delay, all values of one time at once.
 #[derive(Drop)]
 pub struct CpuModel {
     delay: Time,
     // By rising time, and at one time in the order of their arrival.
-    pairs: Vec<(Time, Value)>,
+    pairs: VecDeque<(Time, Value)>,
     ghost short: { delay ≤ 359999999 },
+    ghost rising: { rises_from 0 pairs.items ≡ true },
 }
 
 impl AtomicModel for CpuModel {
@@ -45,12 +47,10 @@ impl AtomicModel for CpuModel {
     }
 
     fn output(&self, into: &mut Vec<(PortNo, Value)>) -> Result<(), OutOfMemory> {
-        let Some(due) = first_time(&self.pairs) else {
-            return Ok(());
-        };
-        into.reserve(self.pairs.len())?;
-        give_all(&self.pairs, due, into);
-        Ok(())
+        match first_time(&self.pairs) {
+            Some(due) => give_due(&self.pairs, due, into),
+            None => Ok(()),
+        }
     }
 
     fn advance(&mut self, now: Time, bag: &[(PortNo, Value)]) -> Result<(), AdvanceRefusal> {
@@ -87,64 +87,83 @@ impl CpuModel {
     {
         CpuModel {
             delay: time(0),
-            pairs: Vec::new(alloc),
+            pairs: VecDeque::new(alloc),
         }
     }
 }
 
-fn first_time(pairs: &[(Time, Value)]) -> Option<Time>
-    ensures { result ≡ cpu_next (word_pairs pairs.now) }
+fn first_time(pairs: &VecDeque<(Time, Value)>) -> Option<Time>
+    ensures { result ≡ cpu_next (word_pairs pairs.now.items) }
 {
-    match pairs.first() {
+    match pairs.front() {
         Some(pair) => Some(pair.0),
         None => None,
     }
 }
 
-// Appends the values of the pairs of this time. There is room for them.
-fn give_all(pairs: &[(Time, Value)], due: Time, into: &mut Vec<(PortNo, Value)>)
-    requires { vec_len into.old + length pairs.now ≤ vec_capacity into.old }
-    ensures { into.new.items ≡ into.old.items ++ given_at due pairs.now }
+// Appends the values of the pairs of this time, the first of all. Where memory is refused, `into` stays
+// as it was.
+fn give_due(
+    pairs: &VecDeque<(Time, Value)>,
+    due: Time,
+    into: &mut Vec<(PortNo, Value)>,
+) -> Result<(), OutOfMemory>
+    requires { rises_from due pairs.now.items ≡ true }
+    ensures ok { OnOk result (into.new.items ≡ into.old.items ++ given_at due pairs.now.items) }
+    ensures err { OnErr result (into.new.items ≡ into.old.items) }
 {
-    for pair in pairs {
-        give_if(pair, due, into);
+    let len = into.len();
+    let mut place = 0;
+    while let Some(given) = given_from(pairs, place, due) {
+        if into.push(given).is_err() {
+            into.truncate(len);
+            return Err(OutOfMemory);
+        }
+        place += 1;
     }
+    Ok(())
 }
 
-fn give_if(pair: &(Time, Value), due: Time, into: &mut Vec<(PortNo, Value)>)
-    requires { vec_len into.old < vec_capacity into.old }
-    ensures items { into.new.items ≡ into.old.items ++ given_at due (pair.now ∷ []) }
-    ensures one_more { vec_len into.new ≤ vec_len into.old + 1 }
-    ensures capacity { vec_capacity into.new ≡ vec_capacity into.old }
+// What the pair at a place gives, where it is of this time.
+fn given_from(pairs: &VecDeque<(Time, Value)>, place: usize, due: Time) -> Option<(PortNo, Value)>
+    requires { rises_from due (drop place pairs.now.items) ≡ true }
+    ensures { GivenFrom due pairs.now.items place result }
 {
+    let Some(pair) = pairs.get(place) else {
+        return None;
+    };
     if pair.0.ms() == due.ms() {
-        let _ = pair.1.known();
-        into.push_reserved((PortNo(0), pair.1));
+        Some(given_by(pair))
+    } else {
+        None
     }
 }
 
-// Where the first pairs are due now, all pairs of this time leave.
-fn leave(pairs: &mut Vec<(Time, Value)>, now: Time)
-    ensures items { pairs.new.items ≡ (if is_at now (cpu_next (word_pairs pairs.old.items)) then filter (λ p. not (p.0 == now)) pairs.old.items else pairs.old.items) }
-    ensures fewer { vec_len pairs.new ≤ vec_len pairs.old }
-    ensures capacity { vec_capacity pairs.new ≡ vec_capacity pairs.old }
+fn given_by(pair: &(Time, Value)) -> (PortNo, Value)
+    ensures { result ≡ given_by pair.now }
 {
-    if is_at(now, first_time(pairs)) {
-        drop_at(pairs, now);
+    let _ = pair.1.known();
+    (PortNo(0), pair.1)
+}
+
+// Where the first pairs are due now, all pairs of this time leave: they stand before all others.
+fn leave(pairs: &mut VecDeque<(Time, Value)>, now: Time)
+    requires { rises_from 0 pairs.old.items ≡ true }
+    ensures items { pairs.new.items ≡ left_at now pairs.old.items }
+    ensures rising { rises_from 0 pairs.new.items ≡ true }
+    ensures fewer { deque_len pairs.new ≤ deque_len pairs.old }
+    ensures capacity { deque_capacity pairs.new ≡ deque_capacity pairs.old }
+{
+    while is_at(now, first_time(pairs)) {
+        pairs.pop_front();
     }
 }
 
-fn drop_at(pairs: &mut Vec<(Time, Value)>, now: Time)
-    ensures items { pairs.new.items ≡ filter (λ p. not (p.0 == now)) pairs.old.items }
-    ensures fewer { vec_len pairs.new ≤ vec_len pairs.old }
-    ensures capacity { vec_capacity pairs.new ≡ vec_capacity pairs.old }
-{
-    pairs.retain(|pair| pair.0.ms() != now.ms());
-}
-
-fn put_all(pairs: &mut Vec<(Time, Value)>, at: Time, bag: &[(PortNo, Value)])
-    requires { vec_len pairs.old + length bag.now ≤ vec_capacity pairs.old }
-    ensures { word_pairs pairs.new.items ≡ cpu_inputs at (word_pairs pairs.old.items) bag.now }
+fn put_all(pairs: &mut VecDeque<(Time, Value)>, at: Time, bag: &[(PortNo, Value)])
+    requires rising { rises_from 0 pairs.old.items ≡ true }
+    requires room { deque_len pairs.old + length bag.now ≤ deque_capacity pairs.old }
+    ensures items { word_pairs pairs.new.items ≡ cpu_inputs at (word_pairs pairs.old.items) bag.now }
+    ensures rising { rises_from 0 pairs.new.items ≡ true }
 {
     for input in bag {
         put_at(pairs, at, &input.1);
@@ -152,54 +171,62 @@ fn put_all(pairs: &mut Vec<(Time, Value)>, at: Time, bag: &[(PortNo, Value)])
 }
 
 // Puts a value behind all pairs that are no later. There is room for it.
-fn put_at(pairs: &mut Vec<(Time, Value)>, at: Time, value: &Value)
-    requires { vec_len pairs.old < vec_capacity pairs.old }
+fn put_at(pairs: &mut VecDeque<(Time, Value)>, at: Time, value: &Value)
+    requires rising { rises_from 0 pairs.old.items ≡ true }
+    requires room { deque_len pairs.old < deque_capacity pairs.old }
     ensures items { word_pairs pairs.new.items ≡ cpu_put at value.now (word_pairs pairs.old.items) }
-    ensures one_more { vec_len pairs.new ≡ vec_len pairs.old + 1 }
-    ensures capacity { vec_capacity pairs.new ≡ vec_capacity pairs.old }
+    ensures rising { rises_from 0 pairs.new.items ≡ true }
+    ensures one_more { deque_len pairs.new ≡ deque_len pairs.old + 1 }
+    ensures capacity { deque_capacity pairs.old ≤ deque_capacity pairs.new }
 {
     let place = place_after(pairs, at);
     let _ = pairs.insert(place, (at, *value));
 }
 
-// The place of the first pair that is later, or behind the last.
-fn place_after(pairs: &[(Time, Value)], at: Time) -> usize
-    ensures place { result ≡ position_or_len (λ p. nat_lt at p.0) pairs.now }
-    ensures within { result ≤ length pairs.now }
+// The place of the first pair that is later, or behind the last. As nearly every value is put behind all
+// others, it is looked for from there.
+fn place_after(pairs: &VecDeque<(Time, Value)>, at: Time) -> usize
+    requires { rises_from 0 pairs.now.items ≡ true }
+    ensures place { result ≡ place_for at pairs.now.items }
+    ensures within { result ≤ deque_len pairs.now }
 {
-    match first_later(pairs, at) {
-        Some(place) => place,
-        None => pairs.len(),
+    let mut place = pairs.len();
+    while place > 0 && pairs[place - 1].0.ms() > at.ms() {
+        place -= 1;
     }
+    place
 }
 
-fn first_later(pairs: &[(Time, Value)], at: Time) -> Option<usize>
-    ensures { result ≡ position (λ p. nat_lt at p.0) pairs.now }
+fn words_of(alloc: Global, pairs: &VecDeque<(Time, Value)>) -> Result<Vec<i64>, AllocError>
+    ensures { IfOk result (λ words. words.items ≡ pair_words pairs.now.items) }
 {
-    pairs.iter().position(|pair| pair.0.ms() > at.ms())
-}
-
-fn words_of(alloc: Global, pairs: &[(Time, Value)]) -> Result<Vec<i64>, AllocError>
-    ensures { IfOk result (λ words. words.items ≡ pair_words pairs.now) }
-{
+    let (front, back) = pairs.as_slices();
     let mut words = Vec::new(alloc);
+    put_words(front, &mut words)?;
+    put_words(back, &mut words)?;
+    Ok(words)
+}
+
+fn put_words(pairs: &[(Time, Value)], words: &mut Vec<i64>) -> Result<(), AllocError>
+    ensures { OnOk result (words.new.items ≡ words.old.items ++ pair_words pairs.now) }
+{
     for pair in pairs {
         words.push(time_word(Some(pair.0)))?;
         words.push(value_word(pair.1))?;
     }
-    Ok(words)
+    Ok(())
 }
 
 // The pairs of these numbers. BadState where they are no pairs by rising time.
-fn pairs_of(alloc: Global, words: &[i64]) -> Result<Vec<(Time, Value)>, RestoreRefusal>
+fn pairs_of(alloc: Global, words: &[i64]) -> Result<VecDeque<(Time, Value)>, RestoreRefusal>
     ensures { ReadsPairs words.now result }
 {
-    let mut pairs = Vec::new(alloc);
+    let mut pairs = VecDeque::new(alloc);
     let mut before = time(0);
     let mut rest = words;
     while let Some((pair, others)) = first_pair(before, rest) {
         before = pair.0;
-        if pairs.push(pair).is_err() {
+        if pairs.push_back(pair).is_err() {
             return Err(RestoreRefusal::Memory);
         }
         rest = others;
