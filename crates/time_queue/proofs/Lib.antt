@@ -8,3 +8,4 @@ pub mod Moved
 pub mod Replayed
 pub mod Links
 pub mod Lines
+pub mod Fronts

@@ -79,12 +79,16 @@ fewer_but ts order after places n last place leaf inverse ranked n_is lt here is
     (λ m m_lt ne. fewer_time ts order after places n last place leaf m inverse ranked n_is lt here is m_lt ne)
 
 -- it stood last
-pub fewer_ranked : (ts : List (Option ℕ)) (order after places : List ℕ) (n last place leaf : ℕ) → IsInverse after places → IsRanked ts order n → n ≡ last + 1 → place < n → place ≡ last → slice_index order place ≡ leaf → leaf < length ts → after ≡ swap order place last → IsRanked (set ts leaf None) after last
-fewer_ranked ts order after places n last place leaf inverse ranked n_is lt at_last here within is = record {
-  few = omega (arith, ranked.few, length-set ts leaf None);
-  same = swapped_length order after place last is ∙ ranked.same ∙ sym (length-set ts leaf None);
-  within = omega (arith, ranked.within, length-set ts leaf None);
-  first = fewer_first ts order after places n last place leaf inverse ranked n_is lt here within is;
-  heap = heap_same last (time_at ts order) (time_at (set ts leaf None) after) (heap_fewer n last (time_at ts order) (omega arith) ranked.heap)
-      (λ m m_lt. let ne : m ≢ place = omega arith in fewer_time ts order after places n last place leaf m inverse ranked n_is lt here is m_lt ne);
-}
+pub last_ranked : (ts : List (Option ℕ)) (order places : List ℕ) (n last leaf : ℕ) → IsInverse order places → IsRanked ts order n → n ≡ last + 1 → slice_index order last ≡ leaf → leaf < length ts → IsRanked (set ts leaf None) order last
+last_ranked ts order places n last leaf inverse ranked n_is here within =
+    let last_lt : last < length order = omega (arith, ranked.same, ranked.within) in
+    record {
+      few = omega (arith, ranked.few, length-set ts leaf None);
+      same = ranked.same ∙ sym (length-set ts leaf None);
+      within = omega (arith, ranked.within, length-set ts leaf None);
+      first = first_fewer ts order places last leaf inverse last_lt within here (subst (λ (m : ℕ). AreFirst ts order m) n_is ranked.first);
+      heap = heap_same last (time_at ts order) (time_at (set ts leaf None) order) (heap_fewer n last (time_at ts order) (omega arith) ranked.heap)
+          (λ m m_lt.
+          let ne : m ≢ last = omega arith in
+          time_kept ts order places last leaf m None inverse last_lt here (omega arith) ne);
+    }

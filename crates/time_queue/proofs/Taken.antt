@@ -5,7 +5,7 @@ use Rattle.std.proofs.lemmas.Bool.{cases_eq, eq-eqb, ne_eqb}
 use Rattle.std.proofs.lemmas.List.{length-set, get_or-set_same, get_or-set_other, map-set, set-get_or, get_or-map, map-id, length-map, length-append, length-take-le, length-drop, get_or-append_right, get_or-drop, get_or_default}
 use Rattle.std.proofs.lemmas.List.Edits.{map_over_more}
 use Rattle.std.proofs.lemmas.List.FromFn.{length-range_with_len, filter_of_map_range_with_len_more}
-use Rattle.std.proofs.lemmas.List.Sums.{sum_by-cons, sum_by_push, length-filter, count_by-le-length}
+use Rattle.std.proofs.lemmas.List.Sums.{sum_by-cons, length-filter, count_by-le-length}
 use Rattle.time_queue.specs.Waiting.{time_of, is_due, leaves_at, undue, without, least_of, NoneBefore}
 use Rattle.time_queue.specs.Lists.{NoneAt}
 use Rattle.time_queue.proofs.Least.{least_reached, least_below, none_waits}
@@ -93,14 +93,6 @@ none_later at m ts is before ne =
 pub none_left : (at : ℕ) (ts : List (Option ℕ)) → least_of ts ≡ None → NoneAt at ts
 none_left at ts is = none_at at ts (λ leaf t waits same. none_waits ts is leaf t waits)
 
--- ---- the leaves at the front are taken, one after another
-
-pub record IsTaking (at : ℕ) (start now : List (Option ℕ)) (taken : List ℕ) : Type 0 where
-  pub counted : (f : ℕ → ℕ) → sum_by f taken + sum_by f (leaves_at at now) ≡ sum_by f (leaves_at at start)
-  pub stays : without at now ≡ without at start
-  pub same : length now ≡ length start
-  pub none_before : NoneBefore at now
-
 -- a leaf that waits for nothing is before no time
 pub fewer_before : (at leaf : ℕ) (ts : List (Option ℕ)) → leaf < length ts → NoneBefore at ts → NoneBefore at (set ts leaf None)
 fewer_before at leaf ts within none k t waits =
@@ -109,37 +101,12 @@ fewer_before at leaf ts within none k t waits =
     (λ ne. none k t (sym (get_or-set_other ts leaf k None None ne) ∙ waits))
     (cases_eq k leaf)
 
-pub taking_more : (at : ℕ) (start now : List (Option ℕ)) (taken : List ℕ) (leaf : ℕ) → IsTaking at start now taken → leaf < length now → time_of now leaf ≡ Some at → IsTaking at start (set now leaf None) (taken ++ leaf ∷ [])
-taking_more at start now taken leaf taking within waits = record {
-  counted = λ f. omega (arith, taking.counted f, sum_by_push f taken leaf, leaves_less f at leaf now within waits);
-  stays = without_less at leaf now within waits ∙ taking.stays;
-  same = length-set now leaf None ∙ taking.same;
-  none_before = fewer_before at leaf now within taking.none_before;
-}
-
 pub ones : (xs : List ℕ) → sum_by (λ _. 1) xs ≡ length xs
 ones [] = refl
 ones (x ∷ xs) = omega (arith, sum_by-cons (λ _. 1) x xs, ones xs)
 
 pub length_picked : (p : ℕ → Bool) (n : ℕ) → length (filter p (range_with_len 0 n)) ≤ n
 length_picked p n = omega (arith, length-filter p (range_with_len 0 n), count_by-le-length p (range_with_len 0 n), length-range_with_len 0 n)
-
--- there is room for one more
-pub taking_room : (at : ℕ) (start now : List (Option ℕ)) (taken : List ℕ) (leaf : ℕ) → IsTaking at start now taken → leaf < length now → time_of now leaf ≡ Some at → length taken < length start
-taking_room at start now taken leaf taking within waits =
-    omega (arith, taking.counted (λ _. 1), leaves_less (λ _. 1) at leaf now within waits, ones taken, ones (leaves_at at start), length_picked (λ k. is_due at (time_of start k)) (length start))
-
--- fewer leaves are left
-pub taking_falls : (at leaf : ℕ) (now : List (Option ℕ)) → leaf < length now → time_of now leaf ≡ Some at → length (leaves_at at (set now leaf None)) < length (leaves_at at now)
-taking_falls at leaf now within waits = omega (arith, leaves_less (λ _. 1) at leaf now within waits, ones (leaves_at at now), ones (leaves_at at (set now leaf None)))
-
-pub all_taken : (at : ℕ) (start now : List (Option ℕ)) (taken : List ℕ) → IsTaking at start now taken → NoneAt at now → (f : ℕ → ℕ) → sum_by f taken ≡ sum_by f (leaves_at at start)
-all_taken at start now taken taking none f =
-    let left : sum_by f (leaves_at at now) ≡ 0 = ap (sum_by f) (leaves_none at now none) in
-    omega (arith, taking.counted f)
-
-pub all_left : (at : ℕ) (start now : List (Option ℕ)) (taken : List ℕ) → IsTaking at start now taken → NoneAt at now → now ≡ without at start
-all_left at start now taken taking none = sym (without_none at now none) ∙ taking.stays
 
 -- ---- all leaves are gone through
 

@@ -1,5 +1,5 @@
 -- A heap of leaves, and the place of each leaf in it.
-use Rattle.std.specs.Prelude.{◌≡◌, ℕ, ◌+◌, ◌*◌, ◌<◌, ◌≤◌, ◌≢◌, Option, None, List, length, slice_index, unwrap_or, is_some, true}
+use Rattle.std.specs.Prelude.{◌≡◌, ℕ, ◌+◌, ◌*◌, ◌<◌, ◌≤◌, ◌≢◌, Option, Some, None, List, length, slice_index, unwrap_or, is_some, true}
 use Rattle.time_queue.specs.Waiting.{time_of}
 
 -- each leaf stands at its place, and each place is that of the leaf there
@@ -37,3 +37,8 @@ pub record IsRanked (times : List (Option ℕ)) (order : List ℕ) (n : ℕ) : T
   pub within : n ≤ length times
   pub first : AreFirst times order n
   pub heap : IsHeap n (time_at times order)
+
+-- different leaves that wait for this time
+pub record AreAt (at : ℕ) (times : List (Option ℕ)) (leaves : List ℕ) : Type 0 where
+  pub wait : (i : ℕ) → i < length leaves → time_of times (slice_index leaves i) ≡ Some at
+  pub apart : (i j : ℕ) → i < j → j < length leaves → slice_index leaves i ≢ slice_index leaves j

@@ -4,6 +4,7 @@ ghost use Rattle.std.specs.List.{sum_by};
 ghost use Rattle.std.specs.List.Sorted.{IsNonDecreasing};
 ghost use Rattle.std.specs.Vec.{vec_capacity};
 ghost use Rattle.time_queue.specs.Waiting.{time_of, least_of, is_due, undue, leaves_at, without, NoneBefore};
+ghost use Rattle.time_queue.specs.Lists.{NoneAt, TakesMore};
 
 use crate::entry::Entry;
 use quantity::Time;
@@ -61,13 +62,14 @@ pub fn some_before<Q: DueFirst>(queue: &Q, at: Time) -> bool
     }
 }
 
-// The leaves at the front, while they wait for this time, in any order.
-fn take_leading<Q: DueFirst>(queue: &mut Q, at: Time, into: &mut Vec<u32>)
-    requires empty { into.old.items ≡ [] }
-    requires room { length (Q.waiting queue.old) ≤ vec_capacity into.old }
-    requires none_before { NoneBefore at (Q.waiting queue.old) }
-    ensures taken { (f : ℕ → ℕ) → sum_by f into.new.items ≡ sum_by f (leaves_at at (Q.waiting queue.old)) }
-    ensures left { Q.waiting queue.new ≡ without at (Q.waiting queue.old) }
+/// Appends the leaves at the front, while they wait for this time, in any order.
+pub fn take_leading<Q: DueFirst>(queue: &mut Q, at: Time, into: &mut Vec<u32>)
+    requires early { NoneBefore at (Q.waiting queue.old) }
+    requires room { vec_len into.old + length (leaves_at at (Q.waiting queue.old))
+        ≤ vec_capacity into.old }
+    ensures taken { TakesMore at (Q.waiting queue.old) (Q.waiting queue.new)
+        into.old.items into.new.items }
+    ensures none { NoneAt at (Q.waiting queue.new) }
     ensures capacity { vec_capacity into.new ≡ vec_capacity into.old }
 {
     while let Some(first) = queue.first() {

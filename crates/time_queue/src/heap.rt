@@ -1,9 +1,11 @@
 // The queue whose leaves stand in a heap.
-ghost use Rattle.std.specs.Prelude.{◌≡◌, ℕ, ◌+◌, ◌*◌, ◌<◌, ◌≤◌, Option, List, length, replicate, IfOk, IfSome, IfNone, slice_set, slice_index, is_some, true};
+ghost use Rattle.std.specs.Prelude.{◌≡◌, ℕ, ◌+◌, ◌*◌, ◌<◌, ◌≤◌, [], Option, List, length, replicate, IfOk, IfSome, IfNone, slice_set, slice_index, is_some, true};
+ghost use Rattle.std.specs.Vec.{vec_capacity};
 ghost use Rattle.time_queue.specs.Waiting.{time_of};
-ghost use Rattle.time_queue.specs.Heap.{time_at, IsHeap, IsHeapBut, IsBelow, AreFirst, IsRanked};
+ghost use Rattle.time_queue.specs.Lists.{TakesMore};
+ghost use Rattle.time_queue.specs.Heap.{time_at, IsHeap, IsHeapBut, IsBelow, AreFirst, IsRanked, AreAt};
 
-use crate::due::{DueFirst, take_due};
+use crate::due::{DueFirst, some_before, sort, take_leading, take_scattered};
 use crate::entry::Entry;
 use crate::queue::TimeQueue;
 use crate::ranks::Ranks;
@@ -45,6 +47,23 @@ impl HeapQueue {
             waiting: 0,
         })
     }
+
+    // Takes the leaves at the first places of the heap, as long as they wait for this time, in the
+    // order of their places. The last of them leaves first, so that little stands below what comes to
+    // its place, and nothing where no other leaf waits.
+    fn take_front(&mut self, at: Time, into: &mut Vec<u32>)
+        requires empty { into.old.items ≡ [] }
+        requires room { length self.old ≤ vec_capacity into.old }
+        ensures taken { TakesMore at self.old self.new into.old.items into.new.items }
+        ensures capacity { vec_capacity into.new ≡ vec_capacity into.old }
+    {
+        copy_front(&self.times, &self.ranks, self.waiting, at, into);
+        let mut left = into.len();
+        while left > 0 {
+            left -= 1;
+            self.remove(into[left]);
+        }
+    }
 }
 
 impl TimeQueue for HeapQueue {
@@ -64,7 +83,13 @@ impl TimeQueue for HeapQueue {
     }
 
     fn take_all_at(&mut self, at: Time, into: &mut Vec<u32>) {
-        take_due(self, at, into);
+        if some_before(self, at) {
+            take_scattered(self, at, into);
+            return;
+        }
+        self.take_front(at, into);
+        take_leading(self, at, into);
+        sort(into);
     }
 }
 
@@ -90,6 +115,23 @@ impl DueFirst for HeapQueue {
 
     fn remove(&mut self, leaf: u32) {
         self.waiting = leave(&mut self.times, &mut self.ranks, self.waiting, leaf);
+    }
+}
+
+// Appends the leaves at the first places, as long as they wait for this time.
+fn copy_front(times: &[Option<Time>], ranks: &Ranks, waiting: usize, at: Time, into: &mut Vec<u32>)
+    requires ranked { IsRanked times.now ranks.now.order.items waiting }
+    requires empty { into.old.items ≡ [] }
+    requires room { waiting ≤ vec_capacity into.old }
+    ensures front { AreAt at times.now into.new.items }
+    ensures capacity { vec_capacity into.new ≡ vec_capacity into.old }
+{
+    for place in 0..waiting {
+        let leaf = ranks.order[place];
+        if times[leaf as usize] != Some(at) {
+            return;
+        }
+        into.push_reserved(leaf);
     }
 }
 
@@ -130,11 +172,12 @@ fn leave(times: &mut Vec<Option<Time>>, ranks: &mut Ranks, waiting: usize, leaf:
         return waiting;
     }
     let last = waiting - 1;
-    ranks.swap(place, last);
-    times[leaf as usize] = None;
     if place == last {
+        times[leaf as usize] = None;
         return last;
     }
+    ranks.swap(place, last);
+    times[leaf as usize] = None;
     settle(times, ranks, last, place);
     last
 }

@@ -71,6 +71,18 @@ impl Lists {
         let Some(at) = self.times[leaf as usize] else {
             return;
         };
+        self.leave_list(leaf, at);
+    }
+
+    // A leaf that waits leaves its list. Mostly none waits any more, so this is no part of `leave`.
+    #[inline(never)]
+    fn leave_list(&mut self, leaf: u32, at: Time)
+        requires linked { AreLinked self.old None }
+        requires within { leaf < length self.old.times.items }
+        requires waits { time_of self.old.times.items leaf ≡ Some at }
+        ensures times { self.new.times.items ≡ slice_set self.old.times.items leaf None }
+        ensures linked { AreLinked self.new None }
+    {
         match self.before[leaf as usize] {
             Some(before) => self.unlink(before, leaf),
             None => self.leave_first(leaf, at),

@@ -1,11 +1,21 @@
-use Rattle.std.proofs.Common.{length, ◌∙◌}
+use Rattle.std.proofs.Common.{length, sym, ap, ◌∙◌, arith}
 use Rattle.time_queue.specs.Waiting.{time_of, is_due, leaves_at}
+use Rattle.time_queue.proofs.Lines.{all_listed, leaves_few}
 use Rattle.time_queue.proofs.Rising.{same_rising, rising_picked}
+use Rattle.time_queue.proofs.Taken.{without_none}
 use Rattle.time_queue.proofs.due.take_due.Goals as goal
+
+pub take_leading-requires-clause-room : goal.take_leading-requires-clause-room
+take_leading-requires-clause-room g c =
+    omega (arith, leaves_few c.args.at (g.Q.DueFirst.waiting c.args.queue.now), c.requires.room, c.args.into.now.ok.0, ap length c.requires.empty)
 
 pub returns-clause-taken : goal.returns-clause-taken
 returns-clause-taken g c =
     let times = g.Q.DueFirst.waiting c.args.queue.now in
+    let taken = all_listed c.args.at _ _ _ _ c.take_leading.ensures.taken c.take_leading.ensures.none c.requires.empty in
     same_rising c.sort.new.numbers.items (leaves_at c.args.at times) c.sort.ensures.rising
     (rising_picked (λ k. is_due c.args.at (time_of times k)) 0 (length times))
-    (λ f. c.sort.ensures.same f ∙ c.take_leading.ensures.taken f)
+    (λ f. c.sort.ensures.same f ∙ taken f)
+
+pub returns-clause-left : goal.returns-clause-left
+returns-clause-left g c = sym (without_none c.args.at _ c.take_leading.ensures.none) ∙ c.take_leading.ensures.taken.stays

@@ -1,14 +1,13 @@
-use Rattle.std.proofs.Common.{◌≡◌, length, ◌≤◌}
+use Rattle.std.proofs.Common.{◌≡◌, length}
 use Rattle.std.specs.Vec.{vec_capacity}
 use Rattle.time_queue.specs.Waiting.{leaves_at}
-use Rattle.time_queue.proofs.Taken.{IsTaking}
+use Rattle.time_queue.specs.Lists.{TakesMore}
 use Rattle.time_queue.proofs.due.take_leading.Given as goal
 
 abbrev pub invariant-loop-first : goal.invariant-loop-first
 invariant-loop-first g l = record {
-  taking : IsTaking l.at (g.Q.DueFirst.waiting l.fn.queue) (g.Q.DueFirst.waiting l.queue) l.into.items;
-  room : length (g.Q.DueFirst.waiting l.fn.queue) ≤ vec_capacity l.into;
-  same : vec_capacity l.into ≡ vec_capacity l.fn.into;
+  taken : TakesMore l.at (g.Q.DueFirst.waiting l.fn.queue) (g.Q.DueFirst.waiting l.queue) l.fn.into.items l.into.items;
+  capacity : vec_capacity l.into ≡ vec_capacity l.fn.into;
 }
 
 abbrev pub decreases-loop-first : goal.decreases-loop-first

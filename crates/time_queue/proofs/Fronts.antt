@@ -1,0 +1,31 @@
+-- The leaves at the first places of a heap are taken.
+use Rattle.std.proofs.Common.{◌≡◌, ℕ, ◌+◌, ◌<◌, suc, Option, Some, None, List, ◌∷◌, length, set, drop, ap, ◌∙◌, arith}
+use Rattle.std.specs.Prelude.{slice_index}
+use Rattle.std.proofs.lemmas.List.{length-set, get_or-set_other}
+use Rattle.std.proofs.lemmas.List.Sums.{sum_by-cons}
+use Rattle.std.proofs.Math.Seq.{drop-cons}
+use Rattle.time_queue.specs.Waiting.{time_of}
+use Rattle.time_queue.specs.Heap.{AreAt}
+use Rattle.time_queue.specs.Lists.{TakesMore}
+use Rattle.time_queue.proofs.Entered.{waits_within}
+use Rattle.time_queue.proofs.Taken.{fewer_before, leaves_less, without_less}
+
+-- one more leaves, which is put ahead of those that left
+pub takes_ahead : (at leaf : ℕ) (start ts ts' : List (Option ℕ)) (xs taken more : List ℕ) → time_of ts leaf ≡ Some at → ts' ≡ set ts leaf None → more ≡ leaf ∷ taken → TakesMore at start ts xs taken → TakesMore at start ts' xs more
+takes_ahead at leaf start ts ts' xs taken more waits times items before =
+    let within = waits_within ts leaf at waits in
+    rw (times, items) record {
+      counted = λ f. omega (arith, before.counted f, sum_by-cons f leaf taken, leaves_less f at leaf ts within waits);
+      stays = without_less at leaf ts within waits ∙ before.stays;
+      same = length-set ts leaf None ∙ before.same;
+      early = λ early. fewer_before at leaf ts within (before.early early);
+    }
+
+-- the others wait as before
+pub others_wait : (at i : ℕ) (start ts ts' : List (Option ℕ)) (xs : List ℕ) → AreAt at start xs → i < length xs → ts' ≡ set ts (slice_index xs i) None
+    → ((k : ℕ) → k < i + 1 → time_of ts (slice_index xs k) ≡ Some at) → (k : ℕ) → k < i → time_of ts' (slice_index xs k) ≡ Some at
+others_wait at i start ts ts' xs are lt times wait k less =
+    ap (λ us. time_of us (slice_index xs k)) times ∙ get_or-set_other ts (slice_index xs i) (slice_index xs k) None None (are.apart k i less lt) ∙ wait k (omega arith)
+
+pub one_ahead : (xs : List ℕ) (i : ℕ) → i < length xs → drop i xs ≡ slice_index xs i ∷ drop (suc i) xs
+one_ahead xs i lt = drop-cons xs i 0 lt

@@ -1,0 +1,15 @@
+use Rattle.std.proofs.Common.{◌≡◌, ◌<◌, ◌≤◌, ℕ, Some, length, drop}
+use Rattle.std.specs.Prelude.{slice_index}
+use Rattle.time_queue.specs.Waiting.{time_of}
+use Rattle.time_queue.specs.Lists.{TakesMore}
+use Rattle.time_queue.proofs.heap.HeapQueue.take_front.Given as goal
+
+abbrev pub invariant-loop-left : goal.invariant-loop-left
+invariant-loop-left l = record {
+  within : l.left ≤ length l.into.items;
+  taken : TakesMore l.fn.at l.fn.self l.self l.fn.into.items (drop l.left l.into.items);
+  wait : (k : ℕ) → k < l.left → time_of l.self (slice_index l.into.items k) ≡ Some l.fn.at;
+}
+
+abbrev pub decreases-loop-left : goal.decreases-loop-left
+decreases-loop-left l = l.left
