@@ -39,6 +39,18 @@ flags-set old new n at bit h within =
           ∙ sym (get_or-set_other (flags_of old n) at i bit false other)
     ])
 
+-- a leaf that is in stays so
+pub kept-in-set : (flags : List Bool) (at : ℕ) → at < length flags → is_in flags at ≡ true → flags ≡ set flags at true
+kept-in-set flags at within is =
+    ext_get_or false flags (set flags at true) (sym (length-set flags at true))
+    (λ i lt.
+    elim (cases_eq i at) as (λ _. get_or flags i false ≡ get_or (set flags at true) i false) [
+      | inl same ↦
+          ap (λ j. get_or flags j false) same ∙ is ∙ sym (get_or-set_same flags at true false within)
+          ∙ ap (λ j. get_or (set flags at true) j false) (sym same)
+      | inr other ↦ sym (get_or-set_other flags at i true false other)
+    ])
+
 pub empty-marked : (n blocks : ℕ) → n < 4294967296 → blocks ≡ n / 4096 + 1
     → AreMarked n (replicate (64 * blocks) 0) (replicate blocks 0)
 empty-marked n blocks small is =

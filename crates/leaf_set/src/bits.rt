@@ -51,7 +51,11 @@ impl LeafSet for BitSet {
         words::is_set(&self.words, leaf)
     }
 
+    // A leaf that is in already has its mark.
     fn insert(&mut self, leaf: u32) {
+        if words::is_set(&self.words, leaf) {
+            return;
+        }
         words::set(&mut self.words, leaf);
         words::set(&mut self.marks, leaf / 64);
     }
@@ -63,5 +67,9 @@ impl LeafSet for BitSet {
 
     fn take_all(&mut self, into: &mut Vec<u32>) {
         words::take_marked(&mut self.words, &mut self.marks, into);
+    }
+
+    fn empty(&mut self) {
+        words::clear_marked(&mut self.words, &mut self.marks);
     }
 }

@@ -53,6 +53,10 @@ impl LeafSet for FlagSet {
     fn take_all(&mut self, into: &mut Vec<u32>) {
         take_members(&mut self.members, into);
     }
+
+    fn empty(&mut self) {
+        self.members.fill(false);
+    }
 }
 
 fn take_members(members: &mut Vec<bool>, into: &mut Vec<u32>)

@@ -31,4 +31,8 @@ pub trait LeafSet: Drop {
         ensures taken { into.new.items ≡ members_of (members self.old) }
         ensures left { members self.new ≡ replicate (length (members self.old)) false }
         ensures capacity { vec_capacity into.new ≡ vec_capacity into.old };
+
+    /// None is in any more.
+    fn empty(&mut self)
+        ensures { members self.new ≡ replicate (length (members self.old)) false };
 }

@@ -70,6 +70,46 @@ fn take_block(words: &mut [u64], block: u32, marks: u64, into: &mut Vec<u32>)
     }
 }
 
+/// Makes all bits of these words 0. A word that has a bit has its mark, as above; only words with a
+/// mark are written, and no mark is left.
+pub fn clear_marked(words: &mut [u64], marks: &mut [u64])
+    requires whole { length words.old ≡ 64 * length marks.old }
+    requires few { 64 * length words.old ≤ 4294967296 }
+    requires marked { (i : ℕ) → has words.old i ≡ true → has marks.old (i / 64) ≡ true }
+    ensures left { (i : ℕ) → has words.new i ≡ false }
+    ensures unmarked { (i : ℕ) → has marks.new i ≡ false }
+{
+    let count = marks.len() as u32;
+    for block in 0..count {
+        let left = marks[block as usize];
+        marks[block as usize] = 0;
+        clear_block(words, block, left);
+    }
+}
+
+// Makes the bits of 64 words 0, of which only those with a mark are written.
+fn clear_block(words: &mut [u64], block: u32, marks: u64)
+    requires within { 64 * block + 64 ≤ length words.old }
+    requires few { 64 * length words.old ≤ 4294967296 }
+    requires marked { (i : ℕ) → 4096 * block ≤ i → i < 4096 * block + 4096
+        → has words.old i ≡ true → has_bit marks (i / 64 % 64) ≡ true }
+    ensures { Clears words.old words.new (4096 * block) 4096 }
+{
+    let mut left = marks;
+    'marks: while left != 0 {
+        let bit = take_lowest(&mut left);
+        clear_word(words, 64 * block + bit);
+    }
+}
+
+// Makes the bits of one word 0.
+fn clear_word(words: &mut [u64], at: u32)
+    requires { at < length words.old }
+    ensures { Clears words.old words.new (64 * at) 64 }
+{
+    words[at as usize] = 0;
+}
+
 // Takes the members of one word.
 fn take_word(words: &mut [u64], at: u32, into: &mut Vec<u32>)
     requires within { at < length words.old }
