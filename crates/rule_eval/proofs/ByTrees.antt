@@ -28,7 +28,7 @@ left_on_top None = refl
 left_on_top (Some a) = refl
 
 -- code answers what its expression means
-answer_is : (e : Expr) (s : Sight) → answer_of (code_of e) s ≡ meaning e s
+pub answer_is : (e : Expr) (s : Sight) → answer_of (code_of e) s ≡ meaning e s
 answer_is e s = ap left_by (code_stands e s []) ∙ left_on_top (meaning e s)
 
 number_is : (e : Expr) (s : Sight) → number_by_code (code_of e) s ≡ number_or_stop (meaning e s)

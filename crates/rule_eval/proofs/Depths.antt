@@ -20,20 +20,6 @@ pub depth_here : (code : List Op) (i : ℕ) (op : Op) (height : ℕ) → i < len
     → depth_from (drop i code) height ≡ max height (depth_from (drop (i + 1) code) (height_after op height))
 depth_here code i op height h is = ap (λ (ops : List Op). depth_from ops height) (drop_here code i op h is)
 
-pub room_here : (code : List Op) (i : ℕ) (op : Op) (height room : ℕ) → i < length code → op ≡ get_or code i op → depth_from (drop i code) height ≤ room
-    → height_after op height ≤ room
-room_here code i op height room h is fits =
-    omega (arith, depth_here code i op height h is, depth_above (drop (i + 1) code) (height_after op height), le-max_right height (depth_from (drop (i + 1) code) (height_after op height)))
-
-pub room_behind : (code : List Op) (i : ℕ) (op : Op) (height room : ℕ) → i < length code → op ≡ get_or code i op → depth_from (drop i code) height ≤ room
-    → depth_from (drop (i + 1) code) (height_after op height) ≤ room
-room_behind code i op height room h is fits =
-    omega (arith, depth_here code i op height h is, le-max_right height (depth_from (drop (i + 1) code) (height_after op height)))
-
--- in particular the stack has that height now
-pub room_now : (ops : List Op) (height room : ℕ) → depth_from ops height ≤ room → height ≤ room
-room_now ops height room fits = omega (arith, depth_above ops height)
-
 -- a step puts at most one answer on the stack
 pub rises_by_one : (op : Op) (height : ℕ) → height_after op height ≤ height + 1
 rises_by_one (Number v) height = omega arith

@@ -7,9 +7,11 @@ use Rattle.quantity.specs.declared.value.Value.TheVariants.{Undefined, Num}
 use Rattle.rule_tree.specs.declared.outcome.RuleStop.{RuleStop}
 use Rattle.rule_tree.specs.Meaning.{Sight}
 use Rattle.rule_tree.specs.Chosen.{after, delay_of}
-use Rattle.rule_eval.specs.declared.numbered.NumberedCode.{NumberedCode}
+use Rattle.rule_eval.specs.declared.numbered.NumberedForm.{NumberedForm}
 use Rattle.rule_eval.specs.declared.given.Given.{Given}
 use Rattle.rule_eval.specs.Seen.{whole_number_in}
+use Rattle.rule_eval.specs.Code.{code_of}
+use Rattle.rule_eval.specs.Forms.{expr_of_form}
 use Rattle.rule_eval.specs.Depth.{depth_of}
 use Rattle.rule_eval.specs.RuleCodes.{Codes, deepest}
 use Rattle.rule_eval.specs.Numbered.{plain}
@@ -19,17 +21,17 @@ use Rattle.rule_eval.proofs.Stacks.{drop_here}
 
 -- ---- one step of each loop
 
-pub give_here : (gives : List NumberedCode) (i : ℕ) (g : NumberedCode) (s : Sight) (values : List (Option Value)) → i < length gives → g ≡ get_or gives i g
-    → given_by_code (map plain (drop i gives)) s values ≡ after (number_by_code g.code.items s) (λ v. given_by_code (map plain (drop (i + 1) gives)) s (set values g.number (Some v)))
-give_here gives i g s values h is = ap (λ (gs : List NumberedCode). given_by_code (map plain gs) s values) (drop_here gives i g h is)
+pub give_here : (gives : List NumberedForm) (i : ℕ) (g : NumberedForm) (s : Sight) (values : List (Option Value)) → i < length gives → g ≡ get_or gives i g
+    → given_by_code (map plain (drop i gives)) s values ≡ after (number_by_code (code_of (expr_of_form g.form)) s) (λ v. given_by_code (map plain (drop (i + 1) gives)) s (set values g.number (Some v)))
+give_here gives i g s values h is = ap (λ (gs : List NumberedForm). given_by_code (map plain gs) s values) (drop_here gives i g h is)
 
-pub set_here : (sets : List NumberedCode) (i : ℕ) (x : NumberedCode) (s : Sight) → i < length sets → x ≡ get_or sets i x
-    → set_by_code (map plain (drop i sets)) s ≡ after (number_by_code x.code.items s) (λ v. set_by_code (map plain (drop (i + 1) sets)) (record s { variables = set s.variables x.number v }))
-set_here sets i x s h is = ap (λ (xs : List NumberedCode). set_by_code (map plain xs) s) (drop_here sets i x h is)
+pub set_here : (sets : List NumberedForm) (i : ℕ) (x : NumberedForm) (s : Sight) → i < length sets → x ≡ get_or sets i x
+    → set_by_code (map plain (drop i sets)) s ≡ after (number_by_code (code_of (expr_of_form x.form)) s) (λ v. set_by_code (map plain (drop (i + 1) sets)) (record s { variables = set s.variables x.number v }))
+set_here sets i x s h is = ap (λ (xs : List NumberedForm). set_by_code (map plain xs) s) (drop_here sets i x h is)
 
-pub deepest_here : (codes : List NumberedCode) (i : ℕ) (x : NumberedCode) → i < length codes → x ≡ get_or codes i x
-    → deepest (map plain (drop i codes)) ≡ max (depth_of x.code.items) (deepest (map plain (drop (i + 1) codes)))
-deepest_here codes i x h is = ap (λ (xs : List NumberedCode). deepest (map plain xs)) (drop_here codes i x h is)
+pub deepest_here : (codes : List NumberedForm) (i : ℕ) (x : NumberedForm) → i < length codes → x ≡ get_or codes i x
+    → deepest (map plain (drop i codes)) ≡ max (depth_of (code_of (expr_of_form x.form))) (deepest (map plain (drop (i + 1) codes)))
+deepest_here codes i x h is = ap (λ (xs : List NumberedForm). deepest (map plain xs)) (drop_here codes i x h is)
 
 pub first_here : (rules : List Codes) (i : ℕ) (r : Codes) (s : Sight) → i < length rules → r ≡ get_or rules i r
     → first_by_code (drop i rules) s ≡ after (truth_by_code r.condition s) (λ t. if_holds t (made_by_code r s) (first_by_code (drop (i + 1) rules) s))

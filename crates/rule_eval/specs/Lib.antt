@@ -3,10 +3,13 @@ pub mod Machine
 pub mod Seen
 pub mod Depth
 pub mod Ran
-pub mod AtHand
 pub mod RuleCodes
 pub mod Numbered
 pub mod ByCode
 pub mod Evaluated
 pub mod Room
 pub mod Kept
+pub mod Forms
+pub mod Tests
+pub mod Sums
+pub mod Stacked

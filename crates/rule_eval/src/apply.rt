@@ -58,7 +58,7 @@ pub(crate) fn apply_binary(operator: Binary, a: Answer, b: Answer) -> Result<Ans
     }
 }
 
-fn as_answer(value: Result<Value, Overflow>) -> Result<Answer, Overflow>
+pub(crate) fn as_answer(value: Result<Value, Overflow>) -> Result<Answer, Overflow>
     ensures { result_ok result ≡ as_answer (result_ok value) }
 {
     match value {

@@ -1,21 +1,24 @@
 // Evaluation of rules on a stack.
-ghost use Rattle.std.specs.Prelude.{◌≡◌, ◌≤◌, List, [], ◌∷◌, All, IfSome, map, length, vec_capacity, slice_set};
+ghost use Rattle.std.specs.Prelude.{◌≡◌, ◌≤◌, List, All, IfOk, IfSome, map, length, vec_capacity, slice_set};
+ghost use Rattle.rule_tree.specs.Expression as E;
 ghost use Rattle.rule_tree.specs.Expression.{Rule};
 ghost use Rattle.rule_tree.specs.Chosen.{chosen};
 ghost use Rattle.rule_eval.specs.Seen.{IsView, seen, sight_of};
 ghost use Rattle.rule_eval.specs.Kept.{AreCounts};
+ghost use Rattle.rule_eval.specs.Code.{code_of};
 ghost use Rattle.rule_eval.specs.Depth.{depth_of};
+ghost use Rattle.rule_eval.specs.Forms.{expr_of_form};
 ghost use Rattle.rule_eval.specs.RuleCodes.{codes_of, deepest, rule_depth};
 ghost use Rattle.rule_eval.specs.Numbered.{plain};
 ghost use Rattle.rule_eval.specs.ByCode.{no_values, number_by_code, truth_by_code, given_by_code, set_by_code, delay_in, made_by_code, first_by_code};
 ghost use Rattle.rule_eval.specs.Evaluated.{Evaluates, Makes, GivesValues, SetsVariables};
 
+use crate::answers::{run, truth};
 use crate::apply::{number_in, truth_in};
-use crate::code::Op;
 use crate::counts::Counts;
+use crate::forms::Form;
 use crate::given::Given;
-use crate::machine::run;
-use crate::numbered::NumberedCode;
+use crate::numbered::NumberedForm;
 use crate::rule_code::RuleCode;
 use crate::seen::whole_number;
 use crate::stack::Stack;
@@ -40,6 +43,7 @@ pub fn evaluate(
     ensures value { (trees : List Rule) → rules.now ≡ map codes_of trees
         → Evaluates (chosen trees (sight_of view.now)) result changed.new }
     ensures stack { stack.new ≡ stack.old }
+    ensures delay { IfOk result (λ made. made.1 ≤ 359999999) }
 {
     let mut counts = Counts::none(view);
     first_true(rules, view, changed, &mut counts, &mut stack.answers)
@@ -60,6 +64,7 @@ fn first_true(
     ensures value { Makes (first_by_code rules.now (sight_of view.now)) result changed.new }
     ensures capacity { vec_capacity answers.new ≡ vec_capacity answers.old }
     ensures counts { AreCounts counts.new view.now }
+    ensures delay { IfOk result (λ made. made.1 ≤ 359999999) }
 {
     for rule in rules {
         match condition(rule, view, counts, answers)? {
@@ -83,10 +88,27 @@ fn condition(
     ensures capacity { vec_capacity answers.new ≡ vec_capacity answers.old }
     ensures counts { AreCounts counts.new view.now }
 {
-    if let Some(truth) = plain_truth(&rule.condition) {
-        return Ok(truth);
+    truth_of(&rule.condition, view, counts, answers)
+}
+
+/// The truth value that a form answers.
+fn truth_of(
+    form: &Form,
+    view: &View,
+    counts: &mut Counts,
+    answers: &mut Vec<Answer>,
+) -> Result<Tri, RuleStop>
+    requires view { IsView view.now }
+    requires counts { AreCounts counts.old view.now }
+    requires room { depth_of (code_of (expr_of_form form.now)) ≤ vec_capacity answers.old }
+    ensures value { result ≡ truth_by_code (code_of (expr_of_form form.now)) (sight_of view.now) }
+    ensures capacity { vec_capacity answers.new ≡ vec_capacity answers.old }
+    ensures counts { AreCounts counts.new view.now }
+{
+    if let Form::Test(test) = form {
+        return Ok(truth(test, view, counts));
     }
-    match run(&rule.condition, view, view.variables, counts, answers) {
+    match run(form, view, view.variables, counts, answers) {
         Ok(answer) => Ok(truth_in(answer)),
         Err(stop) => Err(stop),
     }
@@ -107,18 +129,19 @@ fn give(
     ensures value { Makes (made_by_code rule.now (sight_of view.now)) result changed.new }
     ensures capacity { vec_capacity answers.new ≡ vec_capacity answers.old }
     ensures counts { AreCounts counts.new view.now }
+    ensures delay { IfOk result (λ made. made.1 ≤ 359999999) }
 {
     let given = give_values(&rule.gives, view, counts, answers)?;
     let delay = number(&rule.delay, view, view.variables, counts, answers)?;
     let delay = delay_in(&delay)?;
-    changed.copy_from_slice(view.variables);
+    copy(view.variables, changed);
     set_variables(&rule.sets, view, changed, counts, answers)?;
     Ok((given, delay))
 }
 
 #[tactic(auto, using(crate::proofs::Making::give_here, crate::proofs::Making::deepest_here, crate::proofs::Stacks::drop_end))]
 fn give_values(
-    gives: &[NumberedCode],
+    gives: &[NumberedForm],
     view: &View,
     counts: &mut Counts,
     answers: &mut Vec<Answer>,
@@ -132,7 +155,7 @@ fn give_values(
 {
     let mut given = Given { values: [None; 4] };
     for give in gives {
-        let value = number(&give.code, view, view.variables, counts, answers)?;
+        let value = number(&give.form, view, view.variables, counts, answers)?;
         given.put(give.number, value);
     }
     Ok(given)
@@ -140,7 +163,7 @@ fn give_values(
 
 #[tactic(auto, using(crate::proofs::Making::set_here, crate::proofs::Making::deepest_here, crate::proofs::Stacks::drop_end))]
 fn set_variables(
-    sets: &[NumberedCode],
+    sets: &[NumberedForm],
     view: &View,
     changed: &mut [Value],
     counts: &mut Counts,
@@ -154,10 +177,20 @@ fn set_variables(
     ensures counts { AreCounts counts.new view.now }
 {
     for set in sets {
-        let value = number(&set.code, view, changed, counts, answers)?;
+        let value = number(&set.form, view, changed, counts, answers)?;
         put(changed, usize::from(set.number), value);
     }
     Ok(())
+}
+
+/// Copies the values of variables, where there are any.
+fn copy(variables: &[Value], changed: &mut [Value])
+    requires { length changed.old ≡ length variables.now }
+    ensures { changed.new ≡ variables.now }
+{
+    if !variables.is_empty() {
+        changed.copy_from_slice(variables);
+    }
 }
 
 fn put(values: &mut [Value], k: usize, value: Value)
@@ -168,9 +201,9 @@ fn put(values: &mut [Value], k: usize, value: Value)
     }
 }
 
-/// The number that code answers.
+/// The number that a form answers.
 fn number(
-    code: &[Op],
+    form: &Form,
     view: &View,
     variables: &[Value],
     counts: &mut Counts,
@@ -178,36 +211,26 @@ fn number(
 ) -> Result<Value, RuleStop>
     requires view { IsView view.now }
     requires counts { AreCounts counts.old view.now }
-    requires room { depth_of code.now ≤ vec_capacity answers.old }
-    ensures value { result ≡ number_by_code code.now (seen view.now variables.now) }
+    requires room { depth_of (code_of (expr_of_form form.now)) ≤ vec_capacity answers.old }
+    ensures value { result ≡ number_by_code (code_of (expr_of_form form.now)) (seen view.now variables.now) }
     ensures capacity { vec_capacity answers.new ≡ vec_capacity answers.old }
     ensures counts { AreCounts counts.new view.now }
 {
-    if let Some(value) = plain_number(code) {
+    if let Some(value) = plain_number(form) {
         return Ok(value);
     }
-    match run(code, view, variables, counts, answers) {
+    match run(form, view, variables, counts, answers) {
         Ok(answer) => Ok(number_in(answer)),
         Err(stop) => Err(stop),
     }
 }
 
-/// The number that code is, where it is no more than that.
-fn plain_number(code: &[Op]) -> Option<Value>
-    ensures { IfSome result (λ v. code.now ≡ Op.Number v ∷ []) }
+/// The number that a form is, where it is no more than that.
+fn plain_number(form: &Form) -> Option<Value>
+    ensures { IfSome result (λ v. expr_of_form form.now ≡ E.number v) }
 {
-    match code {
-        [Op::Number(value)] => Some(*value),
-        _ => None,
-    }
-}
-
-/// The truth value that code is, where it is no more than that.
-fn plain_truth(code: &[Op]) -> Option<Tri>
-    ensures { IfSome result (λ t. code.now ≡ Op.Truth t ∷ []) }
-{
-    match code {
-        [Op::Truth(truth)] => Some(*truth),
+    match form {
+        Form::Number(value) => Some(*value),
         _ => None,
     }
 }
@@ -215,7 +238,8 @@ fn plain_truth(code: &[Op]) -> Option<Tri>
 #[tactic(auto, using(crate::proofs::Making::delay_is))]
 /// A delay, if it is a whole number of milliseconds that is not too large.
 fn delay_in(value: &Value) -> Result<Time, RuleStop>
-    ensures { result ≡ delay_in value.now }
+    ensures value { result ≡ delay_in value.now }
+    ensures bounded { IfOk result (λ ms. ms ≤ 359999999) }
 {
     match whole_number(*value) {
         Some(ms) if ms <= 359_999_999 => Ok(time(ms)),

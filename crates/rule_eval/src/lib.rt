@@ -1,13 +1,16 @@
-//! Evaluation of rules by postfix code and a stack.
+//! Evaluation of rules: seen as postfix code, kept as forms.
 #![tactic(auto)]
 
+mod answers;
 mod apply;
 pub mod code;
 mod counts;
+mod depth;
 mod evaluation;
+mod forms;
 pub mod given;
 pub mod laws;
-mod machine;
+mod lowering;
 mod numbered;
 pub mod rule_code;
 mod seen;

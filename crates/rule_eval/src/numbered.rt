@@ -1,95 +1,59 @@
-// Code for a port or a variable.
-ghost use Rattle.std.specs.Prelude.{◌≡◌, ◌<◌, [], ◌∷◌, ◌++◌, IfOk, OnOk, map};
+// Forms for a port or a variable.
+ghost use Rattle.std.specs.Prelude.{◌≡◌, [], ◌∷◌, ◌++◌, IfOk, OnOk, map};
 ghost use Rattle.rule_tree.specs.Expression.{expr_of};
 ghost use Rattle.rule_tree.specs.declared.node.Give.{Give as AnyGive};
 ghost use Rattle.rule_tree.specs.declared.node.SetVariable.{SetVariable as AnySet};
-ghost use Rattle.rule_eval.specs.Depth.{depth_of, height_after};
-ghost use Rattle.rule_eval.specs.RuleCodes.{coded, deepest};
+ghost use Rattle.rule_eval.specs.Code.{code_of};
+ghost use Rattle.rule_eval.specs.Forms.{expr_of_form};
+ghost use Rattle.rule_eval.specs.RuleCodes.{coded};
 ghost use Rattle.rule_eval.specs.Numbered.{plain};
 
-use crate::code::{Op, postfix};
+use crate::forms::Form;
+use crate::lowering::form_of;
 use quantity::OutOfMemory;
 use rule_tree::{Give, SetVariable};
 use std::alloc::{AllocError, Global};
 
-/// The code of a value for a port or a variable, by its number.
+/// The form of a value for a port or a variable, by its number.
 #[derive(Drop)]
-pub struct NumberedCode {
+pub struct NumberedForm {
     pub number: u8,
-    pub code: Vec<Op>,
+    pub form: Form,
 }
 
-pub(crate) fn codes_of_gives(
+pub(crate) fn forms_of_gives(
     alloc: Global,
     gives: &[Give],
-) -> Result<Vec<NumberedCode>, OutOfMemory>
-    ensures { IfOk result (λ codes. map plain codes.items ≡ map coded (map (λ (g : AnyGive). (g.port, expr_of g.value)) gives.now)) }
+) -> Result<Vec<NumberedForm>, OutOfMemory>
+    ensures { IfOk result (λ forms. map plain forms.items ≡ map coded (map (λ (g : AnyGive). (g.port, expr_of g.value)) gives.now)) }
 {
-    let mut codes = Vec::new(alloc);
+    let mut forms = Vec::new(alloc);
     for give in gives {
-        let code = postfix(alloc, &give.value)?;
-        add(&mut codes, give.port, code)?;
+        let form = form_of(alloc, &give.value)?;
+        add(&mut forms, give.port, form)?;
     }
-    Ok(codes)
+    Ok(forms)
 }
 
-pub(crate) fn codes_of_sets(
+pub(crate) fn forms_of_sets(
     alloc: Global,
     sets: &[SetVariable],
-) -> Result<Vec<NumberedCode>, OutOfMemory>
-    ensures { IfOk result (λ codes. map plain codes.items ≡ map coded (map (λ (x : AnySet). (x.variable, expr_of x.value)) sets.now)) }
+) -> Result<Vec<NumberedForm>, OutOfMemory>
+    ensures { IfOk result (λ forms. map plain forms.items ≡ map coded (map (λ (x : AnySet). (x.variable, expr_of x.value)) sets.now)) }
 {
-    let mut codes = Vec::new(alloc);
+    let mut forms = Vec::new(alloc);
     for set in sets {
-        let code = postfix(alloc, &set.value)?;
-        add(&mut codes, set.variable, code)?;
+        let form = form_of(alloc, &set.value)?;
+        add(&mut forms, set.variable, form)?;
     }
-    Ok(codes)
+    Ok(forms)
 }
 
-fn add(codes: &mut Vec<NumberedCode>, number: u8, code: Vec<Op>) -> Result<(), OutOfMemory>
-    ensures { OnOk result (map plain codes.new.items ≡ map plain codes.old.items ++ (number, code.items) ∷ []) }
+fn add(forms: &mut Vec<NumberedForm>, number: u8, form: Form) -> Result<(), OutOfMemory>
+    ensures { OnOk result (map plain forms.new.items ≡ map plain forms.old.items ++ (number, code_of (expr_of_form form)) ∷ []) }
 {
-    codes
-        .push(NumberedCode { number, code })
+    forms
+        .push(NumberedForm { number, form })
         .map_err(AllocError::from)?;
     Ok(())
-}
-
-/// The most answers that stand on the stack at once while one of these codes runs.
-#[tactic(auto, using(crate::proofs::Stacks::drop_here, crate::proofs::Stacks::drop_end))]
-pub(crate) fn deepest(codes: &[NumberedCode]) -> usize
-    ensures { result ≡ deepest (map plain codes.now) }
-{
-    let mut most = 0;
-    for code in codes {
-        most = most.max(depth_of(&code.code));
-    }
-    most
-}
-
-/// The most answers that stand on the stack at once while code runs.
-pub(crate) fn depth_of(code: &[Op]) -> usize
-    ensures { result ≡ depth_of code.now }
-{
-    let mut height = 0;
-    let mut most = 0;
-    for op in code {
-        height = height_after(op, height);
-        most = most.max(height);
-    }
-    most
-}
-
-/// How many answers stand on the stack after a step, where so many stood before it.
-fn height_after(op: &Op, height: usize) -> usize
-    requires { height < usize.MAX }
-    ensures { result ≡ height_after op.now height }
-{
-    match op {
-        Op::One(_) => height,
-        Op::Two(_) => height.saturating_sub(1),
-        Op::Call(_, count) => height.saturating_sub(*count) + 1,
-        _ => height + 1,
-    }
 }

@@ -1,36 +1,42 @@
-// A rule as postfix code.
+// A rule as it is evaluated.
 ghost use Rattle.std.specs.Prelude.{◌≡◌, ◌≤◌, IfOk, map};
 ghost use Rattle.rule_tree.specs.Expression.{rule_of};
+ghost use Rattle.rule_eval.specs.Code.{code_of};
+ghost use Rattle.rule_eval.specs.Forms.{expr_of_form};
 ghost use Rattle.rule_eval.specs.RuleCodes.{codes_of, rule_depth, rule_nodes};
 ghost use Rattle.rule_eval.specs.Numbered.{plain};
 
-use crate::code::{Op, postfix};
-use crate::numbered::{NumberedCode, codes_of_gives, codes_of_sets, deepest, depth_of};
+use crate::depth::depth_of_rule;
+use crate::forms::Form;
+use crate::lowering::form_of;
+use crate::numbered::{NumberedForm, forms_of_gives, forms_of_sets};
 use quantity::OutOfMemory;
 use rule_tree::RuleTree;
 use std::alloc::Global;
 use std::marker::Model;
 
-/// A rule as postfix code, which is evaluated on a stack.
+/// A rule as it is evaluated. It is seen as its postfix code, which is evaluated on a stack.
 #[derive(Drop)]
 pub struct RuleCode {
-    pub(crate) gives: Vec<NumberedCode>,
-    pub(crate) delay: Vec<Op>,
-    pub(crate) condition: Vec<Op>,
-    pub(crate) sets: Vec<NumberedCode>,
+    pub(crate) gives: Vec<NumberedForm>,
+    pub(crate) delay: Form,
+    pub(crate) condition: Form,
+    pub(crate) sets: Vec<NumberedForm>,
     depth: usize,
 }
 
 impl Model for RuleCode {
     ghost use Rattle.std.specs.Prelude.{◌≡◌, map};
+    ghost use Rattle.rule_eval.specs.Code.{code_of};
+    ghost use Rattle.rule_eval.specs.Forms.{expr_of_form};
     ghost use Rattle.rule_eval.specs.RuleCodes.{Codes, rule_depth};
     ghost use Rattle.rule_eval.specs.Numbered.{plain};
 
     ghost Value = { Codes };
 
-    ghost view = { λ r. record { gives = map plain r.gives.items; delay = r.delay.items; condition = r.condition.items; sets = map plain r.sets.items } };
+    ghost view = { λ r. record { gives = map plain r.gives.items; delay = code_of (expr_of_form r.delay); condition = code_of (expr_of_form r.condition); sets = map plain r.sets.items } };
 
-    ghost invariant = { λ r. r.depth ≡ rule_depth (record { gives = map plain r.gives.items; delay = r.delay.items; condition = r.condition.items; sets = map plain r.sets.items }) };
+    ghost invariant = { λ r. r.depth ≡ rule_depth (record { gives = map plain r.gives.items; delay = code_of (expr_of_form r.delay); condition = code_of (expr_of_form r.condition); sets = map plain r.sets.items }) };
 }
 
 impl RuleCode {
@@ -39,24 +45,24 @@ impl RuleCode {
         ensures codes { IfOk result (λ code. code ≡ codes_of (rule_of tree.now)) }
         ensures depth { IfOk result (λ code. rule_depth code ≤ rule_nodes (rule_of tree.now)) }
     {
-        let gives = codes_of_gives(alloc, &tree.gives)?;
-        let delay = postfix(alloc, &tree.delay)?;
-        let condition = postfix(alloc, &tree.condition)?;
-        let sets = codes_of_sets(alloc, &tree.sets)?;
-        Ok(RuleCode::of(gives, delay, condition, sets))
+        let depth = depth_of_rule(alloc, tree)?;
+        let gives = forms_of_gives(alloc, &tree.gives)?;
+        let delay = form_of(alloc, &tree.delay)?;
+        let condition = form_of(alloc, &tree.condition)?;
+        let sets = forms_of_sets(alloc, &tree.sets)?;
+        Ok(RuleCode::of(gives, delay, condition, sets, depth))
     }
 
     fn of(
-        gives: Vec<NumberedCode>,
-        delay: Vec<Op>,
-        condition: Vec<Op>,
-        sets: Vec<NumberedCode>,
+        gives: Vec<NumberedForm>,
+        delay: Form,
+        condition: Form,
+        sets: Vec<NumberedForm>,
+        depth: usize,
     ) -> RuleCode
-        ensures { result ≡ record { gives = map plain gives.items; delay = delay.items; condition = condition.items; sets = map plain sets.items } }
+        requires { depth ≡ rule_depth (record { gives = map plain gives.items; delay = code_of (expr_of_form delay); condition = code_of (expr_of_form condition); sets = map plain sets.items }) }
+        ensures { result ≡ record { gives = map plain gives.items; delay = code_of (expr_of_form delay); condition = code_of (expr_of_form condition); sets = map plain sets.items } }
     {
-        let depth = depth_of(&condition).max(deepest(&gives).max(depth_of(&delay).max(deepest(
-            &sets,
-        ))));
         RuleCode {
             gives,
             delay,

@@ -1,7 +1,7 @@
 use Rattle.std.proofs.Common.{◌≡◌, ◌+◌, max, drop, ap, arith, rules}
 use Rattle.rule_eval.specs.Depth.{depth_from}
 use Rattle.rule_eval.proofs.Depths.{depth_here, depth_above, rises_by_one}
-use Rattle.rule_eval.proofs.numbered.depth_of.Goals as goal
+use Rattle.rule_eval.proofs.depth.depth_of.Goals as goal
 
 pub loop-op-preserved : goal.loop-op-preserved
 loop-op-preserved c =

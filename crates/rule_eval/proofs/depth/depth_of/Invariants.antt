@@ -1,6 +1,6 @@
 use Rattle.std.proofs.Common.{◌≡◌, ◌≤◌, drop, max}
 use Rattle.rule_eval.specs.Depth.{depth_from, depth_of}
-use Rattle.rule_eval.proofs.numbered.depth_of.Given as goal
+use Rattle.rule_eval.proofs.depth.depth_of.Given as goal
 
 abbrev pub invariant-loop-op : goal.invariant-loop-op
 invariant-loop-op l = record {

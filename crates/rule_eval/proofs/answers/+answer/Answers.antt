@@ -1,0 +1,137 @@
+use Rattle.std.proofs.Common.{◌≡◌, ◌+◌, ◌<◌, ◌≤◌, Option, Some, None, List, [], ◌∷◌, ◌++◌, length, drop, vec_len, vec_capacity, subst, sym, ap, ◌∙◌, rules, arith, refl}
+use Rattle.std.proofs.lemmas.Grind.{common_steps}
+use Rattle.std.specs.Result.{result_ok}
+use Rattle.quantity.specs.declared.value.Value.{Value}
+use Rattle.quantity.specs.declared.truth.Tri.{Tri}
+use Rattle.rule_tree.specs.declared.outcome.Answer.{Answer}
+use Rattle.rule_tree.specs.declared.outcome.Answer.TheVariants.{Logic}
+use Rattle.rule_tree.specs.Expression as E
+use Rattle.rule_tree.specs.Expression.{Expr}
+use Rattle.rule_tree.specs.Meaning.{call_meaning, as_answer, with_answers, meaning, meanings}
+use Rattle.rule_eval.specs.declared.forms.PortAt.{PortAt}
+use Rattle.rule_eval.specs.declared.forms.Form.{Form}
+use Rattle.rule_eval.specs.declared.forms.Form.TheViews.{the_lemmas}
+use Rattle.rule_eval.specs.Stacked.{stacked}
+use Rattle.rule_eval.specs.Seen.{neighbours_of, seen}
+use Rattle.rule_eval.specs.Code.{code_of, codes_of}
+use Rattle.rule_eval.specs.Depth.{depth_from}
+use Rattle.rule_eval.specs.Forms.{expr_of_form, exprs_of_forms}
+use Rattle.rule_eval.specs.Sums.{port_value_at, sum_from}
+use Rattle.rule_eval.proofs.Stacks.{slice_rest}
+use Rattle.rule_eval.proofs.FormTrees.{form_call}
+use Rattle.rule_eval.proofs.FormSums.{sum_means}
+use Rattle.rule_eval.proofs.FormTests.{test_means}
+use Rattle.rule_eval.proofs.Rooms.{operand_room, left_room, right_room, arguments_room, first_room, rest_room, above_room, moved_room, same_height, one_higher}
+use Rattle.rule_eval.proofs.Arguments.{forms_here, stacked_here, arguments_above, no_arguments}
+use Rattle.rule_eval.proofs.answers.+answer.Goals as goal
+
+pub answer-answer-requires : goal.answer-answer-requires
+answer-answer-requires t c =
+    let h = vec_len c.args.answers.now in
+    let room = vec_capacity c.args.answers.now in
+    let part = operand_room c.in-One.operator (expr_of_form c.args.form.now) (expr_of_form c.in-One.a.value) h room (ap expr_of_form c.in-One.is) c.requires.room in
+    let fits = subst (λ (f : Form). depth_from (code_of (expr_of_form f)) h ≤ room) (sym c.deref-in-One.ensures) part in
+    (search (rules, the_lemmas), (c.requires.view, (c.requires.counts, fits)))
+
+pub answer-answer-requires-in-Two : goal.answer-answer-requires-in-Two
+answer-answer-requires-in-Two t c =
+    let h = vec_len c.args.answers.now in
+    let room = vec_capacity c.args.answers.now in
+    let part = left_room c.in-Two.operator (expr_of_form c.args.form.now) (expr_of_form c.in-Two.a.value) (expr_of_form c.in-Two.c.value) h room (ap expr_of_form c.in-Two.is) c.requires.room in
+    let fits = subst (λ (f : Form). depth_from (code_of (expr_of_form f)) h ≤ room) (sym c.deref-in-Two.ensures) part in
+    (search (rules, the_lemmas), (c.requires.view, (c.requires.counts, fits)))
+
+pub answer-answer-requires-in-Two-2 : goal.answer-answer-requires-in-Two-2
+answer-answer-requires-in-Two-2 t c =
+    let before = c.args.answers.now in
+    let now = c.answer-in-Two.new.answers in
+    let part = right_room c.in-Two.operator (expr_of_form c.args.form.now) (expr_of_form c.in-Two.a.value) (expr_of_form c.in-Two.c.value) (vec_len before) (vec_capacity before) (ap expr_of_form c.in-Two.is) c.requires.room in
+    let moved = moved_room (code_of (expr_of_form c.in-Two.c.value)) (vec_len before) (vec_len now) (vec_capacity before) (vec_capacity now) (same_height before now c.in_ok-a-in-Two.ensures.stack) c.in_ok-a-in-Two.ensures.capacity part in
+    let fits = subst (λ (f : Form). depth_from (code_of (expr_of_form f)) (vec_len now) ≤ vec_capacity now) (sym c.deref-in-Two-2.ensures) moved in
+    (search (rules, the_lemmas), (c.requires.view, (c.in_ok-a-in-Two.ensures.counts, fits)))
+
+pub answer-stack_answers-requires : goal.answer-stack_answers-requires
+answer-stack_answers-requires t c =
+    let h = vec_len c.args.answers.now in
+    let room = vec_capacity c.args.answers.now in
+    let is = ap expr_of_form c.in-Call.is ∙ form_call c.in-Call.function c.in-Call.arguments in
+    let part = arguments_room c.in-Call.function (expr_of_form c.args.form.now) (exprs_of_forms c.in-Call.arguments.items) h room is c.requires.room in
+    let fits = subst (λ (fs : List Form). depth_from (codes_of (exprs_of_forms fs)) h ≤ room) (sym c.deref-in-Call.ensures.value) part in
+    (search (rules, the_lemmas), (c.requires.view, (c.requires.counts, fits)))
+
+pub answer-returns-in_err-stack_answers-in-Call-clause-value : goal.answer-returns-in_err-stack_answers-in-Call-clause-value
+answer-returns-in_err-stack_answers-in-Call-clause-value t c =
+    let s = seen c.args.view.now c.args.variables.now in
+    let f = c.in-Call.function in
+    let is = ap expr_of_form c.in-Call.is ∙ form_call f c.in-Call.arguments in
+    let given = ap (λ (fs : List Form). meanings (exprs_of_forms fs) s) c.deref-in-Call.ensures.value in
+    let too_large = no_arguments c.args.answers.now.items (meanings (exprs_of_forms c.deref-in-Call.result.now) s) c.in_err-stack_answers-in-Call.ensures.value in
+    let none : meaning (expr_of_form c.args.form.now) s ≡ None = ap (λ (e : Expr). meaning e s) is ∙ ap (λ (o : Option (List Answer)). with_answers o (λ xs. call_meaning f xs s)) (sym given ∙ too_large) in
+    let stops : result_ok c.from_residual-in_err-stack_answers-in-Call.result ≡ None = first_of (search rules, grind (arith, common_steps)) in
+    stops ∙ sym none
+
+pub answer-returns-in-Test-clause-value : goal.answer-returns-in-Test-clause-value
+answer-returns-in-Test-clause-value t c =
+    let s = seen c.args.view.now c.args.variables.now in
+    ap (λ (t : Tri). Some (Logic t)) c.truth.ensures.value
+    ∙ sym (ap (λ (f : Form). meaning (expr_of_form f) s) c.in-Test.is ∙ test_means c.in-Test.test s)
+
+pub answer-returns-in-Sum-clause-value : goal.answer-returns-in-Sum-clause-value
+answer-returns-in-Sum-clause-value t c =
+    let s = seen c.args.view.now c.args.variables.now in
+    let nbs = neighbours_of c.args.view.now in
+    let first = port_value_at nbs c.in-Sum.k c.in-Sum.port in
+    c.as_answer.ensures
+    ∙ ap as_answer (c.sum.ensures ∙ ap (λ (v : Value). sum_from v c.deref.result.now nbs) c.neighbour-in-Sum.ensures ∙ ap (λ (ns : List PortAt). sum_from first ns nbs) c.deref.ensures.value)
+    ∙ sym (ap (λ (f : Form). meaning (expr_of_form f) s) c.in-Sum.is ∙ sum_means c.in-Sum.more.items (E.neighbour c.in-Sum.k c.in-Sum.port) first s refl)
+
+pub answer-returns-in_ok-stack_answers-in-Call-clause-value : goal.answer-returns-in_ok-stack_answers-in-Call-clause-value
+answer-returns-in_ok-stack_answers-in-Call-clause-value t c =
+    let s = seen c.args.view.now c.args.variables.now in
+    let f = c.in-Call.function in
+    let before = c.args.answers.now in
+    let now = c.stack_answers.new.answers in
+    let k = c.len-below.result in
+    let is = ap expr_of_form c.in-Call.is ∙ form_call f c.in-Call.arguments in
+    let given = ap (λ (fs : List Form). meanings (exprs_of_forms fs) s) c.deref-in-Call.ensures.value in
+    let above = arguments_above before.items now.items (meanings (exprs_of_forms c.deref-in-Call.result.now) s) c.in_ok-stack_answers-in-Call.ensures.value in
+    let height : length before.items ≡ k = sym before.ok.0 ∙ sym c.len-below.ensures in
+    let slice = slice_rest c.deref-in-Call-2.result.now k ∙ ap (drop k) c.deref-in-Call-2.ensures.value in
+    let arguments = sym given ∙ above ∙ ap (λ n. Some (drop n now.items)) height ∙ ap Some (sym slice) in
+    sym (ap (λ (e : Expr). meaning e s) is ∙ ap (λ (o : Option (List Answer)). with_answers o (λ xs. call_meaning f xs s)) arguments ∙ c.apply_function-made.ensures c.args.variables.now)
+
+pub stack_answers-answer-requires : goal.stack_answers-answer-requires
+stack_answers-answer-requires t c =
+    let now = c.loop-form.answers in
+    let here = forms_here c.args.forms.now c.loop-form.form-index c.form-item.result c.loop-form-test.true c.form-item.is in
+    let fits = first_room (exprs_of_forms (drop c.loop-form.form-index c.args.forms.now)) (expr_of_form c.form-item.result) (exprs_of_forms (drop (c.loop-form.form-index + 1) c.args.forms.now)) (vec_len now) (vec_capacity now) here c.loop-form.invariant.room in
+    (search (rules, the_lemmas), (c.requires.view, (c.loop-form.invariant.counts, fits)))
+
+pub stack_answers-push-requires : goal.stack_answers-push-requires
+stack_answers-push-requires t c =
+    let now = c.loop-form.answers in
+    let here = forms_here c.args.forms.now c.loop-form.form-index c.form-item.result c.loop-form-test.true c.form-item.is in
+    let rest = exprs_of_forms (drop (c.loop-form.form-index + 1) c.args.forms.now) in
+    let behind = rest_room (exprs_of_forms (drop c.loop-form.form-index c.args.forms.now)) (expr_of_form c.form-item.result) rest (vec_len now) (vec_capacity now) here c.loop-form.invariant.room in
+    let above = above_room rest (vec_len now + 1) (vec_capacity now) behind in
+    let height = same_height now c.answer.new.answers c.in_ok-argument.ensures.stack in
+    let capacity = c.in_ok-argument.ensures.capacity in omega (arith, above, height, capacity)
+
+pub stack_answers-loop-form-preserved : goal.stack_answers-loop-form-preserved
+stack_answers-loop-form-preserved t c =
+    let s = seen c.args.view.now c.args.variables.now in
+    let now = c.loop-form.answers in
+    let i = c.loop-form.form-index in
+    let argument = c.in_ok-argument.argument in
+    let rest = exprs_of_forms (drop (i + 1) c.args.forms.now) in
+    let here = forms_here c.args.forms.now i c.form-item.result c.loop-form-test.true c.form-item.is in
+    let behind = rest_room (exprs_of_forms (drop i c.args.forms.now)) (expr_of_form c.form-item.result) rest (vec_len now) (vec_capacity now) here c.loop-form.invariant.room in
+    let grown = c.push.ensures.stack ∙ ap (λ (st : List Answer). st ++ argument ∷ []) c.in_ok-argument.ensures.stack in
+    let capacity = c.push.ensures.capacity ∙ c.in_ok-argument.ensures.capacity in
+    let step = stacked_here c.args.forms.now i c.form-item.result s now.items argument c.loop-form-test.true c.form-item.is c.in_ok-argument.ensures.value in
+    record {
+      same = ap (λ (st : List Answer). stacked st (meanings rest s)) grown ∙ sym step ∙ c.loop-form.invariant.same;
+      room = moved_room (codes_of rest) (vec_len now + 1) (vec_len c.push.new.answers) (vec_capacity now) (vec_capacity c.push.new.answers) (one_higher now c.push.new.answers argument grown) capacity behind;
+      capacity = capacity ∙ c.loop-form.invariant.capacity;
+      counts = c.in_ok-argument.ensures.counts;
+    }

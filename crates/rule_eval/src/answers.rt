@@ -1,0 +1,165 @@
+// What forms answer over a view.
+ghost use Rattle.std.specs.Prelude.{◌≡◌, ◌+◌, ◌<◌, ◌≤◌, Some, None, [], ◌∷◌, ◌++◌, List, MatchResult, OnOk, vec_len, vec_capacity};
+ghost use Rattle.std.specs.Result.{result_ok};
+ghost use Rattle.quantity.specs.declared.value.Value.{Value as AnyValue};
+ghost use Rattle.rule_tree.specs.Meaning.{meaning, meanings};
+ghost use Rattle.rule_eval.specs.Seen.{IsView, neighbours_of, seen};
+ghost use Rattle.rule_eval.specs.Kept.{AreCounts};
+ghost use Rattle.rule_eval.specs.Code.{code_of, codes_of};
+ghost use Rattle.rule_eval.specs.Depth.{depth_from, depth_of};
+ghost use Rattle.rule_eval.specs.Ran.{answer_of, or_stop};
+ghost use Rattle.rule_eval.specs.Forms.{expr_of_form, exprs_of_forms};
+ghost use Rattle.rule_eval.specs.Tests.{test_truth};
+ghost use Rattle.rule_eval.specs.Sums.{port_value_at, sum_from};
+ghost use Rattle.rule_eval.specs.Stacked.{stacked};
+
+use crate::apply::{apply_binary, apply_function, apply_unary, as_answer};
+use crate::counts::Counts;
+use crate::forms::{Form, PortAt, Test};
+use crate::seen::{neighbour, value_at, whole};
+use crate::view::View;
+use quantity::{Overflow, Tri, Value};
+use rule_tree::{Answer, RuleStop};
+
+/// What a test answers. The right operand of `and` and `or` is left where the left one decides.
+pub(crate) fn truth(test: &Test, view: &View, counts: &mut Counts) -> Tri
+    requires view { IsView view.now }
+    requires counts { AreCounts counts.old view.now }
+    ensures value { result ≡ test_truth test.now (neighbours_of view.now) }
+    ensures counts { AreCounts counts.new view.now }
+{
+    match test {
+        Test::Truth(truth) => *truth,
+        Test::NeighbourIs(how, k, port, number) => {
+            neighbour(view, *k, *port).compare(*how, *number)
+        }
+        Test::CountIs(how, count, number) => counts.number(*count, view).compare(*how, *number),
+        Test::Not(a) => truth(a, view, counts).not(),
+        Test::Both(a, b) => match truth(a, view, counts) {
+            Tri::True => truth(b, view, counts),
+            Tri::False => Tri::False,
+            Tri::Undef => Tri::Undef.and(truth(b, view, counts)),
+        },
+        Test::Either(a, b) => match truth(a, view, counts) {
+            Tri::True => Tri::True,
+            Tri::False => truth(b, view, counts),
+            Tri::Undef => Tri::Undef.or(truth(b, view, counts)),
+        },
+    }
+}
+
+/// A value, to which those of neighbours are added one after another.
+#[tactic(auto, using(crate::proofs::FormSums::sum_here, crate::proofs::Stacks::drop_end))]
+fn sum(first: Value, more: &[PortAt], view: &View) -> Result<Value, Overflow>
+    requires { IsView view.now }
+    ensures { result_ok result ≡ sum_from first more.now (neighbours_of view.now) }
+{
+    let mut total = first;
+    for at in more {
+        total = total.add(neighbour(view, at.offset, at.port))?;
+    }
+    Ok(total)
+}
+
+/// What a form answers over the view, with these values of the variables. The arguments of functions stand on the
+/// stack meanwhile.
+#[cycle(answer)]
+fn answer(
+    form: &Form,
+    view: &View,
+    variables: &[Value],
+    counts: &mut Counts,
+    answers: &mut Vec<Answer>,
+) -> Result<Answer, Overflow>
+    requires view { IsView view.now }
+    requires counts { AreCounts counts.old view.now }
+    requires room { depth_from (code_of (expr_of_form form.now)) (vec_len answers.old) ≤ vec_capacity answers.old }
+    ensures value { result_ok result ≡ meaning (expr_of_form form.now) (seen view.now variables.now) }
+    ensures stack { OnOk result (answers.new.items ≡ answers.old.items) }
+    ensures capacity { vec_capacity answers.new ≡ vec_capacity answers.old }
+    ensures counts { AreCounts counts.new view.now }
+{
+    match form {
+        Form::Number(value) => Ok(Answer::Num(*value)),
+        Form::Neighbour(k, port) => Ok(Answer::Num(neighbour(view, *k, *port))),
+        Form::Variable(k) => Ok(Answer::Num(value_at(variables, usize::from(*k)))),
+        Form::Now => Ok(Answer::Num(whole(u64::from(view.time.ms())))),
+        Form::PortValue => Ok(Answer::Num(view.port)),
+        Form::Counted(count) => Ok(Answer::Num(counts.number(*count, view))),
+        Form::Test(test) => Ok(Answer::Logic(truth(test, view, counts))),
+        Form::Sum(k, port, more) => as_answer(sum(neighbour(view, *k, *port), more, view)),
+        Form::One(operator, a) => {
+            let a = answer(a, view, variables, counts, answers)?;
+            Ok(apply_unary(*operator, a))
+        }
+        Form::Two(operator, a, c) => {
+            let a = answer(a, view, variables, counts, answers)?;
+            let c = answer(c, view, variables, counts, answers)?;
+            apply_binary(*operator, a, c)
+        }
+        Form::Call(function, arguments) => {
+            let below = answers.len();
+            stack_answers(arguments, view, variables, counts, answers)?;
+            let made = apply_function(*function, &answers[below..], view);
+            answers.truncate(below);
+            Ok(made)
+        }
+    }
+}
+
+/// Puts what forms answer on the stack, one after another.
+#[cycle(answer)]
+fn stack_answers(
+    forms: &[Form],
+    view: &View,
+    variables: &[Value],
+    counts: &mut Counts,
+    answers: &mut Vec<Answer>,
+) -> Result<(), Overflow>
+    requires view { IsView view.now }
+    requires counts { AreCounts counts.old view.now }
+    requires room { depth_from (codes_of (exprs_of_forms forms.now)) (vec_len answers.old) ≤ vec_capacity answers.old }
+    ensures value { MatchResult result
+        (λ _. stacked answers.old.items (meanings (exprs_of_forms forms.now) (seen view.now variables.now)) ≡ Some answers.new.items)
+        (λ _. stacked answers.old.items (meanings (exprs_of_forms forms.now) (seen view.now variables.now)) ≡ None) }
+    ensures capacity { vec_capacity answers.new ≡ vec_capacity answers.old }
+    ensures counts { AreCounts counts.new view.now }
+{
+    for form in forms {
+        let argument = answer(form, view, variables, counts, answers)?;
+        push(answers, argument);
+    }
+    Ok(())
+}
+
+fn push(answers: &mut Vec<Answer>, answer: Answer)
+    requires { vec_len answers.old < vec_capacity answers.old }
+    ensures stack { answers.new.items ≡ answers.old.items ++ answer ∷ [] }
+    ensures capacity { vec_capacity answers.new ≡ vec_capacity answers.old }
+{
+    // The value's type is named for the prover's sake.
+    let _kind: Option<Value> = None;
+    answers.push_reserved(answer);
+}
+
+/// What a form answers, over the view with these values of the variables; the stack is emptied first.
+pub(crate) fn run(
+    form: &Form,
+    view: &View,
+    variables: &[Value],
+    counts: &mut Counts,
+    answers: &mut Vec<Answer>,
+) -> Result<Answer, RuleStop>
+    requires view { IsView view.now }
+    requires counts { AreCounts counts.old view.now }
+    requires room { depth_of (code_of (expr_of_form form.now)) ≤ vec_capacity answers.old }
+    ensures value { result ≡ or_stop (answer_of (code_of (expr_of_form form.now)) (seen view.now variables.now)) }
+    ensures capacity { vec_capacity answers.new ≡ vec_capacity answers.old }
+    ensures counts { AreCounts counts.new view.now }
+{
+    answers.clear();
+    match answer(form, view, variables, counts, answers) {
+        Ok(found) => Ok(found),
+        Err(_) => Err(RuleStop::Overflow),
+    }
+}
