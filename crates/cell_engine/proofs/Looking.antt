@@ -1,25 +1,26 @@
 -- What a cell sees of its neighbours, as the values of one list.
-use Rattle.std.proofs.Common.{◌≡◌, ℕ, zero, suc, ◌+◌, ◌*◌, ◌/◌, ◌<◌, ◌≤◌, Option, Some, None, List, [], ◌∷◌, map, length, get_or, take, drop, replicate, refl, sym, ◌∙◌, ap, subst, arith, zero-add}
+use Rattle.std.proofs.Common.{◌≡◌, ℕ, zero, suc, ◌+◌, ◌*◌, ◌/◌, ◌<◌, ◌≤◌, Option, Some, None, List, [], ◌∷◌, ◌++◌, map, length, get_or, set, take, drop, replicate, refl, sym, ◌∙◌, ap, subst, arith, zero-add, ℤ}
 use Rattle.std.specs.Prelude.{slice_get, IfSome}
-use Rattle.std.specs.List.{range_with_len}
+use Rattle.std.specs.List.{All, flat_map, range_with_len}
 use Rattle.std.specs.Option.{option_map}
 use Rattle.std.proofs.lemmas.List.{length-map, length-replicate}
 use Rattle.std.proofs.Math.Nat.{mul-div_cancel}
 use Rattle.quantity.specs.declared.place.Offset.{Offset}
+use Rattle.quantity.specs.declared.value.Value.{Value}
 use Rattle.quantity.specs.declared.value.Value.TheVariants.{Undefined}
 use Rattle.rule_eval.specs.declared.view.View.{View}
 use Rattle.rule_eval.specs.Seen.{IsView, offsets_of, neighbours_of, sight_of}
 use Rattle.cell_grid.specs.Space.{Space, cell_count, neighbour, place_of, dims_of}
-use Rattle.cell_grid.specs.Neighbourhoods.{Neighbourhood, neighbours}
+use Rattle.cell_grid.specs.Neighbourhoods.{Neighbourhood, further, neighbours, AreDifferences}
 use Rattle.cell_grid.proofs.Opposites.{neighbour-inside}
 use Rattle.model_tree.specs.Tree.{Group}
-use Rattle.run_model.specs.CellStep.{PortState}
+use Rattle.run_model.specs.CellStep.{PortState, CellState}
 use Rattle.run_model.specs.Cycle.{cell_state, emitted_values, seen_of}
 use Rattle.cell_table.specs.Table.{Table, IsTable}
-use Rattle.cell_table.specs.Told.{no_cell, cell_at}
+use Rattle.cell_table.specs.Told.{no_cell, cell_at, emitted_of, OnlyCell}
 use Rattle.cell_engine.specs.Layout.{Layout, StandsFor}
 use Rattle.cell_engine.specs.Cells.{sight_in}
-use Rattle.cell_engine.specs.Step.{given_by, AreCells, near, LooksAt}
+use Rattle.cell_engine.specs.Step.{given_by, out_of, out_further, AreCells, IsBelow, near, sees, at_port, LooksAt}
 use Rattle.cell_engine.proofs.Pieces.{AreLong, pieces_from, pieces_long}
 use Rattle.cell_engine.proofs.Sees.{mapped-at}
 
@@ -56,7 +57,7 @@ given_long t is ns cells j e lt = long_of t is (get_or ns j e) (cells j e lt)
 
 -- ---- the view of a cell
 
-module _ (v : View) (t : ℕ) (l : Layout) (tb : Table) (i : ℕ) (is : IsTable tb) (long : length tb.cells ≡ cell_count l.space) (here : i < cell_count l.space) (looks : LooksAt v t l tb i) where
+module _ (v : View) (t : ℕ) (l : Layout) (tb : Table) (i : ℕ) (port : Value) (is : IsTable tb) (long : length tb.cells ≡ cell_count l.space) (here : i < cell_count l.space) (looks : LooksAt v t l tb i port) where
   abbrev ns : List (Option ℕ)
   ns = neighbours (near l) i
 
@@ -87,6 +88,13 @@ module _ (v : View) (t : ℕ) (l : Layout) (tb : Table) (i : ℕ) (is : IsTable 
       (λ k. map (λ (j : ℕ). take (looks.ports k) (drop (j * looks.ports k) (looks.seen k))) (range_with_len 0 (count k)))
       ∙ pieces_from (given_by tb) tb.width ns [] 0 (omega arith) (given_long tb is ns cells)
 
+  -- a view shows what the cell sees
+  pub shows : sight_of v ≡ record (at_port port (sees l t tb i)) { variables = (cell_at tb.cells i).variables }
+  shows =
+      λ k. record { time = looks.time k; place = looks.place k; dims = looks.dims k; neighbours = neighbours_are k; port = looks.port k; variables = looks.variables k }
+
+-- ---- what a cell sees is what the reference's cell sees
+
 seen_same : (g : Group) (tb : Table) (o : Option ℕ) → tb.width ≡ suc (length g.port_values) → ((n : ℕ) → o ≡ Some n → n < length tb.cells)
     → given_by tb o ≡ seen_of (map cell_state tb.cells) g (option_map (λ n. 0 + n) o)
 seen_same g tb None wide within = ap (λ (n : ℕ). replicate n Undefined) wide
@@ -101,14 +109,81 @@ all_seen g tb i here long wide (o ∷ os) =
     let rest = all_seen g tb i here long wide os in
     λ k. head k ∷ rest k
 
--- a view shows what the reference's cell sees
-pub sight_is : (v : View) (t : ℕ) (g : Group) (l : Layout) (tb : Table) (i : ℕ) → IsTable tb → length tb.cells ≡ cell_count l.space → i < cell_count l.space → tb.width ≡ l.ports + 1
-    → LooksAt v t l tb i → StandsFor g l → sight_of v ≡ sight_in t g tb.cells i
-sight_is v t g l tb i is long here wide looks st =
+pub sees_group : (t : ℕ) (g : Group) (l : Layout) (tb : Table) (i : ℕ) → length tb.cells ≡ cell_count l.space → i < cell_count l.space → tb.width ≡ l.ports + 1 → StandsFor g l
+    → sees l t tb i ≡ sight_in t g tb.cells i
+sees_group t g l tb i long here wide st =
     let wide_g : tb.width ≡ suc (length g.port_values) = omega (arith, wide, st.ports) in
     let long_g : length tb.cells ≡ cell_count g.space = long ∙ ap cell_count st.space in
     let here_g : i < cell_count g.space = subst (λ (s : Space). i < cell_count s) st.space here in
-    let seen = neighbours_are v t l tb i is long here looks ∙ (λ k. map (given_by tb) (map (neighbour (st.space k) i) (st.offsets k))) ∙ all_seen g tb i here_g long_g wide_g g.offsets in
-    let where_at = looks.place ∙ ap (λ (s : Space). place_of s i) st.space in
-    let size = looks.dims ∙ ap dims_of st.space in
-    λ k. record { time = looks.time k; place = where_at k; dims = size k; neighbours = seen k; port = looks.port k; variables = looks.variables k }
+    let seen = (λ k. map (given_by tb) (map (neighbour (st.space k) i) (st.offsets k))) ∙ all_seen g tb i here_g long_g wide_g g.offsets in
+    λ k. record (sight_in t g tb.cells i) { place = place_of (st.space k) i; dims = dims_of (st.space k); neighbours = seen k }
+
+-- ---- one port
+
+single : (vs : List Value) → length vs ≡ 1 → vs ≡ get_or vs 0 Undefined ∷ []
+single [] h = absurd (omega (arith, h))
+single (v ∷ []) h = refl
+single (v ∷ w ∷ vs) h = absurd (omega (arith, h))
+
+-- the values that all cells gave, where each has one port
+abbrev pub AreOuts : Table → List Value → Type 0
+AreOuts tb es =
+    (n p : ℕ) → n < length tb.cells → p < tb.width → get_or es (n * tb.width + p) Undefined ≡ get_or (emitted_of (cell_at tb.cells n)) p Undefined
+
+module _ (tb : Table) (is : IsTable tb) (one : tb.width ≡ 1) (es : List Value) (outs : AreOuts tb es) where
+  out_is : (o : Option ℕ) → IfSome o (λ n. n < length tb.cells) → given_by tb o ≡ out_of es o ∷ []
+  out_is None h = ap (λ n. replicate n Undefined) one
+  out_is (Some n) h =
+      let c = cell_at tb.cells n in
+      let alone : length (emitted_of c) ≡ 1 = length-map c.ports (λ (p : PortState). p.emitted) ∙ (is.numbers n no_cell h).0 ∙ one in
+      let place : n * tb.width + 0 ≡ n = ap (λ w. n * w + 0) one ∙ omega arith in
+      let read : get_or es n Undefined ≡ get_or (emitted_of c) 0 Undefined = ap (λ k. get_or es k Undefined) (sym place) ∙ outs n 0 h (omega (arith, one)) in
+      single (emitted_of c) alone ∙ ap (λ v. v ∷ []) (sym read)
+
+  pub outs_are : (ns : List (Option ℕ)) → AreCells (length tb.cells) ns → map (out_of es) ns ≡ flat_map (given_by tb) ns
+  outs_are [] cells = refl
+  outs_are (o ∷ ns) cells =
+      let head = out_is o (cells 0 o (omega arith)) in
+      let rest = outs_are ns (λ j d lt. cells (suc j) d (omega (arith, lt))) in
+      (λ k. out_of es o ∷ rest k) ∙ sym (λ k. head k ++ flat_map (given_by tb) ns)
+
+-- a whole look
+pub looked : (l : Layout) (tb : Table) (i : ℕ) (es : List Value) → IsTable tb → tb.width ≡ 1 → AreOuts tb es → length tb.cells ≡ cell_count l.space → i < cell_count l.space
+    → map (out_of es) (neighbours (near l) i) ≡ flat_map (given_by tb) (neighbours (near l) i)
+looked l tb i es is one outs long here =
+    outs_are tb is one es outs (neighbours (near l) i) (subst (λ (n : ℕ). AreCells n (neighbours (near l) i)) (sym long) (are_cells (near l) i here))
+
+outs_further : (es : List Value) (cell : ℕ) (ds : List ℤ) → map (out_further es cell) ds ≡ map (out_of es) (map (λ d. Some (further cell d)) ds)
+outs_further es cell [] = refl
+outs_further es cell (d ∷ ds) = ap (λ vs. out_further es cell d ∷ vs) (outs_further es cell ds)
+
+-- the same by differences
+module _ (l : Layout) (n : Neighbourhood) (i : ℕ) (es : List Value) (ds : List ℤ) (is : n ≡ near l) (far : AreDifferences n i ds) where
+  pub looked_further : map (out_further es i) ds ≡ map (out_of es) (neighbours (near l) i)
+  looked_further = outs_further es i ds ∙ ap (map (out_of es)) (sym far.lead ∙ ap (λ (h : Neighbourhood). neighbours h i) is)
+
+  pub leads_below : length es ≡ cell_count l.space → All (IsBelow (length es) i) ds
+  leads_below long = subst (λ (k : ℕ). All (IsBelow k i) ds) (ap (λ (h : Neighbourhood). cell_count h.space) is ∙ sym long) far.inside
+
+pub long_look : (l : Layout) (tb : Table) (i : ℕ) → IsTable tb → length tb.cells ≡ cell_count l.space → i < cell_count l.space
+    → length (flat_map (given_by tb) (neighbours (near l) i)) ≡ length l.offsets * tb.width
+long_look l tb i is long here =
+    let cells = subst (λ (n : ℕ). AreCells n (neighbours (near l) i)) (sym long) (are_cells (near l) i here) in
+    pieces_long (given_by tb) tb.width (neighbours (near l) i) (given_long tb is (neighbours (near l) i) cells)
+    ∙ ap (λ n. n * tb.width) (length-map l.offsets (neighbour l.space i))
+
+-- ---- what a cell sees stays while only it changes, and not what it emitted
+
+kept : (i : ℕ) (cells : List CellState) (c : CellState) → emitted_of c ≡ emitted_of (cell_at cells i) → (n : ℕ) → emitted_of (cell_at (set cells i c) n) ≡ emitted_of (cell_at cells n)
+kept i [] c e n = refl
+kept zero (d ∷ ds) c e zero = e
+kept zero (d ∷ ds) c e (suc n) = refl
+kept (suc i) (d ∷ ds) c e zero = refl
+kept (suc i) (d ∷ ds) c e (suc n) = kept i ds c e n
+
+pub sees_still : (l : Layout) (t : ℕ) (a b : Table) (i j : ℕ) → OnlyCell j a.cells b.cells → b.width ≡ a.width → sees l t b i ≡ sees l t a i
+sees_still l t a b i j only wide = λ k. record (sees l t a i) { neighbours = map (λ (o : Option ℕ). same o k) (neighbours (near l) i) }
+  where
+    same : (o : Option ℕ) → given_by b o ≡ given_by a o
+    same None = ap (λ n. replicate n Undefined) wide
+    same (Some n) = ap (λ (cs : List CellState). emitted_of (cell_at cs n)) only.others ∙ kept j a.cells (cell_at b.cells j) only.emitted n

@@ -45,7 +45,7 @@ sets_need_more f sets i set m n k here is needs le own most =
 
 -- the plan and the cells of a sound group, with room for a step
 pub made_ready : (g : Group) (l : Layout) (t : Table) (p r c d : ℕ) → is_sound_group g ≡ true → StandsFor g l → t ≡ starting g.initial g.port_values g.variable_values
-    → p ≡ length g.offsets → p * t.width ≤ r → c ≡ l.variables → All (NeedsAtMost d) l.codes → IsReady l t p r c d
+    → p ≡ length g.offsets → r ≡ p * t.width → c ≡ l.variables → All (NeedsAtMost d) l.codes → IsReady l t p r c d
 made_ready g l t p r c d sound st start places room changed depth =
     let n = numbers g sound in
     let wide : t.width ≡ length g.port_values + 1 = ap (λ (u : Table). u.width) start in
@@ -56,7 +56,7 @@ made_ready g l t p r c d sound st start places room changed depth =
       variables = ap (λ (u : Table). u.variables) start ∙ sym st.variables;
       cells = own ∙ n.cells ∙ ap cell_count (sym st.space);
       places = offsets;
-      room = subst (λ (k : ℕ). k * t.width ≤ r) offsets room;
+      room = room ∙ ap (λ k. k * t.width) offsets;
       changed = changed;
       depth = depth;
     }

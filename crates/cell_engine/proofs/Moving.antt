@@ -4,37 +4,34 @@ use Rattle.std.specs.List.{All}
 use Rattle.std.proofs.lemmas.List.{take_at}
 use Rattle.std.specs.declared.result.Result.{Result}
 use Rattle.rule_tree.specs.Meaning.{Sight}
-use Rattle.rule_eval.specs.declared.view.View.{View}
 use Rattle.rule_eval.specs.RuleCodes.{Codes, rule_depth}
-use Rattle.rule_eval.specs.Seen.{sight_of}
 use Rattle.atomic_face.specs.Classes.{Bag}
 use Rattle.cell_grid.specs.Space.{cell_count}
 use Rattle.model_tree.specs.Tree.{Word, Group}
 use Rattle.model_tree.specs.Pull.{cell_ports}
 use Rattle.model_tree.specs.Sound.{is_sound_group}
 use Rattle.run_model.specs.CellStep.{CellState, cell_moved}
-use Rattle.cell_table.specs.Table.{Table, IsTable, HasShape}
+use Rattle.cell_table.specs.Table.{Table, HasShape}
 use Rattle.cell_table.specs.Told.{cell_at, OnlyCell}
 use Rattle.cell_engine.specs.declared.stop.CellStop.{CellStop}
 use Rattle.cell_engine.specs.Layout.{Layout, StandsFor}
 use Rattle.cell_engine.specs.Cells.{Cells, computed_at, Computes}
-use Rattle.cell_engine.specs.Step.{LooksAt, IsOfGroup}
+use Rattle.cell_engine.specs.Step.{sees, IsOfGroup}
 use Rattle.cell_engine.specs.Store.{IsReady}
-use Rattle.cell_engine.proofs.Looking.{sight_is}
+use Rattle.cell_engine.proofs.Looking.{sees_group}
 use Rattle.cell_engine.proofs.Ready.{ready_after}
 
--- a cell that moves over what a view shows moves as the reference's cell
-pub moves_so : (U : Type 0) (r : Result U CellStop) (g : Group) (l : Layout) (tb : Table) (s : Cells) (i t : ℕ) (woken : Bool) (bag : Bag) (ports : List Word) (v : View) (new : List CellState)
-    → record { layout = l; cells = tb.cells } ≡ s → IsTable tb → length tb.cells ≡ cell_count l.space → i < cell_count l.space → tb.width ≡ l.ports + 1 → LooksAt v t l tb i
+-- a cell that moves over what it sees of a table moves as the reference's cell
+pub moves_so : (U : Type 0) (r : Result U CellStop) (g : Group) (l : Layout) (tb : Table) (s : Cells) (i t : ℕ) (woken : Bool) (bag : Bag) (ports : List Word) (new : List CellState)
+    → record { layout = l; cells = tb.cells } ≡ s → length tb.cells ≡ cell_count l.space → i < cell_count l.space → tb.width ≡ l.ports + 1
     → StandsFor g s.layout → is_sound_group g ≡ true → ports ≡ cell_ports g i
-    → (IsOfGroup g l ports i → Computes i tb.cells new (cell_moved g i v.time woken (sight_of v) bag (cell_at tb.cells i)) r)
+    → (IsOfGroup g l ports i → Computes i tb.cells new (cell_moved g i t woken (sees l t tb i) bag (cell_at tb.cells i)) r)
     → Computes i s.cells new (computed_at t g s.cells i woken bag) r
-moves_so U r g l tb s i t woken bag ports v new is table long here wide looks st sound named h =
+moves_so U r g l tb s i t woken bag ports new is long here wide st sound named h =
     let P : Cells → Type 0 = λ x. StandsFor g x.layout → Computes i x.cells new (computed_at t g x.cells i woken bag) r in
     let at_tables : StandsFor g l → Computes i tb.cells new (computed_at t g tb.cells i woken bag) r = λ st_l.
-    subst (λ (x : Sight). Computes i tb.cells new (cell_moved g i t woken x bag (cell_at tb.cells i)) r) (sight_is v t g l tb i table long here wide looks st_l)
-    (subst (λ (n : ℕ). Computes i tb.cells new (cell_moved g i n woken (sight_of v) bag (cell_at tb.cells i)) r) looks.time
-    (h (record { stands = st_l; sound = sound; ports_are = named }))) in
+    subst (λ (x : Sight). Computes i tb.cells new (cell_moved g i t woken x bag (cell_at tb.cells i)) r) (sees_group t g l tb i long here wide st_l)
+    (h (record { stands = st_l; sound = sound; ports_are = named })) in
     subst P is at_tables st
 
 pub only_so : (l : Layout) (tb : Table) (s : Cells) (i : ℕ) (new : List CellState) → record { layout = l; cells = tb.cells } ≡ s → OnlyCell i tb.cells new → OnlyCell i s.cells new
@@ -54,7 +51,7 @@ ready_still l t u p r c d p' r' c' d' shape ep er ec ed h =
       variables = now.variables;
       cells = now.cells;
       places = ep ∙ now.places;
-      room = subst (λ (k : ℕ). length l.offsets * u.width ≤ k) (sym er) now.room;
+      room = er ∙ now.room;
       changed = ec ∙ now.changed;
       depth = subst (λ (k : ℕ). All (λ (rules : List Codes). All (λ (rule : Codes). rule_depth rule ≤ k) rules) l.codes) (sym ed) now.depth;
     }

@@ -1,5 +1,5 @@
 -- A store stays ready where its table keeps its numbers.
-use Rattle.std.proofs.Common.{◌≡◌, ℕ, ◌*◌, ◌≤◌, length, sym, ◌∙◌, subst}
+use Rattle.std.proofs.Common.{◌≡◌, ℕ, ◌*◌, length, sym, ◌∙◌, ap}
 use Rattle.cell_engine.specs.Layout.{Layout}
 use Rattle.cell_table.specs.Table.{Table}
 use Rattle.cell_engine.specs.Store.{IsReady}
@@ -11,7 +11,7 @@ ready_after l t u p r c d w v n h =
       variables = v ∙ h.variables;
       cells = n ∙ h.cells;
       places = h.places;
-      room = subst (λ (k : ℕ). length l.offsets * k ≤ r) (sym w) h.room;
+      room = h.room ∙ ap (λ k. length l.offsets * k) (sym w);
       changed = h.changed;
       depth = h.depth;
     }

@@ -1,5 +1,5 @@
 -- The parts of a cell's step. Only private clauses name these.
-use Rattle.std.specs.Prelude.{◌≡◌, ℕ, ◌+◌, ◌<◌, ◌≤◌, ◌&&◌, ◌==◌, Bool, true, Option, Some, None, List, [], map, replicate, IfSome, if◌then◌else◌}
+use Rattle.std.specs.Prelude.{◌≡◌, ℕ, ◌+◌, ◌<◌, ◌≤◌, ◌&&◌, ◌==◌, Bool, true, Option, Some, None, List, [], map, replicate, slice_index_or, IfSome, if◌then◌else◌, ℤ, pos, ◌+ℤ◌, ◌≤ℤ◌, ◌<ℤ◌}
 use Rattle.std.specs.List.{All, list_all, flat_map}
 use Rattle.std.specs.Str.{bytes_eq}
 use Rattle.std.specs.declared.result.Result.TheVariants.{Ok}
@@ -14,7 +14,7 @@ use Rattle.rule_tree.specs.Chosen.{chosen}
 use Rattle.rule_eval.specs.RuleCodes.{Codes, codes_of, rule_depth}
 use Rattle.rule_eval.specs.declared.view.View.{View}
 use Rattle.cell_grid.specs.Space.{place_of, dims_of}
-use Rattle.cell_grid.specs.Neighbourhoods.{Neighbourhood, neighbours}
+use Rattle.cell_grid.specs.Neighbourhoods.{Neighbourhood, further, neighbours}
 use Rattle.model_tree.specs.declared.group.PortRule.{PortRule}
 use Rattle.model_tree.specs.Tree.{Word, Group}
 use Rattle.model_tree.specs.Pull.{cell_ports}
@@ -39,15 +39,44 @@ AreCells count ns = All (λ (o : Option ℕ). IfSome o (λ n. n < count)) ns
 abbrev pub near : Layout → Neighbourhood
 near l = record { space = l.space; offsets = l.offsets }
 
--- a view of what a cell sees, but for its variables
-pub record LooksAt (v : View) (t : ℕ) (l : Layout) (tb : Table) (i : ℕ) : Type 0 where
+-- what a neighbour gave at its port out, where there is no other
+abbrev pub out_of : List Value → Option ℕ → Value
+out_of values None = Undefined
+out_of values (Some n) = slice_index_or values n Undefined
+
+-- a number so far on from a cell's is below
+abbrev pub IsBelow : ℕ → ℕ → ℤ → Type 0
+IsBelow count cell d = (pos 0 ≤ℤ (pos cell +ℤ d)) × ((pos cell +ℤ d) <ℤ pos count)
+
+-- what the cell gave whose number is so far on
+abbrev pub out_further : List Value → ℕ → ℤ → Value
+out_further values cell d = slice_index_or values (further cell d) Undefined
+
+-- what a cell sees of the cells of a table, but for its variables
+abbrev pub sees : Layout → ℕ → Table → ℕ → Sight
+sees l t tb i =
+    record {
+      time = t;
+      place = place_of l.space i;
+      dims = dims_of l.space;
+      neighbours = map (given_by tb) (neighbours (near l) i);
+      port = Undefined;
+      variables = [];
+    }
+
+-- the same with a value at the port that rules are for
+abbrev pub at_port : Value → Sight → Sight
+at_port v s = record s { port = v }
+
+-- a view of what a cell sees
+pub record LooksAt (v : View) (t : ℕ) (l : Layout) (tb : Table) (i : ℕ) (at_own : Value) : Type 0 where
   pub time : v.time ≡ t
   pub place : v.place ≡ place_of l.space i
   pub dims : v.dims ≡ dims_of l.space
   pub seen : v.neighbours.now ≡ flat_map (given_by tb) (neighbours (near l) i)
   pub ports : v.ports + 1 ≡ tb.width
-  pub port : v.port ≡ Undefined
-  pub variables : v.variables.now ≡ []
+  pub port : v.port ≡ at_own
+  pub variables : v.variables.now ≡ (cell_at tb.cells i).variables
 
 -- ---- what a cell takes
 

@@ -5,6 +5,7 @@ use Rattle.rule_eval.specs.RuleCodes.{rule_depth}
 use Rattle.cell_grid.specs.Space.{cell_count}
 use Rattle.cell_grid.specs.Neighbourhoods.{Neighbourhood}
 use Rattle.model_tree.specs.declared.group.PortRule.{PortRule}
+use Rattle.cell_engine.specs.declared.desk.Desk.{Desk}
 use Rattle.cell_engine.specs.Layout.{Layout}
 use Rattle.cell_table.specs.Table.{Table}
 
@@ -25,6 +26,10 @@ pub record IsReady (l : Layout) (t : Table) (p r c d : ℕ) : Type 0 where
   pub variables : t.variables ≡ l.variables
   pub cells : length t.cells ≡ cell_count l.space
   pub places : p ≡ length l.offsets
-  pub room : length l.offsets * t.width ≤ r
+  pub room : r ≡ length l.offsets * t.width
   pub changed : c ≡ l.variables
   pub depth : All (λ rules. All (λ rule. rule_depth rule ≤ d) rules) l.codes
+
+-- the same of a desk
+abbrev pub IsAtDesk : Layout → Table → Desk → Type 0
+IsAtDesk l t d = IsReady l t (length d.neighbours.items) (length d.seen.items) (length d.changed.items) d.stack.depth

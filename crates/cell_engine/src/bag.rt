@@ -5,7 +5,6 @@ ghost use Rattle.std.specs.List.{All, find};
 ghost use Rattle.std.specs.Option.{option_map};
 ghost use Rattle.quantity.specs.declared.value.Value.{Value as AnyValue};
 ghost use Rattle.rule_tree.specs.Meaning.{Sight};
-ghost use Rattle.rule_eval.specs.Seen.{IsView, sight_of};
 ghost use Rattle.atomic_face.specs.declared.class.PortNo.{PortNo as Port};
 ghost use Rattle.cell_grid.specs.Space.{cell_count};
 ghost use Rattle.model_tree.specs.declared.group.PortRule.{PortRule as Ruling};
@@ -16,76 +15,68 @@ ghost use Rattle.cell_table.specs.Table.{HasShape};
 ghost use Rattle.cell_table.specs.Told.{cell_at, OnlyCell};
 ghost use Rattle.cell_engine.specs.Cells.{Computes};
 ghost use Rattle.cell_engine.specs.Layout.{StandsFor};
-ghost use Rattle.cell_engine.specs.Step.{IsOfGroup, NeedAtMost, is_for, woken_at};
+ghost use Rattle.cell_engine.specs.Step.{IsOfGroup, is_for, sees, woken_at};
+ghost use Rattle.cell_engine.specs.Store.{IsAtDesk};
 
 use crate::CellStop;
+use crate::desk::Desk;
 use crate::plan::Plan;
 use crate::step::{by_rules, take};
 use atomic_face::PortNo;
 use cell_table::CellTable;
 use model_tree::PortRule;
 use quantity::{Name, Time, Value};
-use rule_eval::{Given, RuleCode, Stack, View};
+use rule_eval::{Given, RuleCode};
 
 /// A cell after its emission moves: where it is woken its rules are evaluated, and then each value
-/// of its bag is treated. `base` is what it sees but for its variables.
+/// of its bag is treated. Only where rules are evaluated the neighbours are looked at.
 pub(crate) fn advance(
     plan: &Plan,
-    base: &View,
     i: u32,
+    t: Time,
     woken: bool,
     bag: &[(PortNo, Value)],
     ports: &[Name],
     table: &mut CellTable,
-    changed: &mut [Value],
-    stack: &mut Stack,
+    desk: &mut Desk,
 ) -> Result<(), CellStop>
-    requires view { IsView base.now }
-    requires time { base.now.time ≤ 359999999 }
+    requires ready { IsAtDesk plan.now table.old desk.old }
+    requires time { t ≤ 359999999 }
     requires cell { i < length table.old.cells }
-    requires space { i < cell_count plan.now.space }
-    requires changed { length changed.old ≡ table.old.variables }
-    requires depth { NeedAtMost stack.old.depth plan.now.codes }
     requires ports { All (λ (o : Port × AnyValue). o.0.0 < length ports.now) bag.now }
     ensures cell { (g : Group) → IsOfGroup g plan.now ports.now i
         → Computes i table.old.cells table.new.cells
-        (cell_moved g i base.now.time woken (sight_of base.now) bag.now
+        (cell_moved g i t woken (sees plan.now t table.old i) bag.now
         (cell_at table.old.cells i)) result }
     ensures only { OnlyCell i table.old.cells table.new.cells }
-    ensures shape { HasShape table.old table.new }
-    ensures stack { stack.new ≡ stack.old }
+    ensures ready { IsAtDesk plan.now table.new desk.new }
 {
-    wake(plan, base, i, woken, table, changed, stack)?;
-    treat_all(plan, base, i, bag, ports, table, changed, stack)
+    wake(plan, i, t, woken, table, desk)?;
+    treat_all(plan, i, t, bag, ports, table, desk)
 }
 
 /// A cell takes what its rules give, where it is woken.
 fn wake(
     plan: &Plan,
-    base: &View,
     i: u32,
+    t: Time,
     woken: bool,
     table: &mut CellTable,
-    changed: &mut [Value],
-    stack: &mut Stack,
+    desk: &mut Desk,
 ) -> Result<(), CellStop>
-    requires view { IsView base.now }
-    requires time { base.now.time ≤ 359999999 }
+    requires ready { IsAtDesk plan.now table.old desk.old }
+    requires time { t ≤ 359999999 }
     requires cell { i < length table.old.cells }
-    requires space { i < cell_count plan.now.space }
-    requires changed { length changed.old ≡ table.old.variables }
-    requires depth { NeedAtMost stack.old.depth plan.now.codes }
     ensures cell { (g : Group) → StandsFor g plan.now → IsTrue (is_sound_group g)
         → Computes i table.old.cells table.new.cells
-        (woken_at g base.now.time woken (sight_of base.now) i
+        (woken_at g t woken (sees plan.now t table.old i) i
         (cell_at table.old.cells i)) result }
     ensures only { OnlyCell i table.old.cells table.new.cells }
-    ensures shape { HasShape table.old table.new }
-    ensures stack { stack.new ≡ stack.old }
+    ensures ready { IsAtDesk plan.now table.new desk.new }
 {
     if woken {
         let rules = codes_at(plan, set_at(plan, i));
-        by_rules(rules, base, plan.kind, i, table, changed, stack)
+        by_rules(plan, rules, i, t, Value::Undefined, table, desk)
     } else {
         Ok(())
     }
@@ -94,30 +85,26 @@ fn wake(
 /// Each value of a bag is treated, one after another.
 fn treat_all(
     plan: &Plan,
-    base: &View,
     i: u32,
+    t: Time,
     bag: &[(PortNo, Value)],
     ports: &[Name],
     table: &mut CellTable,
-    changed: &mut [Value],
-    stack: &mut Stack,
+    desk: &mut Desk,
 ) -> Result<(), CellStop>
-    requires view { IsView base.now }
-    requires time { base.now.time ≤ 359999999 }
+    requires ready { IsAtDesk plan.now table.old desk.old }
+    requires time { t ≤ 359999999 }
     requires cell { i < length table.old.cells }
-    requires changed { length changed.old ≡ table.old.variables }
-    requires depth { NeedAtMost stack.old.depth plan.now.codes }
     requires ports { All (λ (o : Port × AnyValue). o.0.0 < length ports.now) bag.now }
     ensures cell { (g : Group) → IsOfGroup g plan.now ports.now i
         → Computes i table.old.cells table.new.cells
-        (all_treated g i base.now.time (sight_of base.now) bag.now
+        (all_treated g i t (sees plan.now t table.old i) bag.now
         (cell_at table.old.cells i)) result }
     ensures only { OnlyCell i table.old.cells table.new.cells }
-    ensures shape { HasShape table.old table.new }
-    ensures stack { stack.new ≡ stack.old }
+    ensures ready { IsAtDesk plan.now table.new desk.new }
 {
     for input in bag {
-        match treat_one(plan, base, i, input, ports, table, changed, stack) {
+        match treat_one(plan, i, t, input, ports, table, desk) {
             Ok(()) => {}
             Err(why) => return Err(why),
         }
@@ -128,81 +115,64 @@ fn treat_all(
 /// One value of a bag is treated.
 fn treat_one(
     plan: &Plan,
-    base: &View,
     i: u32,
+    t: Time,
     input: &(PortNo, Value),
     ports: &[Name],
     table: &mut CellTable,
-    changed: &mut [Value],
-    stack: &mut Stack,
+    desk: &mut Desk,
 ) -> Result<(), CellStop>
-    requires view { IsView base.now }
-    requires time { base.now.time ≤ 359999999 }
+    requires ready { IsAtDesk plan.now table.old desk.old }
+    requires time { t ≤ 359999999 }
     requires cell { i < length table.old.cells }
-    requires changed { length changed.old ≡ table.old.variables }
-    requires depth { NeedAtMost stack.old.depth plan.now.codes }
     requires port { input.now.0.0 < length ports.now }
     ensures cell { (g : Group) → IsOfGroup g plan.now ports.now i
         → Computes i table.old.cells table.new.cells
-        (treated g i base.now.time (sight_of base.now) input.now
+        (treated g i t (sees plan.now t table.old i) input.now
         (cell_at table.old.cells i)) result }
     ensures only { OnlyCell i table.old.cells table.new.cells }
-    ensures shape { HasShape table.old table.new }
-    ensures stack { stack.new ≡ stack.old }
+    ensures ready { IsAtDesk plan.now table.new desk.new }
 {
     let port = input.0;
     let name = &ports[usize::from(port.0)];
-    treat(plan, base, i, name, input.1, table, changed, stack)
+    treat(plan, i, t, name, input.1, table, desk)
 }
 
 /// A value at a port of a cell: the rules for that port with the value there, or the value itself
 /// after the default delay.
 fn treat(
     plan: &Plan,
-    base: &View,
     i: u32,
+    t: Time,
     port: &Name,
     value: Value,
     table: &mut CellTable,
-    changed: &mut [Value],
-    stack: &mut Stack,
+    desk: &mut Desk,
 ) -> Result<(), CellStop>
-    requires view { IsView base.now }
-    requires time { base.now.time ≤ 359999999 }
+    requires ready { IsAtDesk plan.now table.old desk.old }
+    requires time { t ≤ 359999999 }
     requires cell { i < length table.old.cells }
-    requires changed { length changed.old ≡ table.old.variables }
-    requires depth { NeedAtMost stack.old.depth plan.now.codes }
     ensures cell { (g : Group) → StandsFor g plan.now → IsTrue (is_sound_group g)
         → Computes i table.old.cells table.new.cells
-        (by_port g base.now.time (sight_of base.now) value (port_rules g i port.now)
+        (by_port g t (sees plan.now t table.old i) value (port_rules g i port.now)
         (cell_at table.old.cells i)) result }
     ensures only { OnlyCell i table.old.cells table.new.cells }
-    ensures shape { HasShape table.old table.new }
-    ensures stack { stack.new ≡ stack.old }
+    ensures ready { IsAtDesk plan.now table.new desk.new }
 {
     match rules_for(plan, i, port) {
         Some(set) => {
-            let with_value = View {
-                time: base.time,
-                place: base.place,
-                dims: base.dims,
-                neighbours: base.neighbours,
-                ports: base.ports,
-                port: value,
-                variables: base.variables,
-            };
             let rules = codes_at(plan, set);
-            by_rules(rules, &with_value, plan.kind, i, table, changed, stack)
+            by_rules(plan, rules, i, t, value, table, desk)
         }
-        None => take_itself(plan, base.time, i, value, table),
+        None => take_itself(plan, i, t, value, table),
     }
 }
 
 /// A cell takes a value after the default delay.
 fn take_itself(
     plan: &Plan,
-    t: Time,
     i: u32,
+    t: Time,
     value: Value,
     table: &mut CellTable,
 ) -> Result<(), CellStop>

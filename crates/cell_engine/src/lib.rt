@@ -2,6 +2,7 @@
 #![tactic(auto)]
 
 mod bag;
+mod desk;
 pub mod laws;
 mod make;
 mod plan;

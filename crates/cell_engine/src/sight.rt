@@ -1,29 +1,35 @@
 // What a cell sees of its neighbours.
-ghost use Rattle.std.specs.Prelude.{◌≡◌, [], ◌++◌, ◌+◌, ◌*◌, ◌<◌, ◌≤◌, length, replicate, vec_capacity, IfSome};
-ghost use Rattle.std.specs.List.{flat_map};
+ghost use Rattle.std.specs.Prelude.{◌≡◌, [], ◌++◌, ◌+◌, ◌*◌, ◌<◌, ◌≤◌, length, map, replicate};
+ghost use Rattle.std.specs.Prelude.{pos, ◌+ℤ◌, ◌≤ℤ◌, ◌<ℤ◌, vec_capacity, IfSome};
+ghost use Rattle.std.specs.List.{All, flat_map};
 ghost use Rattle.quantity.specs.declared.value.Value.{Value as AnyValue};
 ghost use Rattle.cell_grid.specs.Space.{cell_count};
-ghost use Rattle.cell_grid.specs.Neighbourhoods.{neighbours};
+ghost use Rattle.cell_grid.specs.Neighbourhoods.{further, neighbours};
 ghost use Rattle.cell_table.specs.Table.{IsTable};
-ghost use Rattle.cell_engine.specs.Step.{given_by, AreCells, LooksAt, near};
+ghost use Rattle.cell_table.specs.Told.{cell_at};
+ghost use Rattle.cell_engine.specs.Step.{given_by, out_of, out_further};
+ghost use Rattle.cell_engine.specs.Step.{AreCells, IsBelow, LooksAt, near};
 
 use crate::plan::Plan;
 use cell_table::CellTable;
 use quantity::{Time, Value};
 use rule_eval::View;
 
-/// What a cell sees but for its variables.
+/// What a cell sees, with a value at the port that its rules are for.
 pub(crate) fn view<'a>(
     plan: &Plan,
-    table: &CellTable,
+    table: &'a CellTable,
     i: u32,
     t: Time,
+    port: Value,
     seen: &'a [Value],
 ) -> View<'a>
     requires cell { i < cell_count plan.now.space }
+    requires exists { i < length table.now.cells }
     requires width { table.now.width ≡ plan.now.ports + 1 }
     requires seen { seen.now ≡ flat_map (given_by table.now) (neighbours (near plan.now) i) }
-    ensures looks { LooksAt result t plan.now table.now i }
+    ensures looks { LooksAt result t plan.now table.now i port }
+    ensures count { length result.variables.now ≡ table.now.variables }
     ensures table { IsTable table.now }
     ensures few { length plan.now.offsets ≤ 128 }
 {
@@ -34,8 +40,8 @@ pub(crate) fn view<'a>(
         dims: plan.grid.dims(),
         neighbours: seen,
         ports: ports as u8,
-        port: Value::Undefined,
-        variables: &[],
+        port,
+        variables: table.variables_at(i),
     }
 }
 
@@ -50,13 +56,88 @@ pub(crate) fn look(
     requires cell { i < cell_count plan.now.space }
     requires cells { length table.now.cells ≡ cell_count plan.now.space }
     requires places { length around.old ≡ length plan.now.offsets }
-    requires room { length plan.now.offsets * table.now.width ≤ vec_capacity seen.old }
+    requires room { length seen.old.items ≡ length plan.now.offsets * table.now.width }
     ensures seen { seen.new.items ≡ flat_map (given_by table.now) (neighbours (near plan.now) i) }
-    ensures capacity { vec_capacity seen.new ≡ vec_capacity seen.old }
+    ensures room { length seen.new.items ≡ length plan.now.offsets * table.now.width }
 {
-    plan.reach.neighbours(i, around);
-    seen.clear();
-    see_all(table, around, seen);
+    if table.width() == 1 {
+        look_at_outs(plan, table.all_emitted(), i, around, seen);
+    } else {
+        plan.reach.neighbours(i, around);
+        seen.clear();
+        see_all(table, around, seen);
+    }
+}
+
+/// What the neighbours of a cell gave at their port out, the only one.
+fn look_at_outs(
+    plan: &Plan,
+    emitted: &[Value],
+    i: u32,
+    around: &mut [Option<u32>],
+    seen: &mut [Value],
+)
+    requires cell { i < cell_count plan.now.space }
+    requires cells { length emitted.now ≡ cell_count plan.now.space }
+    requires places { length around.old ≡ length plan.now.offsets }
+    requires room { length seen.old ≡ length plan.now.offsets }
+    ensures { seen.new ≡ map (out_of emitted.now) (neighbours (near plan.now) i) }
+{
+    let _most = plan.grid.cells();
+    match plan.reach.differences(i) {
+        Some(differences) => see_further(emitted, i, differences, seen),
+        None => {
+            plan.reach.neighbours(i, around);
+            see_outs(emitted, around, seen);
+        }
+    }
+}
+
+/// What the cells so much further gave at their port out.
+fn see_further(emitted: &[Value], cell: u32, differences: &[i32], seen: &mut [Value])
+    requires near { cell < 1048576 }
+    requires cells { length emitted.now ≤ 1048576 }
+    requires inside { All (IsBelow (length emitted.now) cell) differences.now }
+    requires length { length seen.old ≡ length differences.now }
+    ensures { seen.new ≡ map (out_further emitted.now cell) differences.now }
+{
+    for (place, difference) in differences.iter().enumerate() {
+        seen[place] = emitted[further(cell, *difference)];
+    }
+}
+
+/// The number so much further.
+#[inline(always)]
+fn further(cell: u32, difference: i32) -> usize
+    requires near { cell < 1048576 }
+    requires low { pos 0 ≤ℤ (pos cell +ℤ difference) }
+    requires high { (pos cell +ℤ difference) <ℤ pos 1048577 }
+    ensures { result ≡ further cell difference }
+{
+    (cell as i32 + difference) as usize
+}
+
+/// What each neighbour gave at its port out, the only one.
+fn see_outs(emitted: &[Value], neighbours: &[Option<u32>], seen: &mut [Value])
+    requires cells { AreCells (length emitted.now) neighbours.now }
+    requires length { length seen.old ≡ length neighbours.now }
+    ensures { seen.new ≡ map (out_of emitted.now) neighbours.now }
+{
+    for (place, neighbour) in neighbours.iter().enumerate() {
+        seen[place] = out_of(emitted, *neighbour);
+    }
+}
+
+/// What a neighbour gave at its port out, and `?` for one outside the space.
+#[inline(always)]
+fn out_of(emitted: &[Value], neighbour: Option<u32>) -> Value
+    requires { IfSome neighbour (λ n. n < length emitted.now) }
+    ensures { result ≡ out_of emitted.now neighbour }
+{
+    match neighbour {
+        Some(n) => emitted[n as usize],
+        None => Value::Undefined,
+    }
 }
 
 fn see_all(table: &CellTable, neighbours: &[Option<u32>], seen: &mut Vec<Value>)
@@ -64,7 +145,7 @@ fn see_all(table: &CellTable, neighbours: &[Option<u32>], seen: &mut Vec<Value>)
     requires empty { seen.old.items ≡ [] }
     requires room { length neighbours.now * table.now.width ≤ vec_capacity seen.old }
     ensures seen { seen.new.items ≡ flat_map (given_by table.now) neighbours.now }
-    ensures capacity { vec_capacity seen.new ≡ vec_capacity seen.old }
+    ensures long { length seen.new.items ≡ length neighbours.now * table.now.width }
 {
     for neighbour in neighbours {
         see(table, *neighbour, seen);

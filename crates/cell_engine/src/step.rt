@@ -5,56 +5,50 @@ ghost use Rattle.std.specs.List.{All};
 ghost use Rattle.quantity.specs.declared.value.Value.{Value as AnyValue};
 ghost use Rattle.rule_tree.specs.Expression.{Rule};
 ghost use Rattle.rule_eval.specs.RuleCodes.{rule_depth};
-ghost use Rattle.rule_eval.specs.Seen.{IsView, sight_of};
 ghost use Rattle.run_model.specs.CellStep.{took};
 ghost use Rattle.cell_table.specs.Table.{HasShape, changed_cell, changed_ports};
 ghost use Rattle.cell_table.specs.Told.{cell_at, OnlyCell};
 ghost use Rattle.cell_engine.specs.Cells.{Computes, stop_of};
-ghost use Rattle.cell_engine.specs.Step.{AreGiven, StandForRules, ruled};
+ghost use Rattle.cell_engine.specs.Step.{AreGiven, StandForRules, at_port, ruled, sees};
+ghost use Rattle.cell_engine.specs.Store.{IsAtDesk};
 
 use crate::CellStop;
+use crate::desk::Desk;
+use crate::plan::Plan;
+use crate::sight::{look, view};
 use cell_table::CellTable;
 use quantity::{DelayKind, OutOfMemory, Time, Value};
-use rule_eval::{Given, RuleCode, Stack, View, evaluate};
+use rule_eval::{Given, RuleCode, evaluate};
 use rule_tree::RuleStop;
 
-/// A cell takes what the first true rule gives over what it sees. `base` is what it sees but for its
-/// variables.
+/// A cell takes what the first true rule gives over what it sees, with a value at the port that the rules are for.
 pub(crate) fn by_rules(
+    plan: &Plan,
     rules: &[RuleCode],
-    base: &View,
-    kind: DelayKind,
     i: u32,
+    t: Time,
+    port: Value,
     table: &mut CellTable,
-    changed: &mut [Value],
-    stack: &mut Stack,
+    desk: &mut Desk,
 ) -> Result<(), CellStop>
-    requires view { IsView base.now }
-    requires time { base.now.time ≤ 359999999 }
+    requires ready { IsAtDesk plan.now table.old desk.old }
+    requires time { t ≤ 359999999 }
     requires cell { i < length table.old.cells }
-    requires changed { length changed.old ≡ table.old.variables }
-    requires depth { All (λ rule. rule_depth rule ≤ stack.old.depth) rules.now }
+    requires depth { All (λ rule. rule_depth rule ≤ desk.old.stack.depth) rules.now }
     // For all rules that the codes stand for.
     ensures cell { (trees : List Rule) → StandForRules rules.now trees
         → Computes i table.old.cells table.new.cells
-        (ruled kind (sight_of base.now) trees (cell_at table.old.cells i)) result }
+        (ruled plan.now.kind (at_port port (sees plan.now t table.old i)) trees
+        (cell_at table.old.cells i)) result }
     ensures only { OnlyCell i table.old.cells table.new.cells }
-    ensures shape { HasShape table.old table.new }
-    ensures stack { stack.new ≡ stack.old }
+    ensures ready { IsAtDesk plan.now table.new desk.new }
 {
-    let view = View {
-        time: base.time,
-        place: base.place,
-        dims: base.dims,
-        neighbours: base.neighbours,
-        ports: base.ports,
-        port: base.port,
-        variables: table.variables_at(i),
-    };
-    match evaluate(rules, &view, changed, stack) {
+    look(plan, table, i, &mut desk.neighbours, &mut desk.seen);
+    let view = view(plan, table, i, t, port, &desk.seen);
+    match evaluate(rules, &view, &mut desk.changed, &mut desk.stack) {
         Ok((given, delay)) => {
-            let at = later(base.time, delay);
-            take_made(table, i, kind, at, &given, changed)
+            let at = later(t, delay);
+            take_made(table, i, plan.kind, at, &given, &desk.changed)
         }
         Err(stop) => Err(stop_of(stop)),
     }

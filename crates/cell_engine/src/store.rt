@@ -9,14 +9,14 @@ ghost use Rattle.model_tree.specs.Sound.{is_sound_group};
 ghost use Rattle.model_tree.specs.Stands.{group_of};
 ghost use Rattle.run_model.specs.CellStep.{initial_cell, cell_next, cell_emitted, cell_output};
 ghost use Rattle.cell_engine.specs.Layout.{StandsFor};
-ghost use Rattle.cell_table.specs.Told.{cell_at, Tells, bag_of_given, OnlyCell};
+ghost use Rattle.cell_table.specs.Told.{cell_at, computed_of, Tells, bag_of_given, OnlyCell};
 ghost use Rattle.cell_table.specs.Saved.{cell_of_saved};
 ghost use Rattle.cell_engine.specs.Cells.{Cells, with_cell, computed_at, Computes, CanBePut};
 
 use crate::bag::advance;
+use crate::desk::Desk;
 use crate::make::{deepest_of_sets, plan_of, table_of};
 use crate::plan::Plan;
-use crate::sight::{look, view};
 use crate::{Cell, CellState, CellStop, Steps};
 use atomic_face::PortNo;
 use cell_table::CellTable;
@@ -32,24 +32,18 @@ use std::sync::ledger::Ledger;
 pub struct CellStore {
     plan: Plan,
     table: CellTable,
-    // Room that each step uses again: who the neighbours are, what a cell sees of them, its variables after the sets, and
-    // the stack on which rules are evaluated.
-    neighbours: Vec<Option<u32>>,
-    seen: Vec<Value>,
-    changed: Vec<Value>,
-    stack: Stack,
+    desk: Desk,
 }
 
 impl Model for CellStore {
-    ghost use Rattle.std.specs.Prelude.{length, vec_capacity};
     ghost use Rattle.cell_engine.specs.Cells.{Cells};
-    ghost use Rattle.cell_engine.specs.Store.{IsReady};
+    ghost use Rattle.cell_engine.specs.Store.{IsAtDesk};
 
     ghost Value = { Cells };
 
     ghost view = { λ s. record { layout = s.plan; cells = s.table.cells } };
 
-    ghost invariant = { λ s. IsReady s.plan s.table (length s.neighbours.items) (vec_capacity s.seen) (length s.changed.items) s.stack.depth };
+    ghost invariant = { λ s. IsAtDesk s.plan s.table s.desk };
 }
 
 impl CellStore {
@@ -62,14 +56,13 @@ impl CellStore {
         let plan = plan_of(alloc, group)?;
         let table = table_of(alloc, group)?;
         let places = group.offsets.len();
-        Ok(CellStore {
+        let desk = Desk {
             neighbours: vec![in alloc; None; places]?,
-            seen: Vec::with_capacity(alloc, places * table.width())?,
+            seen: vec![in alloc; Value::Undefined; places * table.width()]?,
             changed: vec![in alloc; Value::Undefined; plan.variables]?,
             stack: Stack::for_depth(alloc, deepest_of_sets(&plan.codes))?,
-            plan,
-            table,
-        })
+        };
+        Ok(CellStore { plan, table, desk })
     }
 
     /// How many cells there are.
@@ -88,6 +81,17 @@ impl CellStore {
     {
         steps.tick();
         self.table.tell(i)
+    }
+
+    /// The value that a cell computed last at its port `out`. It takes no memory.
+    pub fn computed<L: Ledger>(&self, i: u32, steps: &mut Steps<L>) -> Value
+        requires { i < length self.now.cells }
+        ensures value { result
+            ≡ slice_index_or (computed_of (cell_at self.now.cells i)) 0 AnyValue.Undefined }
+        ensures steps { steps.new ≡ steps.old + 1 }
+    {
+        steps.tick();
+        self.table.computed(i, 0)
     }
 
     /// The next time of a cell. It takes no memory and counts no visit.
@@ -146,25 +150,16 @@ impl CellStore {
         ensures steps { steps.new ≡ steps.old + (1 + length self.old.layout.offsets) }
     {
         steps.tick();
-        steps.count(self.neighbours.len());
-        look(
-            &self.plan,
-            &self.table,
-            i,
-            &mut self.neighbours,
-            &mut self.seen,
-        );
-        let base = view(&self.plan, &self.table, i, t, &self.seen);
+        steps.count(self.desk.neighbours.len());
         advance(
             &self.plan,
-            &base,
             i,
+            t,
             woken,
             bag,
             ports,
             &mut self.table,
-            &mut self.changed,
-            &mut self.stack,
+            &mut self.desk,
         )
     }
 

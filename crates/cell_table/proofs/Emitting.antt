@@ -8,8 +8,8 @@ use Rattle.run_model.specs.CellStep.{PortState, first_time, least, next_of_ports
 use Rattle.cell_table.specs.Told.{if_given}
 use Rattle.cell_table.specs.Table.{no_port, given_by_port}
 
-one : (t k : ℕ) (p : PortState) → if_given (k, given_by_port t p) ≡ port_output t (k, p)
-one t k p = by (is_at t (first_time p.pairs))
+pub one_given : (t k : ℕ) (p : PortState) → if_given (k, given_by_port t p) ≡ port_output t (k, p)
+one_given t k p = by (is_at t (first_time p.pairs))
   where
     by : (b : Bool) → if_given (k, (if b then Some (port_emitted t p).emitted else None)) ≡ (if b then (record { 0 = k }, (port_emitted t p).emitted) ∷ [] else [])
     by true = refl
@@ -22,10 +22,10 @@ pub bag_is : (t : ℕ) (ps : List PortState) → length ps ≤ 4
     ++ (if_given (3, given_by_port t (get_or (changed_at 2 (port_emitted t) (changed_at 1 (port_emitted t) (changed_at 0 (port_emitted t) ps))) 3 no_port)) ++ [])))
     ≡ flat_map (port_output t) (enumerate_from 0 ps)
 bag_is t [] h = refl
-bag_is t (a ∷ []) h = λ i. one t 0 a i ++ []
-bag_is t (a ∷ b ∷ []) h = λ i. one t 0 a i ++ (one t 1 b i ++ [])
-bag_is t (a ∷ b ∷ c ∷ []) h = λ i. one t 0 a i ++ (one t 1 b i ++ (one t 2 c i ++ []))
-bag_is t (a ∷ b ∷ c ∷ d ∷ []) h = λ i. one t 0 a i ++ (one t 1 b i ++ (one t 2 c i ++ (one t 3 d i ++ [])))
+bag_is t (a ∷ []) h = λ i. one_given t 0 a i ++ []
+bag_is t (a ∷ b ∷ []) h = λ i. one_given t 0 a i ++ (one_given t 1 b i ++ [])
+bag_is t (a ∷ b ∷ c ∷ []) h = λ i. one_given t 0 a i ++ (one_given t 1 b i ++ (one_given t 2 c i ++ []))
+bag_is t (a ∷ b ∷ c ∷ d ∷ []) h = λ i. one_given t 0 a i ++ (one_given t 1 b i ++ (one_given t 2 c i ++ (one_given t 3 d i ++ [])))
 bag_is t (a ∷ b ∷ c ∷ d ∷ e ∷ ps) h = absurd (omega (arith, h))
 
 pub all_emitted : (f : PortState → PortState) (ps : List PortState) → length ps ≤ 4 → changed_at 3 f (changed_at 2 f (changed_at 1 f (changed_at 0 f ps))) ≡ map f ps
@@ -36,7 +36,7 @@ all_emitted f (a ∷ b ∷ c ∷ []) h = refl
 all_emitted f (a ∷ b ∷ c ∷ d ∷ []) h = refl
 all_emitted f (a ∷ b ∷ c ∷ d ∷ e ∷ ps) h = absurd (omega (arith, h))
 
-least_none : (o : Option ℕ) → least o None ≡ o
+pub least_none : (o : Option ℕ) → least o None ≡ o
 least_none None = refl
 least_none (Some n) = refl
 

@@ -7,3 +7,4 @@ pub mod Starting
 pub mod Pieced
 pub mod Waits
 pub mod Written
+pub mod Alone

@@ -16,7 +16,7 @@ use Rattle.cell_table.proofs.Changes.{changed-alike, changed-past, changed-twice
 abbrev emitted_part : PortState → Value
 emitted_part p = p.emitted
 
-changed_to_same : {A : Type 0} (i : ℕ) (f : A → A) (d : A) (xs : List A) → f (get_or xs i d) ≡ get_or xs i d → changed_at i f xs ≡ xs
+pub changed_to_same : {A : Type 0} (i : ℕ) (f : A → A) (d : A) (xs : List A) → f (get_or xs i d) ≡ get_or xs i d → changed_at i f xs ≡ xs
 changed_to_same i f d xs e = changed-set i f d xs ∙ ap (λ y. set xs i y) e ∙ set-get_or xs i d
 
 unchanged_ports : (p : ℕ) (f : PortState → PortState) (c : CellState) → changed_at p f c.ports ≡ c.ports → changed_port p f c ≡ c

@@ -1,5 +1,5 @@
 // All ports and variables of all cells, in flat lists.
-ghost use Rattle.std.specs.Prelude.{◌≡◌, [], ◌∷◌, ◌++◌, ◌+◌, ◌*◌, ◌<◌, ◌≤◌, take, drop, length, slice_index_or, None, OnOk, OnErr, IfOk, map, replicate};
+ghost use Rattle.std.specs.Prelude.{◌≡◌, ℕ, [], ◌∷◌, ◌++◌, ◌+◌, ◌*◌, ◌<◌, ◌≤◌, take, drop, length, slice_index_or, None, OnOk, OnErr, IfOk, map, replicate};
 ghost use Rattle.std.specs.List.{flat_map};
 ghost use Rattle.quantity.specs.Arithmetic.{same_value};
 ghost use Rattle.quantity.specs.declared.value.Value.{Value as AnyValue};
@@ -126,6 +126,16 @@ impl CellTable {
         }
     }
 
+    /// What all ports of all cells have emitted: port p of cell i stands at i * width + p.
+    pub fn all_emitted(&self) -> &[Value]
+        ensures long { length result.now ≡ length self.now.cells * self.now.width }
+        ensures values { (i : ℕ) (p : ℕ) → i < length self.now.cells → p < self.now.width
+            → slice_index_or result.now (i * self.now.width + p) AnyValue.Undefined
+            ≡ slice_index_or (emitted_of (cell_at self.now.cells i)) p AnyValue.Undefined }
+    {
+        &self.emitted
+    }
+
     /// What all ports of a cell have emitted, `out` first.
     pub fn emitted_at(&self, i: u32) -> &[Value]
         requires cell { i < length self.now.cells }
@@ -171,7 +181,13 @@ impl CellTable {
         ensures given { bag_of_given result ≡ cell_output t (cell_at self.old.cells i) }
         ensures cell { self.new ≡ changed_cell i (cell_emitted t) self.old }
     {
-        let _width = self.width();
+        let width = self.width();
+        if width == 1 {
+            let only = self.emit_port(i, 0, t);
+            return Given {
+                values: [only, None, None, None],
+            };
+        }
         let a = self.emit_port(i, 0, t);
         let b = self.emit_port(i, 1, t);
         let c = self.emit_port(i, 2, t);
@@ -186,7 +202,10 @@ impl CellTable {
         requires cell { i < length self.now.cells }
         ensures { result ≡ cell_next (cell_at self.now.cells i) }
     {
-        let _width = self.width();
+        let width = self.width();
+        if width == 1 {
+            return self.next(i, 0);
+        }
         let a = self.next(i, 0);
         let b = self.next(i, 1);
         let c = self.next(i, 2);
@@ -277,7 +296,10 @@ impl CellTable {
         ensures only { OnlyCell i self.old.cells self.new.cells }
         ensures shape { HasShape self.old self.new }
     {
-        let _width = self.width();
+        let width = self.width();
+        if width == 1 {
+            return self.take_given(i, 0, kind, at, given_at(given, 0));
+        }
         self.take_given(i, 0, kind, at, given_at(given, 0))?;
         self.take_given(i, 1, kind, at, given_at(given, 1))?;
         self.take_given(i, 2, kind, at, given_at(given, 2))?;
@@ -291,6 +313,10 @@ impl CellTable {
         requires count { length values.now ≡ self.old.variables }
         ensures { self.new ≡ changed_cell i (with_variables values.now) self.old }
     {
+        let _cells = self.cells();
+        if values.is_empty() {
+            return;
+        }
         let first = i as usize * self.count;
         write(&mut self.variables, first, values);
     }

@@ -1,10 +1,14 @@
-use Rattle.std.proofs.Common.{◌+◌, ◌<◌, ◌∙◌, length, drop, arith}
-use Rattle.rule_eval.specs.Seen.{sight_of}
+use Rattle.std.proofs.Common.{◌≡◌, ◌+◌, ◌<◌, ◌∙◌, length, drop, sym, subst, arith, Ok, Err}
+use Rattle.std.specs.declared.result.Result.{Result}
+use Rattle.rule_tree.specs.Meaning.{Sight}
 use Rattle.run_model.specs.CellStep.{treated, all_treated}
 use Rattle.cell_table.specs.Told.{cell_at}
 use Rattle.cell_table.proofs.Taking.{only_after}
+use Rattle.cell_engine.specs.declared.stop.CellStop.{CellStop}
+use Rattle.cell_engine.specs.Cells.{Computes}
+use Rattle.cell_engine.specs.Step.{sees}
 use Rattle.cell_engine.proofs.Computing.{one-left, one-done, one-stops}
-use Rattle.cell_engine.proofs.Takes.{shape_after}
+use Rattle.cell_engine.proofs.Looking.{sees_still}
 use Rattle.cell_engine.proofs.bag.treat_all.Goals as goal
 
 pub returns-in-Err-clause-only : goal.returns-in-Err-clause-only
@@ -13,38 +17,44 @@ returns-in-Err-clause-only c =
 
 pub returns-in-Err-clause-cell : goal.returns-in-Err-clause-cell
 returns-in-Err-clause-cell c = λ g of.
-    let s = sight_of c.args.base.now in
-    let t = c.args.base.now.time in
+    let l = c.args.plan.now in
+    let t = c.args.t in
     let i = c.args.i in
     let bag = c.args.bag.now in
     let k = c.loop-input.input-index in
     let x = c.input-item.result in
-    let old = c.args.table.now.cells in
-    let mid = c.loop-input.table.cells in
+    let old = c.args.table.now in
+    let mid = c.loop-input.table in
     let new = c.treat_one.new.table.cells in
-    let all = all_treated g i t s bag (cell_at old i) in
-    one-stops (Unit {0}) (Unit {0}) i mid new old new all (treated g i t s x (cell_at mid i)) (all_treated g i t s (drop (k + 1) bag)) c.in-Err.why
-    (one-left g i t s bag k x (cell_at mid i) all c.loop-input-test.true c.input-item.is (c.loop-input.invariant.left g of)) (c.in-Err.ensures.cell g of)
+    let inv = c.loop-input.invariant in
+    let s = sees l t old i in
+    let still : sees l t mid i ≡ s = sees_still l t old mid i i inv.only (inv.ready.width ∙ sym c.requires.ready.width) in
+    let all = all_treated g i t s bag (cell_at old.cells i) in
+    one-stops (Unit {0}) (Unit {0}) i mid.cells new old.cells new all (treated g i t s x (cell_at mid.cells i)) (all_treated g i t s (drop (k + 1) bag)) c.in-Err.why
+    (one-left g i t s bag k x (cell_at mid.cells i) all c.loop-input-test.true c.input-item.is (inv.left g of))
+    (subst (λ (y : Sight). let r : Result (Unit {0}) CellStop = Err c.in-Err.why in Computes i mid.cells new (treated g i t y x (cell_at mid.cells i)) r) still (c.in-Err.ensures.cell g of))
 
 pub loop-input-preserved : goal.loop-input-preserved
 loop-input-preserved c =
-    let s = sight_of c.args.base.now in
-    let t = c.args.base.now.time in
+    let l = c.args.plan.now in
+    let t = c.args.t in
     let i = c.args.i in
     let bag = c.args.bag.now in
     let k = c.loop-input.input-index in
     let x = c.input-item.result in
-    let old = c.args.table.now.cells in
-    let mid = c.loop-input.table.cells in
+    let old = c.args.table.now in
+    let mid = c.loop-input.table in
     let new = c.treat_one.new.table.cells in
     let inv = c.loop-input.invariant in
-    let here : i < length mid = omega (arith, c.requires.cell, inv.shape.cells) in
+    let s = sees l t old i in
+    let still : sees l t mid i ≡ s = sees_still l t old mid i i inv.only (inv.ready.width ∙ sym c.requires.ready.width) in
+    let here : i < length mid.cells = omega (arith, c.requires.cell, inv.ready.cells, c.requires.ready.cells) in
     record {
-      only = only_after i old mid new c.requires.cell inv.only c.treat_one.ensures.only;
-      shape = shape_after c.args.table.now c.loop-input.table c.treat_one.new.table inv.shape c.treat_one.ensures.shape;
-      stack = c.treat_one.ensures.stack ∙ inv.stack;
+      only = only_after i old.cells mid.cells new c.requires.cell inv.only c.treat_one.ensures.only;
+      ready = c.treat_one.ensures.ready;
       left = λ g of.
-          let all = all_treated g i t s bag (cell_at old i) in
-          one-done (Unit {0}) i mid new all (treated g i t s x (cell_at mid i)) (all_treated g i t s (drop (k + 1) bag)) c.in-Ok.field-0 here
-          (one-left g i t s bag k x (cell_at mid i) all c.loop-input-test.true c.input-item.is (inv.left g of)) (c.in-Ok.ensures.cell g of);
+          let all = all_treated g i t s bag (cell_at old.cells i) in
+          one-done (Unit {0}) i mid.cells new all (treated g i t s x (cell_at mid.cells i)) (all_treated g i t s (drop (k + 1) bag)) c.in-Ok.field-0 here
+          (one-left g i t s bag k x (cell_at mid.cells i) all c.loop-input-test.true c.input-item.is (inv.left g of))
+          (subst (λ (y : Sight). let r : Result (Unit {0}) CellStop = Ok c.in-Ok.field-0 in Computes i mid.cells new (treated g i t y x (cell_at mid.cells i)) r) still (c.in-Ok.ensures.cell g of));
     }

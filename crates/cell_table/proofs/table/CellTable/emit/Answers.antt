@@ -1,7 +1,8 @@
-use Rattle.std.proofs.Common.{◌≤◌, ◌∙◌, ◌++◌, ℕ, [], length, get_or, ap, arith}
+use Rattle.std.proofs.Common.{◌≤◌, ◌∙◌, ◌++◌, ℕ, [], length, get_or, ap, sym, arith}
 use Rattle.run_model.specs.CellStep.{CellState, port_emitted, cell_emitted}
 use Rattle.cell_table.specs.Told.{no_cell, cell_at, if_given}
 use Rattle.cell_table.specs.Table.{changed_port, given_by_port, no_port}
+use Rattle.cell_table.proofs.Alone.{emitted_alone}
 use Rattle.cell_table.proofs.Emitting.{bag_is, all_emitted}
 use Rattle.cell_table.proofs.Taking.{four_changes, here_after, cell_after}
 use Rattle.cell_table.proofs.table.CellTable.emit.Goals as goal
@@ -19,6 +20,10 @@ emit_port-d-requires c =
     let b = here_after c.args.i _ c.args.self.now c.emit_port-a.new.self c.emit_port-a.ensures.port c.requires.cell in
     let d = here_after c.args.i _ c.emit_port-a.new.self c.emit_port-b.new.self c.emit_port-b.ensures.port b in
     record { cell = here_after c.args.i _ c.emit_port-b.new.self c.emit_port-c.new.self c.emit_port-c.ensures.port d }
+
+pub returns-then-width-eq1-clause-cell : goal.returns-then-width-eq1-clause-cell
+returns-then-width-eq1-clause-cell c =
+    emitted_alone c.args.i c.args.self.now c.width-width.ensures.table c.requires.cell (sym c.width-width.ensures.value ∙ c.if-width-eq1.true) c.args.t c.emit_port-only.new.self c.emit_port-only.ensures.port
 
 pub returns-clause-cell : goal.returns-clause-cell
 returns-clause-cell c =
