@@ -41,7 +41,8 @@ pub(crate) fn see_line(text: &[u8], before: Time, grid: &Grid, group: &Name) -> 
 
 /// The same of a line that was read.
 fn see(line: &LogLine<'_>, before: Time, grid: &Grid, group: &Name) -> Option<SeenLine>
-    ensures value { option_map seen_as result ≡ seen_line grid.now group.now (frames.not_before before (Some (line_of line.now))) }
+    ensures value { let read = frames.not_before before (Some (line_of line.now)) in
+        option_map seen_as result ≡ seen_line grid.now group.now read }
     ensures inside { IfSome result (λ line. IfSome line.given (λ g. g.cell < cell_count grid.now)) }
 {
     let time = time_of(line);
@@ -66,7 +67,8 @@ fn time_of(line: &LogLine<'_>) -> Time
 
 /// What a cell of the group gave in a line, if one did; None where the line is refused.
 fn given_in(line: &LogLine<'_>, grid: &Grid, group: &Name) -> Option<Option<CellValue>>
-    ensures value { option_map (listed (frames.line_time (line_of line.now))) result ≡ frames.shown_of grid.now group.now (line_of line.now) }
+    ensures value { let line = line_of line.now in
+        option_map (listed (frames.line_time line)) result ≡ frames.shown_of grid.now group.now line }
     ensures inside { IfSome result (λ given. IfSome given (λ g. g.cell < cell_count grid.now)) }
 {
     match line {
@@ -82,7 +84,8 @@ fn given_by(
     grid: &Grid,
     group: &Name,
 ) -> Option<Option<CellValue>>
-    ensures value { (time : ℕ) → option_map (listed time) result ≡ shows grid.now group.now time (name_of leaf.now) value }
+    ensures value { (time : ℕ) → let shown = shows grid.now group.now time (name_of leaf.now) value in
+        option_map (listed time) result ≡ shown }
     ensures inside { IfSome result (λ given. IfSome given (λ g. g.cell < cell_count grid.now)) }
 {
     if leaf.name != group.as_bytes() {

@@ -2,3 +2,4 @@ pub mod Drawing
 pub mod Pictures
 pub mod Instants
 pub mod Turns
+pub mod Knowing

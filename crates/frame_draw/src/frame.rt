@@ -54,13 +54,15 @@ fn put_dashes(count: usize, into: &mut Vec<u8>) -> Result<(), OutOfMemory>
     ensures ok { OnOk result (into.new.items ≡ into.old.items ++ replicate count 45) }
     ensures kept { take (length into.old.items) into.new.items ≡ into.old.items }
 {
-    for _dash in 0..count {
-        put(b"-", into)?;
-    }
+    let Some(end) = into.len().checked_add(count) else {
+        return Err(OutOfMemory);
+    };
+    into.resize(end, b'-')?;
     Ok(())
 }
 
 /// Appends a text.
+#[inline(always)]
 pub(crate) fn put(text: &[u8], into: &mut Vec<u8>) -> Result<(), OutOfMemory>
     ensures ok { OnOk result (into.new.items ≡ into.old.items ++ text.now) }
     ensures kept { take (length into.old.items) into.new.items ≡ into.old.items }

@@ -3,6 +3,8 @@
 
 mod frame;
 pub mod frames;
+mod kept;
+mod known;
 pub mod laws;
 mod plane;
 mod rows;

@@ -3,9 +3,11 @@ ghost use Rattle.std.specs.Prelude.{◌≡◌, ◌<◌, ◌++◌, length, take, 
 ghost use Rattle.cell_grid.specs.Space.{cell_count, number_of};
 ghost use Rattle.text_forms.specs.Frames.{row_text};
 ghost use Rattle.frame_draw.specs.Drawing.{value_of};
+ghost use Rattle.frame_draw.specs.Knowing.{AreKnown};
 ghost use Rattle.frame_draw.specs.Pictures.{cell_text, cells_text, picture_of, rows_text, IsPicture};
 
 use crate::frame::put;
+use crate::known::KnownTexts;
 use crate::plane::Plane;
 use quantity::{OutOfMemory, Place, Value};
 
@@ -20,21 +22,30 @@ pub(crate) fn put_rows(
         into.old.items ++ rows_text plane.now values.now plane.now.grid.rows) }
     ensures kept { take (length into.old.items) into.new.items ≡ into.old.items }
 {
+    let mut texts = KnownTexts::new();
     for row in 0..plane.grid.rows() {
-        put_row(plane, values, row, into)?;
+        put_row(plane, values, row, &mut texts, into)?;
     }
     Ok(())
 }
 
-fn put_row(plane: &Plane, values: &[Value], row: u32, into: &mut Vec<u8>) -> Result<(), OutOfMemory>
+fn put_row(
+    plane: &Plane,
+    values: &[Value],
+    row: u32,
+    texts: &mut KnownTexts,
+    into: &mut Vec<u8>,
+) -> Result<(), OutOfMemory>
     requires picture { IsPicture plane.now values.now }
     requires row { row < plane.now.grid.rows }
+    requires known { AreKnown plane.now.decimals plane.now.width texts.old }
+    ensures known { AreKnown plane.now.decimals plane.now.width texts.new }
     ensures ok { OnOk result (into.new.items ≡
         into.old.items ++ row_text (picture_of plane.now) (value_of values.now) row) }
     ensures kept { take (length into.old.items) into.new.items ≡ into.old.items }
 {
     put(b"|", into)?;
-    put_cells(plane, values, row, into)?;
+    put_cells(plane, values, row, texts, into)?;
     put(b"|\n", into)?;
     Ok(())
 }
@@ -44,16 +55,19 @@ fn put_cells(
     plane: &Plane,
     values: &[Value],
     row: u32,
+    texts: &mut KnownTexts,
     into: &mut Vec<u8>,
 ) -> Result<(), OutOfMemory>
     requires picture { IsPicture plane.now values.now }
     requires row { row < plane.now.grid.rows }
+    requires known { AreKnown plane.now.decimals plane.now.width texts.old }
+    ensures known { AreKnown plane.now.decimals plane.now.width texts.new }
     ensures ok { OnOk result (into.new.items ≡
         into.old.items ++ cells_text plane.now values.now row plane.now.grid.columns) }
     ensures kept { take (length into.old.items) into.new.items ≡ into.old.items }
 {
     for column in 0..plane.grid.columns() {
-        put_cell(plane, values, row, column, into)?;
+        put_cell(plane, values, row, column, texts, into)?;
     }
     Ok(())
 }
@@ -63,21 +77,25 @@ fn put_cell(
     values: &[Value],
     row: u32,
     column: u32,
+    texts: &mut KnownTexts,
     into: &mut Vec<u8>,
 ) -> Result<(), OutOfMemory>
     requires picture { IsPicture plane.now values.now }
     requires row { row < plane.now.grid.rows }
     requires column { column < plane.now.grid.columns }
+    requires known { AreKnown plane.now.decimals plane.now.width texts.old }
+    ensures known { AreKnown plane.now.decimals plane.now.width texts.new }
     ensures ok { OnOk result (into.new.items ≡
         into.old.items ++ cell_text plane.now values.now row column) }
     ensures kept { take (length into.old.items) into.new.items ≡ into.old.items }
 {
     let cell = cell_number(plane, values, row, column);
-    values[cell as usize].text(plane.decimals, plane.width, into)?;
+    texts.put_value(&values[cell as usize], plane, into)?;
     Ok(())
 }
 
 /// The number of the cell of the plane that stands there.
+#[inline(always)]
 fn cell_number(plane: &Plane, values: &[Value], row: u32, column: u32) -> u32
     requires picture { IsPicture plane.now values.now }
     requires row { row < plane.now.grid.rows }

@@ -1,7 +1,6 @@
 -- Texts of leaves that are appended one after another.
-use Rattle.std.proofs.Common.{◌≡◌, ℕ, ◌+◌, ◌<◌, ◌≤◌, Option, Some, None, List, [], ◌∷◌, ◌++◌, refl, sym, ap, ◌∙◌, subst, append_assoc, append-nil, arith, length, take, zero, suc, codes, get_or, slice_get}
-use Rattle.std.specs.List.{All, flat_map, join_with_byte}
-use Rattle.std.specs.Prelude.{ℤ}
+use Rattle.std.proofs.Common.{◌≡◌, ℕ, ◌+◌, ◌<◌, ◌≤◌, Option, Some, List, [], ◌∷◌, ◌++◌, refl, sym, ap, ◌∙◌, append_assoc, append-nil, arith, length, take, zero, suc, codes, get_or, slice_get}
+use Rattle.std.specs.List.{flat_map, join_with_byte}
 use Rattle.std.proofs.Math.Seq.{take-append_seam}
 use Rattle.std.proofs.lemmas.List.{length-take, take-take, take_more, flat_map_more}
 use Rattle.quantity.specs.declared.value.Value.{Value}
@@ -9,7 +8,7 @@ use Rattle.quantity.specs.Bytes.{Bytes}
 use Rattle.quantity.specs.Times.{time_text}
 use Rattle.quantity.specs.ValueTexts.{text5}
 use Rattle.model_tree.specs.declared.table.Model.{Model}
-use Rattle.model_tree.specs.Tree.{Word, Leaf, atomic_leaf, cell_leaf, leaves, leaf_count}
+use Rattle.model_tree.specs.Tree.{Leaf, atomic_leaf, cell_leaf, leaves}
 use Rattle.model_tree.specs.LeafTexts.{leaf_text}
 use Rattle.model_tree.specs.Models.{tree_of}
 use Rattle.model_tree.specs.Leaves.{Settings, IsLeafOf, Appends, no_settings}
@@ -18,6 +17,7 @@ use Rattle.text_forms.specs.LogLine as log
 use Rattle.text_forms.specs.LogLine.{given, moved, state_text, next_text, with_strokes}
 use Rattle.text_forms.specs.Lines.{ended, leaf_name}
 use Rattle.record_text.specs.RecordTexts.{head_text, text_at}
+use Rattle.record_text.specs.Begun.{begun}
 
 -- ---- a leaf of the model, whatever the settings
 
@@ -26,7 +26,7 @@ at [] k h = absurd (omega arith)
 at (l ∷ ls) zero h = (l, refl)
 at (l ∷ ls) (suc k) h = at ls k (omega arith)
 
-leaf_of : (m : Model) (leaf : ℕ) (settings : Settings) → IsLeafOf m leaf → (l : Leaf) × (slice_get (leaves (tree_of m settings)) leaf ≡ Some l)
+pub leaf_of : (m : Model) (leaf : ℕ) (settings : Settings) → IsLeafOf m leaf → (l : Leaf) × (slice_get (leaves (tree_of m settings)) leaf ≡ Some l)
 leaf_of m leaf settings h =
     at (leaves (tree_of m settings)) leaf (omega (arith, h, rows-length m no_settings, rows-length m settings, leaves-length (tree_of m settings) 0))
 
@@ -53,15 +53,21 @@ append_keeps a b more h = ap (take (length a)) h ∙ take-append_seam a more
 
 -- ---- the pieces of a line
 
-head_joined : (old a b c d e : Bytes) → ((((old ++ a) ++ b) ++ c) ++ d) ++ e ≡ old ++ (a ++ b ++ c ++ d ++ e)
-head_joined old a b c d e = simp append_assoc
+begun_joined : (old a b c : Bytes) → ((old ++ a) ++ b) ++ c ≡ old ++ (a ++ b ++ c)
+begun_joined old a b c = simp append_assoc
 
-pub head_made : (old : Bytes) (letter t : ℕ) (l : Leaf) (new1 new2 new3 new4 new5 : Bytes) → new1 ≡ old ++ letter ∷ codes " / " → new2 ≡ new1 ++ time_text t → new3 ≡ new2 ++ codes " / " → new4 ≡ new3 ++ leaf_text l → new5 ≡ new4 ++ codes " / " → new5 ≡ old ++ head_text letter t l
-head_made old letter t l new1 new2 new3 new4 new5 a b c d e =
-    e ∙ ap (λ x. x ++ codes " / ") (d ∙ ap (λ x. x ++ leaf_text l) (c ∙ ap (λ x. x ++ codes " / ") (b ∙ ap (λ x. x ++ time_text t) a)))
-    ∙ head_joined old (letter ∷ codes " / ") (time_text t) (codes " / ") (leaf_text l) (codes " / ")
+pub begun_made : (old : Bytes) (letter t : ℕ) (new1 new2 new3 : Bytes) → new1 ≡ old ++ letter ∷ codes " / " → new2 ≡ new1 ++ time_text t → new3 ≡ new2 ++ codes " / " → new3 ≡ old ++ begun letter t
+begun_made old letter t new1 new2 new3 a b c =
+    c ∙ ap (λ x. x ++ codes " / ") (b ∙ ap (λ x. x ++ time_text t) a) ∙ begun_joined old (letter ∷ codes " / ") (time_text t) (codes " / ")
 
-given_parts : (old : Bytes) (letter : ℕ) (t l p v : Bytes) → ((old ++ ((letter ∷ codes " / ") ++ t ++ codes " / " ++ l ++ codes " / ")) ++ p) ++ (codes " / " ++ v ++ codes "\n") ≡ old ++ ended (join_with_byte 32 (with_strokes ((letter ∷ []) ∷ t ∷ l ∷ p ∷ v ∷ [])))
+head_joined : (old a t s l : Bytes) → ((old ++ (a ++ t ++ s)) ++ l) ++ codes " / " ≡ old ++ (a ++ t ++ s ++ l ++ codes " / ")
+head_joined old a t s l = simp append_assoc
+
+pub head_made : (old : Bytes) (letter t : ℕ) (l : Leaf) (new1 new2 new3 : Bytes) → new1 ≡ old ++ begun letter t → new2 ≡ new1 ++ leaf_text l → new3 ≡ new2 ++ codes " / " → new3 ≡ old ++ head_text letter t l
+head_made old letter t l new1 new2 new3 a b c =
+    c ∙ ap (λ x. x ++ codes " / ") (b ∙ ap (λ x. x ++ leaf_text l) a) ∙ head_joined old (letter ∷ codes " / ") (time_text t) (codes " / ") (leaf_text l)
+
+given_parts : (old : Bytes) (letter : ℕ) (t l p v : Bytes) → ((old ++ ((letter ∷ codes " / ") ++ t ++ codes " / " ++ l ++ codes " / ")) ++ (p ++ codes " / ")) ++ (v ++ codes "\n") ≡ old ++ ended (join_with_byte 32 (with_strokes ((letter ∷ []) ∷ t ∷ l ∷ p ∷ v ∷ [])))
 given_parts old letter t l p v = simp append_assoc
 
 moved_parts : (old t l s n : Bytes) → ((((old ++ ((83 ∷ codes " / ") ++ t ++ codes " / " ++ l ++ codes " / ")) ++ s) ++ codes " / ") ++ n) ++ codes "\n" ≡ old ++ ended (join_with_byte 32 (with_strokes (codes "S" ∷ t ∷ l ∷ s ∷ n ∷ [])))
@@ -74,9 +80,9 @@ same_name : (l : Leaf) → log.leaf_text (leaf_name l) ≡ leaf_text l
 same_name (atomic_leaf name class settings) = append-nil name
 same_name (cell_leaf g first cell) = refl
 
-pub given_joined : (old : Bytes) (letter t : ℕ) (l : Leaf) (port : Bytes) (v : Value) (new1 new2 new3 : Bytes) → new1 ≡ old ++ head_text letter t l → new2 ≡ new1 ++ port → new3 ≡ new2 ++ (codes " / " ++ text5 v ++ codes "\n") → new3 ≡ old ++ ended (log.line_text (given letter t (leaf_name l) port v))
+pub given_joined : (old : Bytes) (letter t : ℕ) (l : Leaf) (port : Bytes) (v : Value) (new1 new2 new3 : Bytes) → new1 ≡ old ++ head_text letter t l → new2 ≡ new1 ++ (port ++ codes " / ") → new3 ≡ new2 ++ (text5 v ++ codes "\n") → new3 ≡ old ++ ended (log.line_text (given letter t (leaf_name l) port v))
 given_joined old letter t l port v new1 new2 new3 a b c =
-    c ∙ ap (λ x. x ++ (codes " / " ++ text5 v ++ codes "\n")) (b ∙ ap (λ x. x ++ port) a) ∙ given_parts old letter (time_text t) (leaf_text l) port (text5 v)
+    c ∙ ap (λ x. x ++ (text5 v ++ codes "\n")) (b ∙ ap (λ x. x ++ (port ++ codes " / ")) a) ∙ given_parts old letter (time_text t) (leaf_text l) port (text5 v)
     ∙ ap (λ x. old ++ ended (join_with_byte 32 (with_strokes ((letter ∷ []) ∷ time_text t ∷ x ∷ port ∷ text5 v ∷ [])))) (sym (same_name l))
 
 pub moved_joined : (old : Bytes) (t : ℕ) (l : Leaf) (state : Option Value) (next : Option ℕ) (new1 new2 new3 new4 new5 : Bytes) → new1 ≡ old ++ head_text 83 t l → new2 ≡ new1 ++ state_text state → new3 ≡ new2 ++ codes " / " → new4 ≡ new3 ++ next_text next → new5 ≡ new4 ++ codes "\n" → new5 ≡ old ++ ended (log.line_text (moved t (leaf_name l) state next))

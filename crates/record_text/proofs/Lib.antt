@@ -4,3 +4,5 @@ pub mod StrictLemmas
 pub mod StrictLeaves
 pub mod StrictLines
 pub mod NamedLeaves
+pub mod Starts
+pub mod UsualForms

@@ -1,25 +1,23 @@
 -- The records of a cycle name leaves and ports of the model.
-use Rattle.std.proofs.Common.{◌≡◌, ℕ, zero, suc, ◌+◌, ◌<◌, ◌≤◌, Option, Some, None, List, [], ◌∷◌, refl, sym, ap, ◌∙◌, subst, arith, length, map, slice_get, get_or}
+use Rattle.std.proofs.Common.{◌≡◌, ℕ, zero, suc, ◌<◌, Option, Some, None, List, [], ◌∷◌, refl, sym, ◌∙◌, subst, arith, length, slice_get, get_or}
 use Rattle.std.specs.List.{All}
 use Rattle.std.specs.Option.{IsSomeAnd}
 use Rattle.std.proofs.lemmas.Option.{slice_get_within}
 use Rattle.std.proofs.lemmas.List.Elements.{All-map}
-use Rattle.quantity.specs.declared.value.Value.{Value}
 use Rattle.model_tree.specs.declared.table.Model.{Model}
 use Rattle.model_tree.specs.declared.table.Row.{Row}
-use Rattle.model_tree.specs.Tree.{Word, Leaf, atomic_leaf, cell_leaf, leaves, leaf_count, groups}
+use Rattle.model_tree.specs.Tree.{Word, Leaf, atomic_leaf, cell_leaf, leaves, groups}
 use Rattle.model_tree.specs.Models.{tree_of}
 use Rattle.model_tree.specs.LeafTexts.{in_ports, out_ports}
-use Rattle.model_tree.specs.Leaves.{Settings, IsLeafOf, AtLeaf, no_settings}
+use Rattle.model_tree.specs.Leaves.{Settings, IsLeafOf, no_settings}
 use Rattle.model_tree.proofs.Read.{rows-length, leaves-length, row-parts, told-ins, told-outs}
-use Rattle.run_model.specs.Run.{Cycle, PortRecord, StateRecord}
-use Rattle.run_model.specs.Fitting.{NamesItsParts, OfLeaf, IsFurtherPort, IsInPort, IsStateValue}
+use Rattle.run_model.specs.Run.{PortRecord, StateRecord}
+use Rattle.run_model.specs.Fitting.{OfLeaf, IsFurtherPort, IsInPort, IsStateValue}
 use Rattle.record_text.specs.declared.records.YRecord.{YRecord}
 use Rattle.record_text.specs.declared.records.XRecord.{XRecord}
 use Rattle.record_text.specs.declared.records.SRecord.{SRecord}
-use Rattle.record_text.specs.declared.records.Records.{Records}
-use Rattle.record_text.specs.Held.{Holds, y_at, x_at, s_at}
-use Rattle.record_text.specs.Named.{HasPort, NamesLeaves}
+use Rattle.record_text.specs.Held.{y_at, x_at, s_at}
+use Rattle.record_text.specs.Named.{HasPort}
 use Rattle.record_text.specs.CycleNames.{HasPortValues, CyclesNameLeaves}
 
 some_and : {A : Type 0} (o : Option A) (P : A → Type 0) → IsSomeAnd o P → (x : A) × (o ≡ Some x) × P x

@@ -1,5 +1,5 @@
 -- A leaf's name that is read from left to right is the name that the text is.
-use Rattle.std.proofs.Common.{◌≡◌, ℕ, suc, ◌+◌, ◌<◌, ◌⊎◌, inl, inr, ◌==◌, ◌&&◌, ◌||◌, Bool, true, false, cond, Option, Some, None, List, [], ◌∷◌, ◌++◌, refl, sym, ap, ◌∙◌, subst, arith, length, map, codes, decimal, nat_le, append-nil}
+use Rattle.std.proofs.Common.{◌≡◌, ℕ, suc, ◌+◌, ◌<◌, ◌⊎◌, inl, inr, ◌==◌, ◌&&◌, ◌||◌, Bool, true, false, cond, Option, Some, None, List, [], ◌∷◌, ◌++◌, refl, sym, ap, ◌∙◌, subst, arith, length, map, decimal, nat_le, append-nil}
 use Rattle.std.proofs.lemmas.Bool.Decides.{nat_tests}
 use Rattle.std.proofs.lemmas.List.{length-append}
 use Rattle.std.specs.List.{before_first, after_first, list_all, join_with_byte}
@@ -13,7 +13,7 @@ use Rattle.quantity.proofs.Written.{has_no, and_true, itself}
 use Rattle.text_forms.specs.LogLine.{LeafName, at_text, leaf_text, is_leaf}
 use Rattle.text_forms.proofs.WrittenLines.{join_no, name_no}
 use Rattle.record_text.specs.Strict.{coordinate, with_plane, place_in, before_end, with_place, named_leaf, read_leaf}
-use Rattle.record_text.proofs.StrictLemmas.{IsCut, IsWhole, cut, some_from, same_some, if_some, before_joined, after_joined, before_alone, after_alone, coordinate_is, coordinate_read, decimal_no, no_empty}
+use Rattle.record_text.proofs.StrictLemmas.{IsCut, IsWhole, cut, some_from, same_some, if_some, before_joined, after_joined, before_alone, coordinate_is, coordinate_read, decimal_no, no_empty}
 
 map_from : {A B : Type 0} (o : Option A) (f : A → B) (y : B) → option_map f o ≡ Some y → (x : A) × (o ≡ Some x) × (f x ≡ y)
 map_from None f y h = absurd cc

@@ -1,32 +1,22 @@
 -- A log line that is read from left to right is the line that the text is.
-use Rattle.std.proofs.Common.{◌≡◌, ℕ, zero, suc, ◌+◌, ◌^◌, ◌<◌, ◌≤◌, ◌==◌, ◌&&◌, ◌||◌, not, Bool, true, false, cond, Option, Some, None, ◌⊎◌, inl, inr, List, [], ◌∷◌, ◌++◌, refl, sym, ap, ◌∙◌, subst, arith, length, map, take, drop, get_or, codes, decimal, nat_lt, nat_le, lit<, lit≤, append-nil}
+use Rattle.std.proofs.Common.{◌≡◌, ℕ, zero, suc, ◌+◌, ◌<◌, ◌≤◌, ◌==◌, ◌&&◌, not, Bool, true, false, cond, Option, Some, None, ◌⊎◌, inl, inr, [], ◌∷◌, ◌++◌, refl, sym, ap, ◌∙◌, arith, length, take, drop, get_or, decimal, nat_le, lit<}
 use Rattle.std.proofs.Math.Seq.{take-append_seam, drop-append-add, take-length}
 use Rattle.std.proofs.Math.ListN.{drop_of_length-le}
 use Rattle.std.proofs.lemmas.Bool.{cases_lt}
 use Rattle.std.proofs.lemmas.Bool.Decides.{nat_tests}
 use Rattle.std.proofs.lemmas.List.{length-append}
 use Rattle.std.proofs.lemmas.List.Sums.{split_at_first, passes_at_first}
-use Rattle.std.proofs.lemmas.List.Folds.{list_all-append}
-use Rattle.std.proofs.lemmas.Slice.Eq.{bytes_eq-Decides}
 use Rattle.std.proofs.lemmas.Fmt.{length-decimal-le_wide}
 use Rattle.std.specs.Bool.{then_some}
-use Rattle.std.specs.List.{before_first, after_first, position_or_len, list_all, join_with_byte}
-use Rattle.std.specs.Option.{option_map, option_and_then}
-use Rattle.std.specs.Str.{bytes_eq}
-use Rattle.quantity.specs.declared.value.Value.{Value}
-use Rattle.quantity.specs.declared.value.Value.TheVariants.{Undefined, Num}
-use Rattle.quantity.specs.Arithmetic.{IsBounded}
+use Rattle.std.specs.List.{before_first, after_first, position_or_len, list_all}
+use Rattle.std.specs.Option.{option_and_then}
 use Rattle.quantity.specs.Bytes.{Bytes, is_byte}
-use Rattle.quantity.specs.Digits.{are_digits, number_in, whole_number}
-use Rattle.quantity.specs.Names.{is_name, is_of_name}
-use Rattle.quantity.specs.Times.{time_text, read_time}
-use Rattle.quantity.specs.ValueTexts.{text5, read_text5}
-use Rattle.quantity.specs.Written.{for_some, if_written, is_digit, number_at_most}
+use Rattle.quantity.specs.Digits.{number_in, whole_number}
+use Rattle.quantity.specs.Written.{for_some, is_digit, number_at_most}
 use Rattle.quantity.proofs.DigitLemmas.{both, all_ascii_digits-list_all}
 use Rattle.quantity.proofs.NothingElse.{kept}
 use Rattle.quantity.proofs.Written.{has_no, and_true, itself, decimal_is, no_digit, written}
-use Rattle.text_forms.specs.LogLine.{LeafName, at_text}
-use Rattle.record_text.specs.Strict.{behind_stroke, first_word, next_part, Parts, cut_parts, coordinate, with_plane, place_in, before_end, with_place, named_leaf, read_leaf}
+use Rattle.record_text.specs.Strict.{behind_stroke, first_word, next_part, Parts, cut_parts, coordinate}
 
 -- ---- what is inside an option
 

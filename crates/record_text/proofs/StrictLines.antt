@@ -1,5 +1,5 @@
 -- A line that is read from left to right is the line that the text is.
-use Rattle.std.proofs.Common.{◌≡◌, ℕ, ◌^◌, ◌≤◌, ◌==◌, ◌&&◌, ◌||◌, not, Bool, true, false, cond, Option, Some, None, List, [], ◌∷◌, ◌++◌, refl, sym, ap, ◌∙◌, subst, arith, codes, nat_le, IsTrue, unsigned_abs, lit≤}
+use Rattle.std.proofs.Common.{◌≡◌, ℕ, ◌^◌, ◌≤◌, ◌==◌, ◌&&◌, Bool, true, false, cond, Option, Some, None, [], ◌∷◌, refl, sym, ap, ◌∙◌, subst, arith, codes, unsigned_abs}
 use Rattle.std.proofs.lemmas.Bool.Decides.{nat_tests}
 use Rattle.std.proofs.lemmas.Slice.Eq.{bytes_eq-Decides}
 use Rattle.std.specs.List.{list_all}
@@ -9,18 +9,18 @@ use Rattle.quantity.specs.declared.value.Value.{Value}
 use Rattle.quantity.specs.declared.value.Value.TheVariants.{Undefined, Num}
 use Rattle.quantity.specs.Arithmetic.{IsBounded}
 use Rattle.quantity.specs.Bytes.{Bytes}
-use Rattle.quantity.specs.Names.{is_name, is_of_name}
+use Rattle.quantity.specs.Names.{is_name}
 use Rattle.quantity.specs.Times.{time_text, read_time}
 use Rattle.quantity.specs.ValueTexts.{text5, read_text5}
 use Rattle.quantity.specs.Written.{for_some}
 use Rattle.quantity.proofs.DigitLemmas.{both}
 use Rattle.quantity.proofs.NothingElse as quantities
 use Rattle.quantity.proofs.Written.{has_no, and_true, time_read, value_read}
-use Rattle.text_forms.specs.LogLine.{LeafName, LogLine, given, moved, line_text, read_line, leaf_text, is_line, is_leaf, is_value, is_time, is_letter, is_state, is_next, has_place, state_text, next_text, parts_of}
+use Rattle.text_forms.specs.LogLine.{LeafName, LogLine, given, moved, line_text, read_line, leaf_text, is_line, is_leaf, is_value, is_time, is_letter, is_state, is_next, has_place, state_text, next_text}
 use Rattle.text_forms.proofs.NothingElse as forms
 use Rattle.text_forms.proofs.WrittenLines.{blank, given_fits, given_no, moved_fits, moved_no, line_read}
 use Rattle.record_text.specs.Strict.{Parts, cut_parts, read_leaf, read_state, read_next, given_line, moved_line, line_by, strict_line, given_as, agrees}
-use Rattle.record_text.proofs.StrictLemmas.{some_from, same_some, if_some, if_then, parts_made, parts_cut, joined_parts, stroke, AreWords}
+use Rattle.record_text.proofs.StrictLemmas.{some_from, same_some, if_some, if_then, parts_made, parts_cut, joined_parts, stroke}
 use Rattle.record_text.proofs.StrictLeaves.{leaf_is, leaf_read}
 
 eq_bytes : (xs ys : Bytes) → bytes_eq xs ys ≡ true → xs ≡ ys

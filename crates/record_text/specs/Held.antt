@@ -1,5 +1,5 @@
 -- Records as the program holds them: each with the time of its cycle.
-use Rattle.std.specs.Prelude.{◌≡◌, ℕ, List, [], map}
+use Rattle.std.specs.Prelude.{◌≡◌, ℕ, [], map}
 use Rattle.run_model.specs.Run.{PortRecord, StateRecord, OutRecord, Cycle}
 use Rattle.record_text.specs.declared.records.YRecord.{YRecord}
 use Rattle.record_text.specs.declared.records.XRecord.{XRecord}

@@ -7,3 +7,4 @@ pub mod LineRead
 pub mod PartsRead
 pub mod Strict
 pub mod CycleNames
+pub mod Begun

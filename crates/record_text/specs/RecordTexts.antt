@@ -3,7 +3,6 @@ use Rattle.std.specs.Prelude.{ℕ, Bool, Option, Some, None, List, [], ◌∷◌
 use Rattle.std.specs.List.{flat_map}
 use Rattle.quantity.specs.Bytes.{Bytes}
 use Rattle.quantity.specs.Times.{time_text}
-use Rattle.quantity.specs.declared.value.Value.{Value}
 use Rattle.model_tree.specs.Tree.{Word, Leaf}
 use Rattle.model_tree.specs.LeafTexts.{leaf_text}
 use Rattle.text_forms.specs.LogLine.{given, moved, line_text}

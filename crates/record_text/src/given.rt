@@ -1,16 +1,18 @@
 // The lines of values that leaves gave and that reached leaves. A refusal may leave more behind what was there.
-ghost use Rattle.std.specs.Prelude.{◌≡◌, ◌++◌, length, take, OnOk};
+ghost use Rattle.std.specs.Prelude.{◌≡◌, ◌++◌, codes, length, take, OnOk};
 ghost use Rattle.std.specs.List.{All};
 ghost use Rattle.model_tree.specs.Tree.{leaves};
 ghost use Rattle.model_tree.specs.LeafTexts.{in_ports, name_at, out_ports};
 ghost use Rattle.model_tree.specs.Leaves.{Appends, OfTree};
 ghost use Rattle.record_text.specs.declared.records.YRecord as y;
 ghost use Rattle.record_text.specs.declared.records.XRecord as x;
+ghost use Rattle.record_text.specs.Begun.{IsStart};
 ghost use Rattle.record_text.specs.Named.{HasPort};
 ghost use Rattle.record_text.specs.RecordTexts.{x_text, x_texts, y_text, y_texts};
 
-use crate::pieces::{put_head, put_value};
+use crate::pieces::{put, put_value};
 use crate::records::{XRecord, YRecord};
+use crate::start::Start;
 use atomic_face::PortNo;
 use model_tree::Model;
 use quantity::OutOfMemory;
@@ -27,30 +29,34 @@ pub(crate) fn put_given(
         into.new.items ≡ into.old.items ++ y_texts letter (leaves tree) records.now)) }
     ensures kept { take (length into.old.items) into.new.items ≡ into.old.items }
 {
+    let mut start = Start::new(letter);
     for given in records {
-        put_given_line(given, letter, model, into)?;
+        put_given_line(given, &mut start, model, into)?;
     }
     Ok(())
 }
 
 fn put_given_line(
     given: &YRecord,
-    letter: u8,
+    start: &mut Start,
     model: &Model,
     into: &mut Vec<u8>,
 ) -> Result<(), OutOfMemory>
-    requires { HasPort model.now out_ports given.now.leaf given.now.port.0 }
-    ensures ok { OnOk result
-        (Appends model.now given.now.leaf (y_text letter given.now) into.old.items into.new.items) }
+    requires there { HasPort model.now out_ports given.now.leaf given.now.port.0 }
+    requires right { IsStart model.now start.old }
+    ensures right { IsStart model.now start.new }
+    ensures letter { start.new.letter ≡ start.old.letter }
+    ensures ok { let text = y_text start.old.letter given.now in
+        OnOk result (Appends model.now given.now.leaf text into.old.items into.new.items) }
     ensures kept { take (length into.old.items) into.new.items ≡ into.old.items }
 {
-    put_head(letter, given.time, given.leaf, model, into)?;
+    start.put_head(given.time, given.leaf, model, into)?;
     put_out_port(given.leaf, given.port, model, into)?;
     put_value(given.value, into)?;
     Ok(())
 }
 
-/// Appends the name of a leaf's output port.
+/// Appends the name of a leaf's output port, and a stroke. The first port of each leaf is `out`.
 fn put_out_port(
     leaf: u32,
     port: PortNo,
@@ -58,11 +64,16 @@ fn put_out_port(
     into: &mut Vec<u8>,
 ) -> Result<(), OutOfMemory>
     requires { HasPort model.now out_ports leaf port.0 }
-    ensures ok { OnOk result (Appends model.now leaf (λ l. name_at (out_ports l) port.0)
+    ensures ok { OnOk result (Appends model.now leaf (λ l. name_at (out_ports l) port.0 ++ codes " / ")
         into.old.items into.new.items) }
     ensures kept { take (length into.old.items) into.new.items ≡ into.old.items }
 {
+    if port.0 == 0 {
+        put(b"out / ", into)?;
+        return Ok(());
+    }
     model.out_port_text(leaf, port, into)?;
+    put(b" / ", into)?;
     Ok(())
 }
 
@@ -77,25 +88,35 @@ pub(crate) fn put_reached(
         into.new.items ≡ into.old.items ++ x_texts (leaves tree) records.now)) }
     ensures kept { take (length into.old.items) into.new.items ≡ into.old.items }
 {
+    let mut start = Start::new(b'X');
     for reached in records {
-        put_reached_line(reached, model, into)?;
+        put_reached_line(reached, &mut start, model, into)?;
     }
     Ok(())
 }
 
-fn put_reached_line(reached: &XRecord, model: &Model, into: &mut Vec<u8>) -> Result<(), OutOfMemory>
-    requires { HasPort model.now in_ports reached.now.leaf reached.now.port.0 }
+fn put_reached_line(
+    reached: &XRecord,
+    start: &mut Start,
+    model: &Model,
+    into: &mut Vec<u8>,
+) -> Result<(), OutOfMemory>
+    requires there { HasPort model.now in_ports reached.now.leaf reached.now.port.0 }
+    requires right { IsStart model.now start.old }
+    requires letter { start.old.letter ≡ 88 }
+    ensures right { IsStart model.now start.new }
+    ensures letter { start.new.letter ≡ 88 }
     ensures ok { OnOk result
         (Appends model.now reached.now.leaf (x_text reached.now) into.old.items into.new.items) }
     ensures kept { take (length into.old.items) into.new.items ≡ into.old.items }
 {
-    put_head(b'X', reached.time, reached.leaf, model, into)?;
+    start.put_head(reached.time, reached.leaf, model, into)?;
     put_in_port(reached.leaf, reached.port, model, into)?;
     put_value(reached.value, into)?;
     Ok(())
 }
 
-/// Appends the name of a leaf's input port.
+/// Appends the name of a leaf's input port, and a stroke.
 fn put_in_port(
     leaf: u32,
     port: PortNo,
@@ -103,10 +124,11 @@ fn put_in_port(
     into: &mut Vec<u8>,
 ) -> Result<(), OutOfMemory>
     requires { HasPort model.now in_ports leaf port.0 }
-    ensures ok { OnOk result (Appends model.now leaf (λ l. name_at (in_ports l) port.0)
+    ensures ok { OnOk result (Appends model.now leaf (λ l. name_at (in_ports l) port.0 ++ codes " / ")
         into.old.items into.new.items) }
     ensures kept { take (length into.old.items) into.new.items ≡ into.old.items }
 {
     model.port_text(leaf, port, into)?;
+    put(b" / ", into)?;
     Ok(())
 }

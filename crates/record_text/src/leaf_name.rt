@@ -5,6 +5,7 @@ ghost use Rattle.text_forms.specs.LogLine.{has_place};
 ghost use Rattle.record_text.specs.LeafRead.{at_of, name_of};
 ghost use Rattle.record_text.specs.Strict as strict;
 
+use crate::usual::plain_number;
 use itoa::Buffer;
 use quantity::Place;
 use quantity::digits::{cut_at, whole_number};
@@ -107,6 +108,16 @@ fn with_plane(row: u32, column: u32, ends: bool, plane: &[u8]) -> Option<At>
 
 /// The number that is written so, at most 1048575.
 fn coordinate(text: &[u8]) -> Option<u32>
+    ensures { result ≡ strict.coordinate text.now }
+{
+    match plain_number(text) {
+        Some(number) => Some(number),
+        None => written_number(text),
+    }
+}
+
+/// The same of any text.
+fn written_number(text: &[u8]) -> Option<u32>
     ensures { result ≡ strict.coordinate text.now }
 {
     let number = whole_number(7, text)? as u32;

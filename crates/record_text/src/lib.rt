@@ -2,6 +2,7 @@
 #![tactic(auto)]
 
 mod given;
+mod kept;
 pub mod laws;
 pub mod leaf_name;
 pub mod line;
@@ -9,8 +10,11 @@ mod moved;
 mod output;
 mod parts;
 mod pieces;
+mod place_text;
 pub mod records;
+mod start;
 mod text;
+mod usual;
 
 pub use leaf_name::LeafName;
 pub use line::{LogLine, read_line};

@@ -9,6 +9,7 @@ ghost use Rattle.record_text.specs.Strict as strict;
 
 use crate::leaf_name::{LeafName, has_place, read_leaf};
 use crate::parts::{Parts, cut_parts};
+use crate::usual::read_value;
 use quantity::name::is_name;
 use quantity::{Time, Value};
 
@@ -83,7 +84,7 @@ fn given_line<'a>(letter: u8, parts: &Parts<'a>) -> Option<LogLine<'a>>
 {
     let time = Time::read_text(parts.time)?;
     let leaf = read_leaf(parts.leaf)?;
-    let value = Value::read_text5(parts.second)?;
+    let value = read_value(parts.second)?;
     if is_name(parts.first) {
         given(letter, time, &leaf, parts.first, value)
     } else {
@@ -166,7 +167,7 @@ fn read_state(text: &[u8]) -> Option<Option<Value>>
     if text == b"-".as_slice() {
         return Some(None);
     }
-    let value = Value::read_text5(text)?;
+    let value = read_value(text)?;
     Some(Some(value))
 }
 

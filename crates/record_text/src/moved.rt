@@ -5,10 +5,12 @@ ghost use Rattle.model_tree.specs.Tree.{leaves};
 ghost use Rattle.model_tree.specs.Leaves.{Appends, IsLeafOf, OfTree};
 ghost use Rattle.text_forms.specs.LogLine.{state_text, next_text};
 ghost use Rattle.record_text.specs.declared.records.SRecord as s;
+ghost use Rattle.record_text.specs.Begun.{IsStart};
 ghost use Rattle.record_text.specs.RecordTexts.{s_text, s_texts};
 
-use crate::pieces::{put, put_head};
+use crate::pieces::{put, put_number};
 use crate::records::SRecord;
+use crate::start::Start;
 use model_tree::Model;
 use quantity::{OutOfMemory, Time, Value};
 
@@ -23,19 +25,29 @@ pub(crate) fn put_moved(
         into.new.items ≡ into.old.items ++ s_texts (leaves tree) records.now)) }
     ensures kept { take (length into.old.items) into.new.items ≡ into.old.items }
 {
+    let mut start = Start::new(b'S');
     for moved in records {
-        put_moved_line(moved, model, into)?;
+        put_moved_line(moved, &mut start, model, into)?;
     }
     Ok(())
 }
 
-fn put_moved_line(moved: &SRecord, model: &Model, into: &mut Vec<u8>) -> Result<(), OutOfMemory>
-    requires { IsLeafOf model.now moved.now.leaf }
+fn put_moved_line(
+    moved: &SRecord,
+    start: &mut Start,
+    model: &Model,
+    into: &mut Vec<u8>,
+) -> Result<(), OutOfMemory>
+    requires there { IsLeafOf model.now moved.now.leaf }
+    requires right { IsStart model.now start.old }
+    requires letter { start.old.letter ≡ 83 }
+    ensures right { IsStart model.now start.new }
+    ensures letter { start.new.letter ≡ 83 }
     ensures ok { OnOk result
         (Appends model.now moved.now.leaf (s_text moved.now) into.old.items into.new.items) }
     ensures kept { take (length into.old.items) into.new.items ≡ into.old.items }
 {
-    put_head(b'S', moved.time, moved.leaf, model, into)?;
+    start.put_head(moved.time, moved.leaf, model, into)?;
     put_state(&moved.value, into)?;
     put(b" / ", into)?;
     put_next(moved.next, into)?;
@@ -50,10 +62,7 @@ fn put_state(value: &Option<Value>, into: &mut Vec<u8>) -> Result<(), OutOfMemor
 {
     match value {
         None => put(b"-", into),
-        Some(value) => {
-            value.text5(into)?;
-            Ok(())
-        }
+        Some(value) => put_number(*value, into),
     }
 }
 

@@ -1,35 +1,27 @@
 // Pieces of lines. A refusal may leave more behind what was there.
-ghost use Rattle.std.specs.Prelude.{◌≡◌, ◌++◌, codes, length, take, OnOk};
+ghost use Rattle.std.specs.Prelude.{◌≡◌, ◌<◌, ◌*◌, ◌++◌, codes, length, pos, take, IfSome, OnOk};
+ghost use Rattle.quantity.specs.declared.value.Value.TheVariants.{Num};
 ghost use Rattle.quantity.specs.ValueTexts.{text5};
 ghost use Rattle.model_tree.specs.LeafTexts.{leaf_text};
 ghost use Rattle.model_tree.specs.Leaves.{Appends, IsLeafOf};
-ghost use Rattle.record_text.specs.RecordTexts.{head_text};
+ghost use Rattle.record_text.specs.Begun.{begun};
 
 use model_tree::Model;
 use quantity::{OutOfMemory, Time, Value};
 
-/// Appends letter, time and leaf of a line.
-pub(crate) fn put_head(
-    letter: u8,
-    time: Time,
-    leaf: u32,
-    model: &Model,
-    into: &mut Vec<u8>,
-) -> Result<(), OutOfMemory>
-    requires { IsLeafOf model.now leaf }
-    ensures ok { OnOk result (Appends model.now leaf (head_text letter time) into.old.items into.new.items) }
+/// Appends letter and time of a line, and a stroke.
+pub(crate) fn put_begun(letter: u8, time: Time, into: &mut Vec<u8>) -> Result<(), OutOfMemory>
+    ensures ok { OnOk result (into.new.items ≡ into.old.items ++ begun letter time) }
     ensures kept { take (length into.old.items) into.new.items ≡ into.old.items }
 {
     put(&[letter, b' ', b'/', b' '], into)?;
     time.text(into)?;
     put(b" / ", into)?;
-    put_leaf(leaf, model, into)?;
-    put(b" / ", into)?;
     Ok(())
 }
 
 /// Appends how a leaf is called.
-fn put_leaf(leaf: u32, model: &Model, into: &mut Vec<u8>) -> Result<(), OutOfMemory>
+pub(crate) fn put_leaf(leaf: u32, model: &Model, into: &mut Vec<u8>) -> Result<(), OutOfMemory>
     requires { IsLeafOf model.now leaf }
     ensures ok { OnOk result (Appends model.now leaf leaf_text into.old.items into.new.items) }
     ensures kept { take (length into.old.items) into.new.items ≡ into.old.items }
@@ -39,17 +31,54 @@ fn put_leaf(leaf: u32, model: &Model, into: &mut Vec<u8>) -> Result<(), OutOfMem
 }
 
 /// Appends the value at the end of a line.
+#[inline(always)]
 pub(crate) fn put_value(value: Value, into: &mut Vec<u8>) -> Result<(), OutOfMemory>
-    ensures ok { OnOk result (into.new.items ≡ into.old.items ++ (codes " / " ++ text5 value ++ codes "\n")) }
+    ensures ok { OnOk result (into.new.items ≡ into.old.items ++ (text5 value ++ codes "\n")) }
     ensures kept { take (length into.old.items) into.new.items ≡ into.old.items }
 {
-    put(b" / ", into)?;
-    value.text5(into)?;
-    put(b"\n", into)?;
+    match one_digit(&value) {
+        Some(digit) => {
+            let text = [b'0' + digit, b'.', b'0', b'0', b'0', b'0', b'0', b'\n'];
+            put(&text, into)?
+        }
+        None => {
+            value.text5(into)?;
+            put(b"\n", into)?
+        }
+    }
     Ok(())
 }
 
+/// Appends a value. Most are whole numbers of one digit, whose text is known.
+pub(crate) fn put_number(value: Value, into: &mut Vec<u8>) -> Result<(), OutOfMemory>
+    ensures ok { OnOk result (into.new.items ≡ into.old.items ++ text5 value) }
+    ensures kept { take (length into.old.items) into.new.items ≡ into.old.items }
+{
+    match one_digit(&value) {
+        Some(digit) => put(&[b'0' + digit, b'.', b'0', b'0', b'0', b'0', b'0'], into)?,
+        None => value.text5(into)?,
+    }
+    Ok(())
+}
+
+/// The digit of a whole number below 10.
+#[inline(always)]
+fn one_digit(value: &Value) -> Option<u8>
+    ensures { IfSome result (λ digit. (digit < 10) × (value.now ≡ Num (pos (digit * 100000)))) }
+{
+    let Value::Num(raw) = value else {
+        return None;
+    };
+    let raw = raw.get();
+    if 0 <= raw && raw < 1_000_000 && raw % 100_000 == 0 {
+        Some((raw / 100_000) as u8)
+    } else {
+        None
+    }
+}
+
 /// Appends a text.
+#[inline(always)]
 pub(crate) fn put(text: &[u8], into: &mut Vec<u8>) -> Result<(), OutOfMemory>
     ensures ok { OnOk result (into.new.items ≡ into.old.items ++ text.now) }
     ensures kept { take (length into.old.items) into.new.items ≡ into.old.items }

@@ -6,6 +6,7 @@ use Rattle.frame_draw.proofs.rows.put_rows.Goals as goal
 
 pub loop-row-preserved : goal.loop-row-preserved
 loop-row-preserved c = record {
+  known = c.in_ok-put_row.ensures.known;
   appended = range_texts (row_text (picture_of c.args.plane.now) (value_of c.args.values.now)) c.args.into.now.items c.loop-row.into.items c.put_row.new.into.items c.loop-row.row c.loop-row.invariant.appended c.in_ok-put_row.ensures.ok;
   kept = kept_on c.args.into.now.items c.loop-row.into.items c.put_row.new.into.items c.loop-row.invariant.kept c.in_ok-put_row.ensures.kept;
 }

@@ -9,6 +9,8 @@ use Rattle.record_text.proofs.given.put_reached.Goals as goal
 
 pub loop-reached-preserved : goal.loop-reached-preserved
 loop-reached-preserved c = record {
+  right = c.in_ok-put_reached_line.ensures.right;
+  letter = c.in_ok-put_reached_line.ensures.letter;
   appended = λ settings.
       texts_more (λ (r : XRecord). text_at (x_text r) (slice_get (leaves (tree_of c.args.model.now settings)) r.leaf))
       c.args.into.now.items c.loop-reached.into.items c.put_reached_line.new.into.items c.args.records.now c.loop-reached.reached-index c.reached-item.result c.loop-reached-test.true c.reached-item.is

@@ -9,6 +9,8 @@ use Rattle.record_text.proofs.moved.put_moved.Goals as goal
 
 pub loop-moved-preserved : goal.loop-moved-preserved
 loop-moved-preserved c = record {
+  right = c.in_ok-put_moved_line.ensures.right;
+  letter = c.in_ok-put_moved_line.ensures.letter;
   appended = λ settings.
       texts_more (λ (r : SRecord). text_at (s_text r) (slice_get (leaves (tree_of c.args.model.now settings)) r.leaf))
       c.args.into.now.items c.loop-moved.into.items c.put_moved_line.new.into.items c.args.records.now c.loop-moved.moved-index c.moved-item.result c.loop-moved-test.true c.moved-item.is

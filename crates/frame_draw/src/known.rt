@@ -1,0 +1,139 @@
+// The texts of two values, since most cells of a frame have one of a few. A refusal may leave more behind
+// what was there.
+ghost use Rattle.std.specs.Prelude.{◌≡◌, ◌≤◌, ◌++◌, ℕ, None, length, take, true, IfSome, OnOk};
+ghost use Rattle.quantity.specs.ValueTexts.{value_text};
+ghost use Rattle.frame_draw.specs.Knowing.{IsKnown, AreKnown};
+
+use crate::frame::put;
+use crate::kept::Kept;
+use crate::plane::Plane;
+use quantity::{OutOfMemory, Value};
+
+/// A value with its text.
+#[derive(Drop)]
+pub(crate) struct Known {
+    value: Value,
+    text: Kept,
+}
+
+/// The first two values of a frame with their texts, as far as they were met.
+#[derive(Drop)]
+pub(crate) struct KnownTexts {
+    first: Option<Known>,
+    second: Option<Known>,
+}
+
+impl KnownTexts {
+    /// No value was met.
+    pub(crate) fn new() -> KnownTexts
+        ensures first { result.first ≡ None }
+        ensures second { result.second ≡ None }
+    {
+        KnownTexts {
+            first: None,
+            second: None,
+        }
+    }
+
+    /// Appends the text of a value.
+    pub(crate) fn put_value(
+        &mut self,
+        value: &Value,
+        plane: &Plane,
+        into: &mut Vec<u8>,
+    ) -> Result<(), OutOfMemory>
+        requires decimals { plane.now.decimals ≤ 5 }
+        requires width { plane.now.width ≤ 20 }
+        requires known { AreKnown plane.now.decimals plane.now.width self.old }
+        ensures known { AreKnown plane.now.decimals plane.now.width self.new }
+        ensures ok { OnOk result (into.new.items ≡
+            into.old.items ++ value_text plane.now.decimals plane.now.width value.now) }
+        ensures kept { take (length into.old.items) into.new.items ≡ into.old.items }
+    {
+        if let Some(text) = text_in(&self.first, value) {
+            return put(text, into);
+        }
+        if let Some(text) = text_in(&self.second, value) {
+            return put(text, into);
+        }
+        self.put_new(value, plane, into)
+    }
+
+    /// Appends the text of a value that isn't known, and knows it from now on, where there is room.
+    fn put_new(
+        &mut self,
+        value: &Value,
+        plane: &Plane,
+        into: &mut Vec<u8>,
+    ) -> Result<(), OutOfMemory>
+        requires decimals { plane.now.decimals ≤ 5 }
+        requires width { plane.now.width ≤ 20 }
+        requires known { AreKnown plane.now.decimals plane.now.width self.old }
+        ensures known { AreKnown plane.now.decimals plane.now.width self.new }
+        ensures ok { OnOk result (into.new.items ≡
+            into.old.items ++ value_text plane.now.decimals plane.now.width value.now) }
+        ensures kept { take (length into.old.items) into.new.items ≡ into.old.items }
+    {
+        let before = into.len();
+        value.text(plane.decimals, plane.width, into)?;
+        self.learn(value, &into[before..]);
+        Ok(())
+    }
+
+    /// Knows the text of a value, where there is room.
+    fn learn(&mut self, value: &Value, text: &[u8])
+        ensures { (d w : ℕ) → AreKnown d w self.old → text.now ≡ value_text d w value.now
+            → AreKnown d w self.new }
+    {
+        if self.first.is_none() {
+            self.first = with_text(value, text);
+        } else if self.second.is_none() {
+            self.second = with_text(value, text);
+        }
+    }
+}
+
+/// A value with its text, where that is short.
+fn with_text(value: &Value, text: &[u8]) -> Option<Known>
+    ensures { (d w : ℕ) → text.now ≡ value_text d w value.now → IsKnown d w result }
+{
+    let mut kept = Kept::new();
+    if kept.keep(text) {
+        Some(Known {
+            value: *value,
+            text: kept,
+        })
+    } else {
+        None
+    }
+}
+
+/// The text of a value, where it is the known one.
+#[inline(always)]
+fn text_in<'a>(known: &'a Option<Known>, value: &Value) -> Option<&'a [u8]>
+    ensures { (d w : ℕ) → IsKnown d w known.now
+        → IfSome result (λ text. text.now ≡ value_text d w value.now) }
+{
+    let Some(known) = known else {
+        return None;
+    };
+    if is_same(&known.value, value) {
+        Some(known.text.as_bytes())
+    } else {
+        None
+    }
+}
+
+/// Whether two values are one.
+#[inline(always)]
+fn is_same(one: &Value, other: &Value) -> bool
+    ensures { result ≡ true → one.now ≡ other.now }
+{
+    match one {
+        Value::Undefined => matches!(other, Value::Undefined),
+        Value::Num(raw) => match other {
+            Value::Undefined => false,
+            Value::Num(other) => raw.get() == other.get(),
+        },
+    }
+}
