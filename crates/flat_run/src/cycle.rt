@@ -74,7 +74,7 @@ pub(crate) fn run_cycle<Q: TimeQueue, M: AtomicModel, L: Ledger>(
         steps,
     ) {
         Ok(()) => {
-            clear_set(woken, due);
+            woken.empty();
             Ok(())
         }
         Err(halt) => Err(halt),
@@ -105,16 +105,6 @@ fn take_inputs(
 {
     inputs.clear();
     events.take(t, inputs)
-}
-
-/// None of the leaves is in the set any more. The list is used as room.
-fn clear_set(set: &mut BitSet, into: &mut Vec<u32>)
-    requires { length set.old ≤ vec_capacity into.old }
-    ensures left { set.new ≡ replicate (length set.old) false }
-    ensures capacity { vec_capacity into.new ≡ vec_capacity into.old }
-{
-    into.clear();
-    set.take_all(into);
 }
 
 /// How many cycles this instant has had.

@@ -15,10 +15,9 @@ use Rattle.atomic_face.specs.Stocked.{ChangesBox}
 use Rattle.run_model.specs.CellStep.{PortState, CellState, Stepped, cell_next}
 use Rattle.run_model.specs.Cycle.{cell_state}
 use Rattle.run_model.specs.Run as run
-use Rattle.cell_table.specs.declared.cell.Cell.{Cell}
 use Rattle.cell_engine.specs.declared.stop.CellStop.{CellStop}
 use Rattle.cell_engine.specs.declared.stop.CellStop.TheVariants as cell
-use Rattle.cell_table.specs.Told.{no_cell, cell_at, in_four, Tells, OnlyCell}
+use Rattle.cell_table.specs.Told.{no_cell, cell_at, computed_of, OnlyCell}
 use Rattle.cell_engine.specs.Cells.{Computes, stop_of}
 use Rattle.cycle_steps.specs.declared.halt.Told.{Told}
 use Rattle.run_leaves.specs.Seated.{HasPort}
@@ -27,7 +26,7 @@ use Rattle.run_leaves.proofs.Places.{get-set, index-get}
 
 -- ---- a cell
 
-first-computed : (ps : List PortState) → 1 ≤ length ps → Some (slice_index_or (in_four (map (λ (p : PortState). p.computed) ps)) 0 Undefined) ≡ run.computed_of (cell_state (record { ports = ps; variables = [] }))
+first-computed : (ps : List PortState) → 1 ≤ length ps → Some (slice_index_or (map (λ (p : PortState). p.computed) ps) 0 Undefined) ≡ run.computed_of (cell_state (record { ports = ps; variables = [] }))
 first-computed [] le = absurd (omega (arith, le))
 first-computed (p ∷ ps) le = refl
 
@@ -43,20 +42,20 @@ ports-long old new i only =
 pub port-stays : (old new : List CellState) (i : ℕ) → OnlyCell i old new → HasPort (cell_at old i) → HasPort (cell_at new i)
 port-stays old new i only has = let long = ports-long old new i only in omega (arith, has, long)
 
-told-by : (old new : List CellState) (i : ℕ) (c : CellState) (told : Cell) (t : Told) → i < length old → HasPort (cell_at new i) → new ≡ slice_set old i c → Tells told (cell_at new i)
-    → t.value ≡ Some (slice_index_or told.computed 0 Undefined) → t.next ≡ told.next → HasMovedCell old new i c t
-told-by old new i c told t lt has made tells value next =
+told-by : (old new : List CellState) (i : ℕ) (c : CellState) (v : Value) (t : Told) → i < length old → HasPort (cell_at new i) → new ≡ slice_set old i c
+    → v ≡ slice_index_or (computed_of (cell_at new i)) 0 Undefined → t.value ≡ Some v → t.next ≡ cell_next (cell_at new i) → HasMovedCell old new i c t
+told-by old new i c v t lt has made is value next =
     let here : cell_at new i ≡ c = ap (λ cs. cell_at cs i) made ∙ get_or-set_same old i c no_cell lt in
     record {
       cells = made;
-      value = value ∙ ap (λ (vs : List Value). Some (slice_index_or vs 0 Undefined)) tells.computed ∙ first-computed (cell_at new i).ports has ∙ ap (λ (x : CellState). run.computed_of (cell_state x)) here;
-      next = next ∙ tells.next ∙ ap cell_next here;
+      value = value ∙ ap (λ (w : Value). Some w) is ∙ first-computed (cell_at new i).ports has ∙ ap (λ (x : CellState). run.computed_of (cell_state x)) here;
+      next = next ∙ ap cell_next here;
     }
 
-pub moves-ok : {U : Type 0} (u : U) (old new : List CellState) (i : ℕ) (step : Stepped) (told : Cell) (t : Told) → i < length old → HasPort (cell_at old i) → OnlyCell i old new
-    → Computes i old new step (let r : Result U CellStop = Ok u in r) → Tells told (cell_at new i) → t.value ≡ Some (slice_index_or told.computed 0 Undefined) → t.next ≡ told.next → MovesCell old new i step (Ok t)
-moves-ok u old new i (Ok c) told t lt has only made tells value next = told-by old new i c told t lt (port-stays old new i only has) made tells value next
-moves-ok u old new i (Err why) told t lt has only made tells value next = made
+pub moves-ok : {U : Type 0} (u : U) (old new : List CellState) (i : ℕ) (step : Stepped) (v : Value) (t : Told) → i < length old → HasPort (cell_at old i) → OnlyCell i old new
+    → Computes i old new step (let r : Result U CellStop = Ok u in r) → v ≡ slice_index_or (computed_of (cell_at new i)) 0 Undefined → t.value ≡ Some v → t.next ≡ cell_next (cell_at new i) → MovesCell old new i step (Ok t)
+moves-ok u old new i (Ok c) v t lt has only made is value next = told-by old new i c v t lt (port-stays old new i only has) made is value next
+moves-ok u old new i (Err why) v t lt has only made is value next = made
 
 stop-is : (why : RuleStop) (stop : CellStop) → stop ≡ stop_of why → leaf_stop stop ≡ leaf_stop (stop_of why)
 stop-is why stop e = ap leaf_stop e

@@ -15,7 +15,7 @@ ghost use Rattle.run_leaves.specs.Seated.{HasPort};
 ghost use Rattle.run_leaves.specs.Moving.{MovesCell, leaf_stop};
 
 use atomic_face::PortNo;
-use cell_engine::{Cell, CellStop, CellStore, Given, Steps};
+use cell_engine::{CellStop, CellStore, Given, Steps};
 use cycle_steps::halt::{LeafStop, Told};
 use quantity::{Name, OutOfMemory, Time, Value};
 use rule_tree::RuleStop;
@@ -91,19 +91,22 @@ pub(crate) fn move_cell<L: Ledger>(
     ensures steps { steps.new ≤ steps.old + (length store.old.layout.offsets + 2) }
 {
     match store.compute(cell, t, woken, bag, ports, steps) {
-        Ok(()) => Ok(told_of(store.cell(cell, steps))),
+        Ok(()) => {
+            let value = store.computed(cell, steps);
+            Ok(told_of(value, store.next(cell)))
+        }
         Err(why) => Err(stop_of_leaf(why)),
     }
 }
 
 /// What is told of a cell that moved.
-fn told_of(cell: Cell) -> Told
-    ensures value { result.value ≡ Some (slice_index_or cell.computed 0 Undefined) }
-    ensures next { result.next ≡ cell.next }
+fn told_of(value: Value, next: Option<Time>) -> Told
+    ensures value { result.value ≡ Some value }
+    ensures next { result.next ≡ next }
 {
     Told {
-        value: Some(cell.computed[0]),
-        next: cell.next,
+        value: Some(value),
+        next,
     }
 }
 

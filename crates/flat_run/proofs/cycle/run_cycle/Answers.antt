@@ -81,8 +81,8 @@ returns-in-Ok-cycle_at-clause-runs g c =
 pub returns-in-Ok-cycle_at-clause-frame : goal.returns-in-Ok-cycle_at-clause-frame
 returns-in-Ok-cycle_at-clause-frame g c =
     frame-left (tree_by c.args.leaves.now) c.args.routes.now c.args.watchers.now c.args.t c.args.events.now c.take_inputs.new.events
-    (vec_capacity c.args.due.now) (vec_capacity c.args.moving.now) (vec_capacity c.clear_set.new.into) (vec_capacity c.cycle_at.new.moving)
-    c.requires.frame c.in-Ok.ensures.left (c.clear_set.ensures.capacity ∙ c.take_due.ensures.capacity) (c.in-Ok-cycle_at.ensures.moving_room ∙ c.clear.ensures.capacity)
+    (vec_capacity c.args.due.now) (vec_capacity c.args.moving.now) (vec_capacity c.take_due.new.due) (vec_capacity c.cycle_at.new.moving)
+    c.requires.frame c.in-Ok.ensures.left c.take_due.ensures.capacity (c.in-Ok-cycle_at.ensures.moving_room ∙ c.clear.ensures.capacity)
 
 pub returns-in-Ok-cycle_at-clause-stands : goal.returns-in-Ok-cycle_at-clause-stands
 returns-in-Ok-cycle_at-clause-stands g c =
@@ -102,7 +102,7 @@ returns-in-Ok-cycle_at-clause-stands g c =
       fits = ran-fits c.a_cycle_is_what_its_leaves_make_of_it.ensures.next c.records_name_what_there_is.ensures.cycles (tree_by leaves) t (standing_at leaves.states events)
           c.cycle_at.new.leaves.states waiting c.take_inputs.new.events c.cycle_at.new.records c.requires.stands.fits c.requires.instant ran;
       queue = ran.waiting_are;
-      calm = c.clear_set.ensures.left ∙ ap (λ (n : ℕ). replicate n false) (c.in-Ok-cycle_at.ensures.long ∙ c.requires.frame.watching_is.long);
+      calm = c.empty.ensures ∙ ap (λ (n : ℕ). replicate n false) (c.in-Ok-cycle_at.ensures.long ∙ c.requires.frame.watching_is.long);
       at_rest = c.in-Ok-cycle_at.ensures.at_rest ∙ ap (λ (n : ℕ). replicate n false) c.requires.frame.watching_is.long;
     }
 

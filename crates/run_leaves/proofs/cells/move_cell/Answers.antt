@@ -1,5 +1,5 @@
 use Rattle.run_leaves.proofs.Stepped.{moves-ok, moves-err}
-use Rattle.std.proofs.Common.{sym, subst}
+use Rattle.std.proofs.Common.{◌∙◌, sym, subst}
 use Rattle.std.specs.declared.result.Result.TheVariants.{Err}
 use Rattle.cell_engine.specs.Cells.{computed_at}
 use Rattle.cycle_steps.specs.declared.halt.LeafStop.{LeafStop}
@@ -8,8 +8,8 @@ use Rattle.run_leaves.proofs.cells.move_cell.Goals as goal
 
 pub returns-in-Ok-clause-moves : goal.returns-in-Ok-clause-moves
 returns-in-Ok-clause-moves g c = λ h stands sound ports.
-    moves-ok c.in-Ok.field-0 c.args.store.now.cells c.compute.new.self.cells c.args.cell (computed_at c.args.t h c.args.store.now.cells c.args.cell c.args.woken c.args.bag.now) c.cell.result c.told_of.result
-    c.requires.within c.requires.some c.compute.ensures.only (c.in-Ok.ensures.computed h stands sound ports) c.cell.ensures.cell c.told_of.ensures.value c.told_of.ensures.next
+    moves-ok c.in-Ok.field-0 c.args.store.now.cells c.compute.new.self.cells c.args.cell (computed_at c.args.t h c.args.store.now.cells c.args.cell c.args.woken c.args.bag.now) c.computed-value.result c.told_of.result
+    c.requires.within c.requires.some c.compute.ensures.only (c.in-Ok.ensures.computed h stands sound ports) c.computed-value.ensures.value c.told_of.ensures.value (c.told_of.ensures.next ∙ c.next.ensures)
 
 pub returns-in-Err-clause-moves : goal.returns-in-Err-clause-moves
 returns-in-Err-clause-moves g c = λ h stands sound ports.
