@@ -16,7 +16,7 @@ use std::io::ErrorKind;
 use std::marker::Brand;
 use std::process::ExitCode;
 use std::sync::ledger::{Blank, Ledger};
-use told_lines::status::{NO_MEMORY, USAGE, WRITE_FAULT};
+use told_lines::status::NO_MEMORY;
 
 /// The classes of the boxes, in the order in which they stand in the stock.
 const CLASSES: [Class; 5] = [
@@ -29,16 +29,6 @@ const CLASSES: [Class; 5] = [
 
 /// How many boxes there are of each class.
 const BOXES: usize = 4096;
-
-/// Words that are no text are refused as all others that the program doesn't take.
-fn refuse(rt: &impl Eprint) -> u8 {
-    match rt.eprintln(
-        "usage: cdpp (-m MODEL | -G N) -t END [-e EVENTS] [-l LOG] [-o OUT] [-d FRAMES -g GROUP] [-L LETTERS] [-c LIMIT] [-w WIDTH] [-p DECIMALS] [-f PLANE]",
-    ) {
-        Ok(()) => USAGE,
-        Err(_) => WRITE_FAULT,
-    }
-}
 
 /// Runs the program with a counter of its own.
 fn counted<L: Ledger>(
@@ -57,20 +47,22 @@ fn counted<L: Ledger>(
     cdpp(alloc, words, boxes, room, &mut steps)
 }
 
-/// The words of the command line; else the status to end with.
-fn words_of(rt: &(impl AllocGlobal + Env + Eprint)) -> Result<Vec<String>, u8> {
+/// The words of the command line. Where one of them is no text, the name of the program stands alone, so
+/// that the program refuses them as all others that it doesn't take.
+fn words_of(rt: &(impl AllocGlobal + Env)) -> Result<Vec<String>, OutOfMemory> {
     let mut words: Vec<String> = Vec::new(rt.alloc());
-    let args = match env::args(rt) {
-        Ok(args) => args,
+    match env::args(rt) {
+        Ok(args) => {
+            for word in args {
+                words.push(word).map_err(AllocError::from)?;
+            }
+        }
         Err(error) => match error.kind() {
-            ErrorKind::OutOfMemory => return Err(NO_MEMORY),
-            _ => return Err(refuse(rt)),
+            ErrorKind::OutOfMemory => return Err(OutOfMemory),
+            _ => words
+                .push(String::from_str(rt.alloc(), "cdpp")?)
+                .map_err(AllocError::from)?,
         },
-    };
-    for word in args {
-        let Ok(()) = words.push(word) else {
-            return Err(NO_MEMORY);
-        };
     }
     Ok(words)
 }
@@ -100,9 +92,8 @@ fn run_with_boxes(
 
 fn main(rt: HostRuntime) -> ExitCode {
     let alloc = rt.alloc();
-    let words = match words_of(&rt) {
-        Ok(words) => words,
-        Err(status) => return ExitCode::from(status),
+    let Ok(words) = words_of(&rt) else {
+        return ExitCode::from(NO_MEMORY);
     };
     let mut room = FolderRoom::new(rt);
     let status = run_with_boxes(alloc, &words, &mut room).unwrap_or(NO_MEMORY);

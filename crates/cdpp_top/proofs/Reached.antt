@@ -1,5 +1,5 @@
 -- From the reading of a model to the answer, where the files are told.
-use Rattle.std.proofs.Common.{◌≡◌, ◌⊎◌, ℕ, Option, Some, None, List, [], sym, subst}
+use Rattle.std.proofs.Common.{◌≡◌, ◌⊎◌, ℕ, ◌+◌, ◌≤◌, Option, Some, None, List, [], sym, subst}
 use Rattle.std.specs.Prelude.{IfSome}
 use Rattle.std.proofs.lemmas.Option.{IfSome_then}
 use Rattle.std.specs.declared.result.Result.{Result}
@@ -24,6 +24,8 @@ use Rattle.answer_model.proofs.Endings.{endings_follow}
 use Rattle.answer_model.specs.Endings.{looked_for, EndsWith}
 use Rattle.cdpp_top.specs.Starting.{tree_on}
 use Rattle.cdpp_top.specs.Reading.{source_read, TellsModel}
+use Rattle.cdpp_top.specs.Visits.{visits_of_found, visits_with, visits_to}
+use Rattle.model_text.specs.ModelOf.{ModelOf}
 use Rattle.cdpp_top.proofs.Models.{answer_after, read_runs, read_stops}
 use Rattle.cdpp_top.proofs.Files.{answer_begins}
 
@@ -70,6 +72,19 @@ stops_at x classes stock reason old mid new s reads tells =
     (λ files gives tried. subst (λ (y : Answer). EndsWith y (looked_for []) old new s) (sym (answer_after a files classes))
     (read_stops (Model × Routes) reason stock (definition files).found (definition files).looked (answer_with a files) old mid new s (answer_begins x files) gives tried reads.counted reads.only reads.faults tells))
     reads.found reads.tried
+
+-- ---- visits
+
+-- a run of the model that is read costs what the definition says
+pub visits_of_read : (x : code.Asked) (classes : List Class) (stock : List Stocked) (m : Model) (routes : Routes) (old mid : Outside) (before after : ℕ) → ReadsAsked x classes stock (Ok (m, routes)) old mid
+    → IfSome mid.files (λ files. after ≤ before + visits_with (asked_of x) files (tree_on m stock))
+    → IfSome old.files (λ files. after ≤ before + visits_to (asked_of x) files classes)
+visits_of_read x classes stock m routes old mid before after reads within =
+    let a = asked_of x in
+    let Within : Files → Type 0 = λ files. after ≤ before + visits_with a files (tree_on m stock) in
+    if_some_two old.files _ Within (λ files. after ≤ before + visits_to a files classes)
+    (λ files gives most. subst (λ (found : ModelOf). after ≤ before + visits_of_found a files found) (sym gives) most)
+    reads.found (subst (λ (o : Option Files). IfSome o Within) reads.only.files within)
 
 -- ---- without faults
 

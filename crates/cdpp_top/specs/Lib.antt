@@ -1,3 +1,4 @@
 pub mod Statuses
 pub mod Starting
 pub mod Reading
+pub mod Visits

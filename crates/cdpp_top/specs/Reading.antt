@@ -33,25 +33,32 @@ source_read (made size) classes drawing files = model_of (made_text size) files 
 
 -- a line tells why there is no model; for want of memory there is none
 abbrev pub TellsModel : ModelRefusal → Outside → Outside → ℕ → Type 0
-TellsModel (why.Missing name) old new status = Says (ended (codes "missing: " ++ name)) 3 old new status
+TellsModel (why.Missing name) old new status =
+    Says (ended (codes "missing: " ++ name)) 3 old new status
 TellsModel (why.ReadFault name) old new status = Says (read_fault_line name) 4 old new status
-TellsModel (why.Refused line kind) old new status = Says (ended (model_refused (refusal line kind))) 6 old new status
+TellsModel (why.Refused line kind) old new status =
+    Says (ended (model_refused (refusal line kind))) 6 old new status
 TellsModel why.Memory old new status = (status ≡ 12) × (new ≡ old)
 
 -- ---- the events
 
 -- a line tells why there are no events; for want of memory there is none
 abbrev pub TellsEvents : EventRefusal → Outside → Outside → ℕ → Type 0
-TellsEvents (E.BadEventLine line) old new status = Says (ended (events_refused (E.BadEventLine line))) 7 old new status
-TellsEvents (E.UnknownPort line) old new status = Says (ended (events_refused (E.UnknownPort line))) 7 old new status
-TellsEvents (E.TooLarge line) old new status = Says (ended (events_refused (E.TooLarge line))) 7 old new status
+TellsEvents (E.BadEventLine line) old new status =
+    Says (ended (events_refused (E.BadEventLine line))) 7 old new status
+TellsEvents (E.UnknownPort line) old new status =
+    Says (ended (events_refused (E.UnknownPort line))) 7 old new status
+TellsEvents (E.TooLarge line) old new status =
+    Says (ended (events_refused (E.TooLarge line))) 7 old new status
 TellsEvents E.Memory old new status = (status ≡ 12) × (new ≡ old)
 
 -- what is answered once a file of events is read, where these files were looked for
 abbrev pub answer_by_events : Asked → Tree → List Word → Result (List Event) EventRefusal → Answer
-answer_by_events a tree inputs read = unless_refused 7 events_refused inputs read (λ events. answer_from a tree events inputs None)
+answer_by_events a tree inputs read =
+    unless_refused 7 events_refused inputs read (λ events. answer_from a tree events inputs None)
 
 -- what is answered by the bytes of the file of events, which may be missing
 abbrev pub answer_by_file : Asked → Tree → Word → List Word → Option Bytes → Answer
 answer_by_file a tree name inputs None = missing name (inputs ++ name ∷ [])
-answer_by_file a tree name inputs (Some bytes) = answer_by_events a tree (inputs ++ name ∷ []) (events_of bytes (ins_of tree))
+answer_by_file a tree name inputs (Some bytes) =
+    answer_by_events a tree (inputs ++ name ∷ []) (events_of bytes (ins_of tree))

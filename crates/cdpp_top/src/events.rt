@@ -1,5 +1,5 @@
 // The events of a run, and the run.
-ghost use Rattle.std.specs.Prelude.{◌≡◌, ◌≤◌, List, IfSome, length};
+ghost use Rattle.std.specs.Prelude.{◌≡◌, ◌+◌, ◌≤◌, List, IfSome, length};
 ghost use Rattle.model_tree.specs.Tree.{Word, ins_of};
 ghost use Rattle.event_list.specs.Events.{events_of};
 ghost use Rattle.answer_model.specs.Cdpp.{answer_with};
@@ -8,6 +8,7 @@ ghost use Rattle.asked_words.specs.Shown.{asked_of};
 ghost use Rattle.cdpp_top.specs.Starting.{tree_on, MayStart};
 ghost use Rattle.cdpp_top.specs.Statuses.{EndsBy};
 ghost use Rattle.cdpp_top.specs.Reading.{answer_by_file, answer_by_events};
+ghost use Rattle.cdpp_top.specs.Visits.{visits_by_events, visits_by_file, visits_with};
 
 use crate::run::run_from;
 use crate::tell::tell_events;
@@ -42,6 +43,8 @@ pub(crate) fn run_with_events<R: Room, M: AtomicModel, L: Ledger>(
         (answer_with (asked_of asked.now) files (tree_on model stock) inputs)
         (looked_for inputs) (R.outside room.old) (R.outside room.new) result) }
     ensures causes { EndsBy (R.outside room.old) (R.outside room.new) result }
+    ensures visits { IfSome (R.outside room.old).files (λ files. steps.new ≤ steps.old
+        + visits_with (asked_of asked.now) files (tree_on model stock)) }
 {
     match asked.events {
         None => {
@@ -68,6 +71,8 @@ fn run_with_file<R: Room, M: AtomicModel, L: Ledger>(
         (answer_by_file (asked_of asked.now) (tree_on model stock) name.now inputs (files name.now))
         (looked_for inputs) (R.outside room.old) (R.outside room.new) result) }
     ensures causes { EndsBy (R.outside room.old) (R.outside room.new) result }
+    ensures visits { IfSome (R.outside room.old).files (λ files. steps.new ≤ steps.old
+        + visits_by_file (asked_of asked.now) (tree_on model stock) (files name.now)) }
 {
     match read_whole(alloc, room, name, LONGEST) {
         Ok(bytes) => run_with_bytes(alloc, room, asked, &bytes, model, routes, stock, steps),
@@ -98,6 +103,8 @@ fn run_with_bytes<R: Room, M: AtomicModel, L: Ledger>(
         (events_of bytes.now (ins_of (tree_on model stock))))
         (looked_for inputs) (R.outside room.old) (R.outside room.new) result }
     ensures causes { EndsBy (R.outside room.old) (R.outside room.new) result }
+    ensures visits { steps.new ≤ steps.old + visits_by_events (asked_of asked.now)
+        (tree_on model stock) (events_of bytes.now (ins_of (tree_on model stock))) }
 {
     accepted_events_are_at_ports();
     let read = Events::read(alloc, bytes, &model.top().ins);

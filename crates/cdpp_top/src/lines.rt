@@ -1,20 +1,10 @@
 // Lines that are complained.
-ghost use Rattle.std.specs.Prelude.{◌≡◌, ◌++◌, IfOk};
+ghost use Rattle.std.specs.Prelude.{◌≡◌, IfOk};
 ghost use Rattle.text_forms.specs.Lines.{ended};
 ghost use Rattle.answer_model.specs.Answer.{refused_text};
 
 use quantity::OutOfMemory;
 use std::alloc::Global;
-
-/// What is said of a file of this name.
-pub(crate) fn named_line(alloc: Global, what: &[u8], name: &[u8]) -> Result<Vec<u8>, OutOfMemory>
-    ensures { IfOk result (λ line. line.items ≡ ended (what.now ++ name.now)) }
-{
-    let mut line = what.to_vec(alloc)?;
-    line.extend_from_slice(name)?;
-    line.extend_from_slice(b"\n")?;
-    Ok(line)
-}
 
 /// What is refused, at which line and why.
 pub(crate) fn refused_line(

@@ -1,5 +1,5 @@
 // The program.
-ghost use Rattle.std.specs.Prelude.{◌≡◌, ◌<◌, ◌^◌, [], length, map, IfSome};
+ghost use Rattle.std.specs.Prelude.{◌≡◌, ◌+◌, ◌<◌, ◌≤◌, ◌^◌, [], length, map, IfSome};
 ghost use Rattle.std.specs.String.{string_bytes};
 ghost use Rattle.answer_model.specs.Asked.{asked as asked_by_words};
 ghost use Rattle.answer_model.specs.Cdpp.{answer_to};
@@ -10,6 +10,7 @@ ghost use Rattle.answer_model.specs.Programs.{CdppEnds};
 ghost use Rattle.asked_words.specs.Shown.{asked_of, IsInBounds};
 ghost use Rattle.cdpp_top.specs.Starting.{classes_by};
 ghost use Rattle.cdpp_top.specs.Statuses.{statuses, EndsBy};
+ghost use Rattle.cdpp_top.specs.Visits.{visits_for, visits_to};
 
 use crate::reading::read_asked;
 use asked_words::{Asked, read_words};
@@ -44,6 +45,11 @@ pub fn cdpp<R: Room, L: Ledger>(
     ensures causes { Causes statuses (asked_by_words (map string_bytes words.now))
         (R.outside room.old) (R.outside room.new) result }
     ensures nothing { result ≡ 4 → WritesNothing (R.outside room.old) (R.outside room.new) }
+    // At most the visits that the reference run of what is asked for may cost: each leaf once, and then
+    // in each cycle only for the values given and for the leaves that move.
+    ensures visits { IfSome (R.outside room.old).files (λ files. steps.new ≤ steps.old
+        + visits_for (map string_bytes words.now) files
+        (classes_by (λ b. (AtomicModel-box b).held b.value) boxes.items)) }
 {
     cdpp_over(alloc, words, boxes, room, steps)
 }
@@ -62,6 +68,8 @@ pub fn cdpp_over<R: Room, M: AtomicModel, L: Ledger>(
     ensures causes { Causes statuses (asked_by_words (map string_bytes words.now))
         (R.outside room.old) (R.outside room.new) result }
     ensures nothing { result ≡ 4 → WritesNothing (R.outside room.old) (R.outside room.new) }
+    ensures visits { IfSome (R.outside room.old).files (λ files. steps.new ≤ steps.old
+        + visits_for (map string_bytes words.now) files (classes_by (λ m. M.held m) boxes.items)) }
 {
     match read_words(alloc, words) {
         Ok(Some(asked)) => run_asked(alloc, room, &asked, boxes, steps),
@@ -88,6 +96,8 @@ fn run_asked<R: Room, M: AtomicModel, L: Ledger>(
         (answer_to (asked_of asked.now) files (classes_by (λ m. M.held m) boxes.items))
         (looked_for []) (R.outside room.old) (R.outside room.new) result) }
     ensures causes { EndsBy (R.outside room.old) (R.outside room.new) result }
+    ensures visits { IfSome (R.outside room.old).files (λ files. steps.new ≤ steps.old
+        + visits_to (asked_of asked.now) files (classes_by (λ m. M.held m) boxes.items)) }
 {
     let Ok(stock) = Stock::new(alloc, boxes) else {
         return NO_MEMORY;

@@ -1,5 +1,5 @@
 // The model that is asked for, and its run.
-ghost use Rattle.std.specs.Prelude.{◌≡◌, ◌≤◌, None, [], IfSome, IfOk, IsTrue, not};
+ghost use Rattle.std.specs.Prelude.{◌≡◌, ◌+◌, ◌≤◌, None, [], IfSome, IfOk, IsTrue, not};
 ghost use Rattle.std.specs.List.{list_all};
 ghost use Rattle.std.specs.Option.{option_map};
 ghost use Rattle.model_stock.specs.Settled.{classes_of};
@@ -13,6 +13,7 @@ ghost use Rattle.asked_words.specs.Shown.{asked_of, source_of, frames_of, IsInBo
 ghost use Rattle.cdpp_top.specs.Starting.{tree_on};
 ghost use Rattle.cdpp_top.specs.Statuses.{EndsBy};
 ghost use Rattle.cdpp_top.specs.Reading.{source_read};
+ghost use Rattle.cdpp_top.specs.Visits.{visits_to};
 
 use crate::events::run_with_events;
 use crate::tell::tell_model;
@@ -41,6 +42,8 @@ pub(crate) fn read_asked<R: Room, M: AtomicModel, L: Ledger>(
         (answer_to (asked_of asked.now) files (classes_of stock)) (looked_for [])
         (R.outside room.old) (R.outside room.new) result) }
     ensures causes { EndsBy (R.outside room.old) (R.outside room.new) result }
+    ensures visits { IfSome (R.outside room.old).files (λ files. steps.new ≤ steps.old
+        + visits_to (asked_of asked.now) files (classes_of stock)) }
 {
     let mut stock = stock;
     match read_source(alloc, room, asked, &mut stock) {

@@ -5,13 +5,13 @@ ghost use Rattle.answer_model.specs.Answer.{refused_text};
 ghost use Rattle.answer_model.specs.Endings.{Says};
 ghost use Rattle.cdpp_top.specs.Reading.{TellsModel, TellsEvents};
 
-use crate::lines::{named_line, refused_line};
+use crate::lines::refused_line;
 use event_list::EventRefusal;
 use model_read::ModelRefusal;
 use room_edge::Room;
 use std::alloc::Global;
-use told_lines::complain;
 use told_lines::status::{EVENTS_REFUSED, MISSING, MODEL_REFUSED, NO_MEMORY, READ_FAULT};
+use told_lines::{complain, complain_of};
 
 /// Tells why there is no model, as far as it can.
 pub(crate) fn tell_model<R: Room>(alloc: Global, room: &mut R, why: ModelRefusal) -> u8
@@ -19,10 +19,10 @@ pub(crate) fn tell_model<R: Room>(alloc: Global, room: &mut R, why: ModelRefusal
 {
     match why {
         ModelRefusal::Missing(name) => {
-            tell_named(alloc, room, b"missing: ", name.as_bytes(), MISSING)
+            complain_of(alloc, room, b"missing: ", name.as_bytes(), MISSING)
         }
         ModelRefusal::ReadFault(name) => {
-            tell_named(alloc, room, b"read fault: ", name.as_bytes(), READ_FAULT)
+            complain_of(alloc, room, b"read fault: ", name.as_bytes(), READ_FAULT)
         }
         ModelRefusal::Refused { line, kind } => tell_refused(
             alloc,
@@ -54,17 +54,6 @@ fn refuse_events<R: Room>(alloc: Global, room: &mut R, line: u32, why: &[u8]) ->
         (R.outside room.old) (R.outside room.new) result }
 {
     tell_refused(alloc, room, b"events", line, why, EVENTS_REFUSED)
-}
-
-/// Complains of a file by its name.
-fn tell_named<R: Room>(alloc: Global, room: &mut R, what: &[u8], name: &[u8], status: u8) -> u8
-    ensures { Says (ended (what.now ++ name.now)) status
-        (R.outside room.old) (R.outside room.new) result }
-{
-    let Ok(line) = named_line(alloc, what, name) else {
-        return NO_MEMORY;
-    };
-    complain(room, &line, status)
 }
 
 /// Complains of what is refused.

@@ -2,37 +2,39 @@
 #![tactic(auto)]
 
 use drawlog_top::drawlog;
+use quantity::OutOfMemory;
 use room_edge::FolderRoom;
-use std::env;
+use std::alloc::AllocError;
+use std::env::{self, Env};
 use std::io::ErrorKind;
 use std::process::ExitCode;
-use told_lines::status::{NO_MEMORY, USAGE, WRITE_FAULT};
+use told_lines::status::NO_MEMORY;
 
-// Words that are no text are refused as all others that the program doesn't take.
-fn refuse(rt: &impl Eprint) -> u8 {
-    match rt.eprintln(
-        "usage: drawlog -l LOG -g GROUP -s SIZE [-w WIDTH] [-p DECIMALS] [-f PLANE]",
-    ) {
-        Ok(()) => USAGE,
-        Err(_) => WRITE_FAULT,
+/// The words of the command line. Where one of them is no text, the name of the program stands alone, so
+/// that the program refuses them as all others that it doesn't take.
+fn words_of(rt: &(impl AllocGlobal + Env)) -> Result<Vec<String>, OutOfMemory> {
+    let mut words: Vec<String> = Vec::new(rt.alloc());
+    match env::args(rt) {
+        Ok(args) => {
+            for word in args {
+                words.push(word).map_err(AllocError::from)?;
+            }
+        }
+        Err(error) => match error.kind() {
+            ErrorKind::OutOfMemory => return Err(OutOfMemory),
+            _ => words
+                .push(String::from_str(rt.alloc(), "drawlog")?)
+                .map_err(AllocError::from)?,
+        },
     }
+    Ok(words)
 }
 
 fn main(rt: HostRuntime) -> ExitCode {
     let alloc = rt.alloc();
-    let mut words: Vec<String> = Vec::new(alloc);
-    let args = match env::args(&rt) {
-        Ok(args) => args,
-        Err(error) => match error.kind() {
-            ErrorKind::OutOfMemory => return ExitCode::from(NO_MEMORY),
-            _ => return ExitCode::from(refuse(&rt)),
-        },
+    let Ok(words) = words_of(&rt) else {
+        return ExitCode::from(NO_MEMORY);
     };
-    for word in args {
-        let Ok(()) = words.push(word) else {
-            return ExitCode::from(NO_MEMORY);
-        };
-    }
     let mut room = FolderRoom::new(rt);
     ExitCode::from(drawlog(alloc, &words, &mut room))
 }

@@ -26,7 +26,8 @@ statuses = 2 ∷ read_statuses
 
 -- where the files are told, the outcome is the answer's
 abbrev pub DrawingEnds : List Word → Outside → Outside → ℕ → Type 0
-DrawingEnds words old new status = IfSome old.files (λ files. Outcome (drawing_answer words files) old new status)
+DrawingEnds words old new status =
+    IfSome old.files (λ files. Outcome (drawing_answer words files) old new status)
 
 -- each status has its cause
 abbrev pub DrawingCauses : List Word → Outside → Outside → ℕ → Type 0

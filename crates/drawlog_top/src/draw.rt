@@ -19,7 +19,8 @@ use told_lines::status::NO_MEMORY;
 pub(crate) fn draw<R: Room>(alloc: Global, room: &mut R, asked: &AskedDrawing<'_>, log: &[u8]) -> u8
     requires picture { CanDraw asked.now.space asked.now.plane asked.now.width asked.now.decimals }
     requires short { length log.now ≤ 268435456 }
-    ensures ends { EndsWith (drawn_answer (drawing_of asked.now) log.now (asked.now.log.now ∷ [])) (looked_for (asked.now.log.now ∷ [])) (R.outside room.old) (R.outside room.new) result }
+    ensures ends { EndsWith (drawn_answer (drawing_of asked.now) log.now (asked.now.log.now ∷ []))
+        (looked_for (asked.now.log.now ∷ [])) (R.outside room.old) (R.outside room.new) result }
     ensures known { Contains drawn_statuses result }
     ensures write_fault { result ≡ 5 → WriteFaultCounted (R.outside room.old) (R.outside room.new) }
 {

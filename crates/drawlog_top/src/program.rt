@@ -23,7 +23,9 @@ const MOST_BYTES: u32 = MAX_LOG_BYTES as u32;
 // Reads the log and draws it.
 fn draw_asked<R: Room>(alloc: Global, room: &mut R, asked: &AskedDrawing<'_>) -> u8
     requires { CanDraw asked.now.space asked.now.plane asked.now.width asked.now.decimals }
-    ensures ends { IfSome (R.outside room.old).files (λ files. EndsWith (answer_to_file (drawing_of asked.now) (files asked.now.log.now)) (looked_for []) (R.outside room.old) (R.outside room.new) result) }
+    ensures ends { IfSome (R.outside room.old).files
+        (λ files. EndsWith (answer_to_file (drawing_of asked.now) (files asked.now.log.now))
+        (looked_for []) (R.outside room.old) (R.outside room.new) result) }
     ensures known { Contains read_statuses result }
     ensures missing { result ≡ 3 → MissCounted (R.outside room.old) (R.outside room.new) }
     ensures read_fault { result ≡ 4 → ReadFaultCounted (R.outside room.old) (R.outside room.new) }
@@ -48,10 +50,12 @@ fn draw_asked<R: Room>(alloc: Global, room: &mut R, asked: &AskedDrawing<'_>) ->
 pub fn drawlog<R: Room>(alloc: Global, words: &[String], room: &mut R) -> u8
     // Where the files are told: the answer whole, or what a fault or want of memory leaves of it,
     // with the line of that fault.
-    ensures ends { DrawingEnds (map string_bytes words.now) (R.outside room.old) (R.outside room.new) result }
+    ensures ends { DrawingEnds (map string_bytes words.now) (R.outside room.old)
+        (R.outside room.new) result }
     // Over every room: each status only where its cause was counted, and 2 just where the words
     // are refused and the complaint didn't fail.
-    ensures causes { DrawingCauses (map string_bytes words.now) (R.outside room.old) (R.outside room.new) result }
+    ensures causes { DrawingCauses (map string_bytes words.now) (R.outside room.old)
+        (R.outside room.new) result }
     ensures nothing { result ≡ 4 → WritesNothing (R.outside room.old) (R.outside room.new) }
 {
     match read_drawing_words(alloc, words) {

@@ -11,7 +11,9 @@ use std::alloc::Global;
 
 /// Runs the drawing program over a room that never fails: what comes is the answer, but for want of memory.
 pub fn drawlog_surely(alloc: Global, words: &[String], room: &mut SureRoom) -> u8
-    ensures { IfSome (sure_outside room.old).files (λ files. (result ≡ 12) ⊎ Writes (drawing_answer (map string_bytes words.now) files) (sure_outside room.old) (sure_outside room.new) result) }
+    ensures { IfSome (sure_outside room.old).files (λ files. (result ≡ 12)
+        ⊎ Writes (drawing_answer (map string_bytes words.now) files) (sure_outside room.old)
+        (sure_outside room.new) result) }
 {
     drawlog(alloc, words, room)
 }

@@ -20,7 +20,8 @@ ones_after ones [] = ones
 ones_after ones (r ∷ rs) = ones_after (slice_set ones r.leaf (same_value r.value (whole 1))) rs
 
 abbrev pub counts_after : Cycle → Counts → Counts
-counts_after c k = record { y = k.y + length c.y; s = k.s + length c.s; ones = ones_after k.ones c.y }
+counts_after c k =
+    record { y = k.y + length c.y; s = k.s + length c.s; ones = ones_after k.ones c.y }
 
 -- after some cycles
 abbrev pub counts_of : List Cycle → Counts → Counts

@@ -24,7 +24,8 @@ IsGroup (Some p) None = ⊥
 -- the leaf is a cell of a group of this name
 abbrev pub IsCellOf : Word → GroupAt → Leaf → Type 0
 IsCellOf name p (atomic_leaf n class settings) = ⊥
-IsCellOf name p (cell_leaf g first cell) = (bytes_eq g.name name ≡ true) × (p.first ≡ first) × (p.grid ≡ g.space)
+IsCellOf name p (cell_leaf g first cell) =
+    (bytes_eq g.name name ≡ true) × (p.first ≡ first) × (p.grid ≡ g.space)
 
 -- the leaf is no cell of a group of this name
 abbrev pub IsNoCellOf : Word → Leaf → Type 0
@@ -39,7 +40,9 @@ Looks name (Other passed) l = IsNoCellOf name l
 -- the group of this number, where one was passed, has another name
 abbrev pub IsPassed : Model → Word → Option ℕ → Type 0
 IsPassed m name None = ⊤
-IsPassed m name (Some number) = (settings : Settings) (g : Group) → slice_get (groups (tree_of m settings)) number ≡ Some g → bytes_eq g.name name ≡ false
+IsPassed m name (Some number) =
+    (settings : Settings) (g : Group) → slice_get (groups (tree_of m settings)) number ≡ Some g
+    → bytes_eq g.name name ≡ false
 
 abbrev pub StillPassed : Model → Word → Looked → Type 0
 StillPassed m name (Here p) = ⊤

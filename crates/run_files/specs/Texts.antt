@@ -26,7 +26,8 @@ no_texts = record { log = []; out = []; frames = [] }
 
 -- the texts, and more behind each
 abbrev pub both : Texts → Texts → Texts
-both t more = record { log = t.log ++ more.log; out = t.out ++ more.out; frames = t.frames ++ more.frames }
+both t more =
+    record { log = t.log ++ more.log; out = t.out ++ more.out; frames = t.frames ++ more.frames }
 
 -- bytes for one of the files
 abbrev pub only : Output → Bytes → Texts

@@ -14,13 +14,16 @@ use Rattle.run_files.specs.Texts.{Names, Texts, no_texts, both, files, name_at, 
 
 -- these texts were added to the files, and nothing else was done
 pub record Adds (n : Names) (more : Texts) (old new : Outside) : Type 0 where
-  pub leads : (t : Texts) (a : Answer) (inputs : List Word) → LeadsTo a (made_after inputs (files n t)) (made_after inputs (files n (both t more))) old new
+  pub leads : (t : Texts) (a : Answer) (inputs : List Word)
+      → LeadsTo a (made_after inputs (files n t)) (made_after inputs (files n (both t more))) old
+      new
   pub created : new.created ≡ old.created
   pub keeps : KeepsWriteFaults old new
 
 -- where a file could not be written, it lacks bytes
 abbrev pub LacksIn : Unwritten → Names → Texts → Texts → Type 0
-LacksIn (Fault file) n part whole = IsSome (name_at n file) × (text_at part file ≢ text_at whole file)
+LacksIn (Fault file) n part whole =
+    IsSome (name_at n file) × (text_at part file ≢ text_at whole file)
 LacksIn Memory n part whole = ⊤
 
 -- and the fault was counted
@@ -44,42 +47,50 @@ Writes n whole old new (Err why) = Falls n why whole old new
 
 -- one file was made, where there is to be one
 pub record Makes (name : Option Word) (old new : Outside) : Type 0 where
-  pub leads : (fs : Files) (a : Answer) (inputs : List Word) → LeadsTo a (made_after inputs fs) (made_after inputs (fs ++ file_if name [])) old new
+  pub leads : (fs : Files) (a : Answer) (inputs : List Word)
+      → LeadsTo a (made_after inputs fs) (made_after inputs (fs ++ file_if name [])) old new
   pub created : new.created ≡ old.created ++ option_to_list name
   pub keeps : KeepsWriteFaults old new
 
 -- no file was made
 pub record MakesNone (old new : Outside) : Type 0 where
-  pub leads : (fs : Files) (a : Answer) (inputs : List Word) → LeadsTo a (made_after inputs fs) (made_after inputs fs) old new
+  pub leads : (fs : Files) (a : Answer) (inputs : List Word)
+      → LeadsTo a (made_after inputs fs) (made_after inputs fs) old new
   pub keeps : KeepsWriteFaults old new
 
 abbrev pub IsThere : Unwritten → Names → Output → Type 0
 IsThere (Fault file) n f = IsSome (name_at n file) × (file ≡ f)
 IsThere Memory n f = ⊤
 
-abbrev pub MakesOne : {T : Type 0} → Names → Output → Outside → Outside → Result T Unwritten → Type 0
+abbrev pub MakesOne : {T : Type 0} → Names → Output → Outside → Outside → Result T Unwritten
+    → Type 0
 MakesOne n file old new (Ok _) = Makes (name_at n file) old new
-MakesOne n file old new (Err why) = MakesNone old new × IsThere why n file × FaultCounted why old new
+MakesOne n file old new (Err why) =
+    MakesNone old new × IsThere why n file × FaultCounted why old new
 
 -- the files before this one were made, and this one wasn't
 pub record FallsMaking (n : Names) (why : Unwritten) (old new : Outside) : Type 0 where
   pub file : Output
   pub there : IsThere why n file
-  pub leads : (a : Answer) (inputs : List Word) → LeadsTo a (looked_for inputs) (made_after inputs (made_before n file)) old new
+  pub leads : (a : Answer) (inputs : List Word)
+      → LeadsTo a (looked_for inputs) (made_after inputs (made_before n file)) old new
   pub keeps : KeepsWriteFaults old new
   pub fault : FaultCounted why old new
 
 -- all files were made
 pub record MakesAll (n : Names) (old new : Outside) : Type 0 where
-  pub leads : (a : Answer) (inputs : List Word) → LeadsTo a (looked_for inputs) (made_after inputs (files n no_texts)) old new
-  pub created : new.created ≡ old.created ++ option_to_list n.log ++ option_to_list n.out ++ option_to_list n.frames
+  pub leads : (a : Answer) (inputs : List Word)
+      → LeadsTo a (looked_for inputs) (made_after inputs (files n no_texts)) old new
+  pub created : new.created ≡ old.created ++ option_to_list n.log ++ option_to_list n.out
+      ++ option_to_list n.frames
   pub keeps : KeepsWriteFaults old new
 
 -- ---- what is told of it
 
 -- a line tells of the file that lacks bytes; for want of memory there is none
 abbrev pub Tells : Names → Unwritten → Outside → Outside → ℕ → Type 0
-Tells n (Fault file) old new status = IfSome (name_at n file) (λ name. Says (write_fault_line name) 5 old new status)
+Tells n (Fault file) old new status =
+    IfSome (name_at n file) (λ name. Says (write_fault_line name) 5 old new status)
 Tells n Memory old new status = (status ≡ 12) × (new ≡ old)
 
 -- all files were made, or those before one that wasn't

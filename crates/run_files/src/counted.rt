@@ -61,7 +61,8 @@ impl Counted {
 
     /// Counts the records of a cycle. A count past 64 bits is want of memory.
     fn add(&mut self, records: &Records) -> Result<(), OutOfMemory>
-        ensures { OnOk result ((c : Cycle) → Holds records.now c → self.new ≡ counts_after c self.old) }
+        ensures { OnOk result ((c : Cycle) → Holds records.now c
+            → self.new ≡ counts_after c self.old) }
     {
         self.y = sum(self.y, records.y.len())?;
         self.s = sum(self.s, records.s.len())?;

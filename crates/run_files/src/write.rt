@@ -15,7 +15,8 @@ pub(crate) fn write_to<R: Room>(
 ) -> Result<(), Unwritten>
     requires apart { AreApart (names_of named.now) }
     requires created { AreCreated (names_of named.now) (R.outside room.old).created }
-    ensures { Writes (names_of named.now) (only file piece.now) (R.outside room.old) (R.outside room.new) result }
+    ensures { Writes (names_of named.now) (only file piece.now) (R.outside room.old)
+        (R.outside room.new) result }
 {
     let Some(name) = named.name(file) else {
         return Ok(());

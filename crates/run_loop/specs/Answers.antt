@@ -26,7 +26,8 @@ pub record MayRun (o : Outputs) (s : Standing) : Type 0 where
 -- what is answered to it, where these files were looked for
 abbrev pub answer_to : Asked → Standing → List Word → Answer
 answer_to a s inputs =
-    answer_of_run a (tree_in s) s.state.events None inputs (run_on (tree_in s) s.state.events a.end a.limit None)
+    answer_of_run a (tree_in s) s.state.events None inputs
+    (run_on (tree_in s) s.state.events a.end a.limit None)
 
 -- the statuses that a run may end with: done, a write fault, a stop of a cell, too many cycles, want of memory
 abbrev pub run_statuses : List ℕ

@@ -17,7 +17,13 @@ IsSource None (made n) = ⊥
 IsSource (Some size) (made n) = n ≡ size
 
 abbrev pub frames_file_of : FramesFile → asked.FramesFile
-frames_file_of f = record { name = f.name.now; drawing = record { group = f.group.now; plane = f.plane }; width = f.width; decimals = f.decimals }
+frames_file_of f =
+    record {
+      name = f.name.now;
+      drawing = record { group = f.group.now; plane = f.plane };
+      width = f.width;
+      decimals = f.decimals;
+    }
 
 -- the outputs are those of what is asked for, and no seed, saved state or state is
 pub record AreOutputsOf (a : Asked) (o : Outputs) : Type 0 where
@@ -38,4 +44,6 @@ frames_name frames = option_map (λ (f : FramesFile). f.name.now) frames
 
 -- the names of the files that a run is asked to make
 abbrev pub names_asked : Outputs → List Word
-names_asked o = option_to_list (name_of o.log) ++ option_to_list (name_of o.out) ++ option_to_list (frames_name o.frames)
+names_asked o =
+    option_to_list (name_of o.log) ++ option_to_list (name_of o.out)
+    ++ option_to_list (frames_name o.frames)

@@ -24,7 +24,8 @@ abbrev pub frames_with : Outputs → Bool → Option Word
 frames_with o has_frames = if has_frames then frames_name o.frames else None
 
 abbrev pub names_with : Outputs → Bool → Names
-names_with o has_frames = record { log = name_of o.log; out = name_of o.out; frames = frames_with o has_frames }
+names_with o has_frames =
+    record { log = name_of o.log; out = name_of o.out; frames = frames_with o has_frames }
 
 -- the names of the files of a run of this model
 abbrev pub names_in : Outputs → Tree → Names

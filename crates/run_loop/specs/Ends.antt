@@ -35,13 +35,15 @@ end_text end cycles = codes "end " ++ time_text end ++ codes " cycles " ++ decim
 
 abbrev pub made_text : ℕ → ℕ → ℕ → Counts → Bytes
 made_text size cells cycles k =
-    codes "made " ++ decimal size ++ codes " cells " ++ decimal cells ++ codes " cycles " ++ decimal cycles
+    codes "made " ++ decimal size ++ codes " cells " ++ decimal cells ++ codes " cycles "
+    ++ decimal cycles
     ++ codes " y " ++ decimal k.y ++ codes " s " ++ decimal k.s
     ++ codes " ones " ++ decimal (count_by (λ b. b) k.ones)
 
 -- how the leaf of this number is called, or no bytes where there is none
 abbrev pub leaf_called : Tree → ℕ → Bytes
-leaf_called tree leaf = unwrap_or (option_map (λ l. leaf_text (leaf_name l)) (slice_get (leaves tree) leaf)) []
+leaf_called tree leaf =
+    unwrap_or (option_map (λ l. leaf_text (leaf_name l)) (slice_get (leaves tree) leaf)) []
 
 -- ---- what is said of a run
 
@@ -58,11 +60,16 @@ said_by o tree cycles (stop leaf t why) = complains (stop_status why) (stop_line
 
 -- it is said, as far as it can be
 abbrev pub TellsEnd : Outputs → Tree → List Cycle → Verdict → Outside → Outside → ℕ → Type 0
-TellsEnd o tree cycles done old new status = ShowsEnd (ended (done_text o.made o.end tree cycles)) 0 old new status
-TellsEnd o tree cycles (too_many t) old new status = Says (ended (many_line o.limit t)) 11 old new status
-TellsEnd o tree cycles (stop leaf t why) old new status = Says (ended (stop_line tree leaf t why)) (stop_status why) old new status
+TellsEnd o tree cycles done old new status =
+    ShowsEnd (ended (done_text o.made o.end tree cycles)) 0 old new status
+TellsEnd o tree cycles (too_many t) old new status =
+    Says (ended (many_line o.limit t)) 11 old new status
+TellsEnd o tree cycles (stop leaf t why) old new status =
+    Says (ended (stop_line tree leaf t why)) (stop_status why) old new status
 
 -- the cycles were counted, and what the last line of a made model tells
-pub record HasCounted (o : Outputs) (tree : Tree) (cycles : List Cycle) (going : Going) : Type 0 where
-  pub number : going.cycles ≡ length cycles
-  pub counted : going.counted ≡ option_map (λ (size : ℕ). counts_of cycles (no_counts (leaf_count tree))) o.made
+pub record HasCounted (o : Outputs) (tree : Tree) (cycles : List Cycle) (going : Going) : Type 0
+  where
+    pub number : going.cycles ≡ length cycles
+    pub counted : going.counted ≡ option_map
+        (λ (size : ℕ). counts_of cycles (no_counts (leaf_count tree))) o.made

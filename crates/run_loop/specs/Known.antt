@@ -10,4 +10,5 @@ use Rattle.run_model.specs.Fitting.{NamesItsParts}
 abbrev pub RunsAreFit : Type 0
 RunsAreFit =
     (tree : Tree) (events : List Event) (end limit : ℕ)
-    → All (NamesItsParts tree) (run tree events end limit).cycles × InstantsNeverFall 0 (run tree events end limit).cycles
+    → All (NamesItsParts tree) (run tree events end limit).cycles
+    × InstantsNeverFall 0 (run tree events end limit).cycles

@@ -16,7 +16,8 @@ run_of n s = run_from n (tree_in s) s.end s.limit s.state
 
 -- so many cycles are enough for a verdict: no more is due after them
 abbrev pub EndsWithin : ℕ → Standing → Type 0
-EndsWithin n s = let r = run_of n s in Runs (tree_in s) s.end s.limit s.state r.cycles r.verdict r.left
+EndsWithin n s =
+    let r = run_of n s in Runs (tree_in s) s.end s.limit s.state r.cycles r.verdict r.left
 
 -- each further port of a cell of the model has a value at the start
 abbrev pub HaveValues : Tree → Type 0

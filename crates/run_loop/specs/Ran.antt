@@ -20,16 +20,24 @@ pub record HasEnded (r : Run) (old new : Going) (ending : Ending) : Type 0 where
   pub counted : new.counted ≡ option_map (counts_of r.cycles) old.counted
 
 -- all but the last frame was written
-pub record IsWritten (n : Names) (tree : Tree) (letters : List ℕ) (r : Run) (old new : Going) (outside later : Outside) : Type 0 where
+pub record IsWritten (n : Names) (tree : Tree) (letters : List ℕ) (r : Run) (old new : Going)
+    (outside later : Outside) : Type 0 where
   pub texts : Texts
   pub adds : Adds n texts outside later
-  pub whole : both texts (left_texts tree letters new.drawn []) ≡ left_texts tree letters old.drawn r.cycles
+  pub whole : both texts (left_texts tree letters new.drawn []) ≡ left_texts tree letters old.drawn
+      r.cycles
 
-abbrev pub RunsTo : Names → Tree → List ℕ → Run → Going → Going → Outside → Outside → Result Ending Unwritten → Type 0
-RunsTo n tree letters r old new outside later (Ok ending) = HasEnded r old new ending × IsWritten n tree letters r old new outside later
-RunsTo n tree letters r old new outside later (Err why) = Falls n why (left_texts tree letters old.drawn r.cycles) outside later
+abbrev pub RunsTo : Names → Tree → List ℕ → Run → Going → Going → Outside → Outside
+    → Result Ending Unwritten → Type 0
+RunsTo n tree letters r old new outside later (Ok ending) =
+    HasEnded r old new ending × IsWritten n tree letters r old new outside later
+RunsTo n tree letters r old new outside later (Err why) =
+    Falls n why (left_texts tree letters old.drawn r.cycles) outside later
 
 -- the same with the last frame
-abbrev pub RunsWhole : Names → Tree → List ℕ → Run → Going → Going → Outside → Outside → Result Ending Unwritten → Type 0
-RunsWhole n tree letters r old new outside later (Ok ending) = HasEnded r old new ending × Adds n (left_texts tree letters old.drawn r.cycles) outside later
-RunsWhole n tree letters r old new outside later (Err why) = Falls n why (left_texts tree letters old.drawn r.cycles) outside later
+abbrev pub RunsWhole : Names → Tree → List ℕ → Run → Going → Going → Outside → Outside
+    → Result Ending Unwritten → Type 0
+RunsWhole n tree letters r old new outside later (Ok ending) =
+    HasEnded r old new ending × Adds n (left_texts tree letters old.drawn r.cycles) outside later
+RunsWhole n tree letters r old new outside later (Err why) =
+    Falls n why (left_texts tree letters old.drawn r.cycles) outside later

@@ -39,7 +39,8 @@ fn counted_at_start(
     made: Option<u32>,
     model: &Model,
 ) -> Result<Option<Counted>, OutOfMemory>
-    ensures { IfOk result (λ counted. OfTree model.now (λ tree. counted ≡ counts_at_start tree made)) }
+    ensures { IfOk result (λ counted. OfTree model.now
+        (λ tree. counted ≡ counts_at_start tree made)) }
 {
     let Some(_size) = made else {
         return Ok(None);

@@ -82,7 +82,8 @@ pub(crate) fn stopped_line(
     leaf: u32,
     t: Time,
 ) -> Result<Vec<u8>, OutOfMemory>
-    ensures { IfOk result (λ line. OfTree model.now (λ tree. line.items ≡ ended (stopped_at what.now tree leaf t))) }
+    ensures { IfOk result (λ line. OfTree model.now
+        (λ tree. line.items ≡ ended (stopped_at what.now tree leaf t))) }
 {
     let mut line = stopped_text(alloc, model, what, leaf, t)?;
     line.extend_from_slice(b"\n")?;
@@ -115,7 +116,8 @@ fn stopped_text(
     leaf: u32,
     t: Time,
 ) -> Result<Vec<u8>, OutOfMemory>
-    ensures { IfOk result (λ line. OfTree model.now (λ tree. line.items ≡ stopped_at what.now tree leaf t)) }
+    ensures { IfOk result (λ line. OfTree model.now
+        (λ tree. line.items ≡ stopped_at what.now tree leaf t)) }
 {
     let mut line = what.to_vec(alloc)?;
     line.extend_from_slice(b": ")?;
@@ -127,7 +129,8 @@ fn stopped_text(
 
 /// Appends how a leaf is called, where there is one.
 fn put_leaf(model: &Model, leaf: u32, into: &mut Vec<u8>) -> Result<(), OutOfMemory>
-    ensures { OnOk result (OfTree model.now (λ tree. into.new.items ≡ into.old.items ++ leaf_called tree leaf)) }
+    ensures { OnOk result (OfTree model.now (λ tree. into.new.items ≡ into.old.items
+        ++ leaf_called tree leaf)) }
 {
     if leaf < model.leaves() {
         model.leaf_text(leaf, into)

@@ -79,7 +79,8 @@ fn run_created<R: Room, Q: TimeQueue, M: AtomicModel, L: Ledger>(
     requires apart { AreApart (names_of named.now) }
     requires created { AreCreated (names_of named.now) (R.outside room.old).created }
     requires begins { BeginsWith outputs.now (tree_in run.old) going.old }
-    requires cycles { AreFit (tree_in run.old) going.old.drawn (run_of (most outputs.now.end outputs.now.limit) run.old).cycles }
+    requires cycles { AreFit (tree_in run.old) going.old.drawn
+        (run_of (most outputs.now.end outputs.now.limit) run.old).cycles }
     requires values { HaveValues (tree_in run.old) }
     requires whole { EndsWithin (most outputs.now.end outputs.now.limit) run.old }
     ensures ends { let r = run_of (most outputs.now.end outputs.now.limit) run.old in

@@ -21,6 +21,17 @@ pub fn complain<R: Room>(room: &mut R, line: &[u8], status: u8) -> u8
     }
 }
 
+/// Complains of a file whose name is these bytes.
+pub fn complain_of<R: Room>(alloc: Global, room: &mut R, what: &[u8], name: &[u8], status: u8) -> u8
+    ensures { Says (ended (what.now ++ name.now)) status
+        (R.outside room.old) (R.outside room.new) result }
+{
+    let Ok(line) = named_line(alloc, what, name) else {
+        return NO_MEMORY;
+    };
+    complain(room, &line, status)
+}
+
 /// Complains of a file or a stream.
 pub fn complain_named<R: Room>(
     alloc: Global,
@@ -29,12 +40,10 @@ pub fn complain_named<R: Room>(
     name: &str,
     status: u8,
 ) -> u8
-    ensures { Says (ended (what.now ++ name.now)) status (R.outside room.old) (R.outside room.new) result }
+    ensures { Says (ended (what.now ++ name.now)) status
+        (R.outside room.old) (R.outside room.new) result }
 {
-    let Ok(line) = named_line(alloc, what, name) else {
-        return NO_MEMORY;
-    };
-    complain(room, &line, status)
+    complain_of(alloc, room, what, name.as_bytes(), status)
 }
 
 /// Tells of a write that failed, as far as it can.

@@ -6,6 +6,5 @@ mod lines;
 mod shown;
 pub mod status;
 
-pub use complaints::{complain, complain_named, write_fault};
-pub use lines::named_line;
+pub use complaints::{complain, complain_named, complain_of, write_fault};
 pub use shown::show;

@@ -6,11 +6,11 @@ use quantity::OutOfMemory;
 use std::alloc::Global;
 
 /// What is said of a file or a stream, on a line of its own.
-pub fn named_line(alloc: Global, what: &[u8], name: &str) -> Result<Vec<u8>, OutOfMemory>
+pub(crate) fn named_line(alloc: Global, what: &[u8], name: &[u8]) -> Result<Vec<u8>, OutOfMemory>
     ensures { IfOk result (λ line. line.items ≡ ended (what.now ++ name.now)) }
 {
     let mut line = what.to_vec(alloc)?;
-    line.extend_from_slice(name.as_bytes())?;
+    line.extend_from_slice(name)?;
     line.extend_from_slice(b"\n")?;
     Ok(line)
 }

@@ -1,4 +1,4 @@
-use Rattle.std.proofs.Common.{◌≤◌, List, length, sym, ap, ◌∙◌, subst}
+use Rattle.std.proofs.Common.{◌+◌, ◌≤◌, List, length, sym, ap, ◌∙◌, subst}
 use Rattle.std.specs.declared.result.Result.{Result}
 use Rattle.model_tree.specs.declared.component.Coupled.{Coupled}
 use Rattle.model_tree.specs.Tree.{ins_of}
@@ -9,6 +9,7 @@ use Rattle.asked_words.specs.Shown.{asked_of}
 use Rattle.answer_model.specs.Endings.{looked_for, EndsWith}
 use Rattle.cdpp_top.specs.Starting.{tree_on}
 use Rattle.cdpp_top.specs.Reading.{answer_by_events}
+use Rattle.cdpp_top.specs.Visits.{visits_by_events}
 use Rattle.cdpp_top.proofs.Causing.{nothing_read, events_told}
 use Rattle.cdpp_top.proofs.Files.{events_stop}
 use Rattle.cdpp_top.proofs.Groups.{sound_is}
@@ -50,3 +51,12 @@ pub returns-in-Err-clause-causes : goal.returns-in-Err-clause-causes
 returns-in-Err-clause-causes g c =
     let o = g.R.Room.outside c.args.room.now in
     events_told c.in-Err.why o o _ c.tell_events.result (nothing_read o) c.tell_events.ensures
+
+pub returns-in-Ok-clause-visits : goal.returns-in-Ok-clause-visits
+returns-in-Ok-clause-visits g c =
+    let a = asked_of c.args.asked.now in
+    let bytes = c.args.bytes.now in
+    let tree = tree_on c.args.model c.args.stock in
+    let ports = c.deref.ensures.value ∙ ap (λ (top : Coupled). top.ins.items) c.top.ensures in
+    let is = sym (ap (events_of bytes) ports) ∙ c.in-Ok.ensures.ok in
+    subst (λ (r : Result (List Event) EventRefusal). c.run_from.new.steps ≤ c.args.steps.now + visits_by_events a tree r) (sym is) c.run_from.ensures.visits

@@ -1,10 +1,12 @@
-use Rattle.std.proofs.Common.{List, ap}
+use Rattle.std.proofs.Common.{ℕ, ◌+◌, ◌≤◌, Option, List, sym, ap, subst}
 use Rattle.std.proofs.lemmas.Option.{IfSome_then}
 use Rattle.model_tree.specs.Tree.{Word}
+use Rattle.run_model.specs.Run.{Event}
 use Rattle.asked_words.specs.Shown.{name_of, asked_of}
 use Rattle.answer_model.specs.Endings.{looked_for, EndsWith}
 use Rattle.cdpp_top.specs.Starting.{tree_on}
 use Rattle.cdpp_top.specs.Reading.{answer_by_file}
+use Rattle.cdpp_top.specs.Visits.{run_visits, visits_by_file, visits_by_name, visits_with}
 use Rattle.cdpp_top.proofs.Files.{no_events, some_events}
 use Rattle.cdpp_top.proofs.Reached.{if_some_all}
 use Rattle.cdpp_top.proofs.events.run_with_events.Goals as goal
@@ -26,3 +28,23 @@ returns-in-Some-clause-ends g c =
     let given = c.run_with_file.result in
     IfSome_then old.files {P = λ files. (inputs : List Word) → EndsWith (answer_by_file (asked_of a) tree name inputs (files name)) (looked_for inputs) old new given} c.run_with_file.ensures.ends
     (λ files ends inputs. some_events a files tree inputs name old new given (ap name_of c.in-Some.is) (ends inputs))
+
+pub returns-in-None-clause-visits : goal.returns-in-None-clause-visits
+returns-in-None-clause-visits g c =
+    let old = g.R.Room.outside c.args.room.now in
+    let a = asked_of c.args.asked.now in
+    let tree = tree_on c.args.model c.args.stock in
+    let within = λ (k : ℕ). c.run_from.new.steps ≤ c.args.steps.now + k in
+    if_some_all old.files (λ files. within (visits_with a files tree)) (λ files.
+    subst (λ (o : Option Word). within (visits_by_name a files tree o)) (sym (ap name_of c.in-None.is))
+    (subst (λ (events : List Event). within (run_visits a tree events)) c.none-none.ensures c.run_from.ensures.visits))
+
+pub returns-in-Some-clause-visits : goal.returns-in-Some-clause-visits
+returns-in-Some-clause-visits g c =
+    let old = g.R.Room.outside c.args.room.now in
+    let a = asked_of c.args.asked.now in
+    let tree = tree_on c.args.model c.args.stock in
+    let name = c.in-Some.name.now in
+    let within = λ (k : ℕ). c.run_with_file.new.steps ≤ c.args.steps.now + k in
+    IfSome_then old.files {P = λ files. within (visits_by_file a tree (files name))} {Q = λ files. within (visits_with a files tree)} c.run_with_file.ensures.visits
+    (λ files v. subst (λ (o : Option Word). within (visits_by_name a files tree o)) (sym (ap name_of c.in-Some.is)) v)

@@ -1,4 +1,4 @@
-use Rattle.std.proofs.Common.{List, Some, None, [], ◌∷◌, ◌++◌, refl, sym, ◌∙◌, ap, subst, arith, lit<}
+use Rattle.std.proofs.Common.{ℕ, ◌+◌, ◌≤◌, Option, List, Some, None, [], ◌∷◌, ◌++◌, refl, sym, ◌∙◌, ap, subst, arith, lit<}
 use Rattle.std.proofs.lemmas.List.{append-nil}
 use Rattle.std.proofs.lemmas.Option.{IfSome_then}
 use Rattle.model_tree.specs.Tree.{Word, ins_of}
@@ -11,6 +11,8 @@ use Rattle.answer_model.specs.Endings.{looked_for, EndsWith}
 use Rattle.answer_model.proofs.Stages.{then_ends, was_tried, read_failed, read_and_said, read_unread}
 use Rattle.cdpp_top.specs.Starting.{tree_on}
 use Rattle.cdpp_top.specs.Reading.{answer_by_events, answer_by_file}
+use Rattle.cdpp_top.specs.Visits.{visits_by_events, visits_by_file}
+use Rattle.quantity.specs.Bytes.{Bytes}
 use Rattle.cdpp_top.proofs.Causing.{later_ends, said_ends, events_told, memory_ends}
 use Rattle.cdpp_top.proofs.Files.{file_begins, long_refused}
 use Rattle.cdpp_top.proofs.Reached.{if_some_all}
@@ -109,3 +111,32 @@ returns-clause-ends g c =
 
 pub returns-clause-causes : goal.returns-clause-causes
 returns-clause-causes g c = memory_ends _ _
+
+-- ---- visits
+
+pub returns-in-Ok-clause-visits : goal.returns-in-Ok-clause-visits
+returns-in-Ok-clause-visits g c =
+    let a = asked_of c.args.asked.now in
+    let tree = tree_on c.args.model c.args.stock in
+    let name = c.args.name.now in
+    let old = g.R.Room.outside c.args.room.now in
+    let within = λ (k : ℕ). c.run_with_bytes.new.steps ≤ c.args.steps.now + k in
+    IfSome_then old.files {Q = λ files. within (visits_by_file a tree (files name))} c.in-Ok.ensures.bytes (λ files f.
+    subst (λ (o : Option Bytes). within (visits_by_file a tree o)) (sym f.0)
+    (subst (λ bytes. within (visits_by_events a tree (events_of bytes (ins_of tree)))) c.deref.ensures.value c.run_with_bytes.ensures.visits))
+
+pub returns-in-Err-Missing-clause-visits : goal.returns-in-Err-Missing-clause-visits
+returns-in-Err-Missing-clause-visits g c =
+    if_some_all (g.R.Room.outside c.args.room.now).files _ (λ files. omega arith)
+
+pub returns-in-Err-ReadFault-clause-visits : goal.returns-in-Err-ReadFault-clause-visits
+returns-in-Err-ReadFault-clause-visits g c =
+    if_some_all (g.R.Room.outside c.args.room.now).files _ (λ files. omega arith)
+
+pub returns-in-Err-TooLong-clause-visits : goal.returns-in-Err-TooLong-clause-visits
+returns-in-Err-TooLong-clause-visits g c =
+    if_some_all (g.R.Room.outside c.args.room.now).files _ (λ files. omega arith)
+
+pub returns-clause-visits : goal.returns-clause-visits
+returns-clause-visits g c =
+    if_some_all (g.R.Room.outside c.args.room.now).files _ (λ files. omega arith)

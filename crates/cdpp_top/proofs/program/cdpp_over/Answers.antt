@@ -1,10 +1,10 @@
-use Rattle.std.proofs.Common.{◌≡◌, map, Some, None, [], ◌∷◌, ◌++◌, refl, sym, ◌∙◌, subst, arith, lit<}
+use Rattle.std.proofs.Common.{◌≡◌, ℕ, ◌+◌, ◌≤◌, Option, map, Some, None, [], ◌∷◌, ◌++◌, refl, sym, ◌∙◌, subst, arith, lit<}
 use Rattle.std.specs.Prelude.{codes}
 use Rattle.std.specs.String.{string_bytes}
 use Rattle.std.proofs.lemmas.List.Elements.{Contains-append_right}
 use Rattle.std.proofs.lemmas.Option.{IfSome_then}
 use Rattle.answer_model.specs.Answer.{Answer, only_complains}
-use Rattle.answer_model.specs.Asked.{asked, usage}
+use Rattle.answer_model.specs.Asked.{Asked, asked, usage}
 use Rattle.answer_model.specs.Cdpp.{answer_to, answer}
 use Rattle.answer_model.specs.Outcome.{Outcome}
 use Rattle.answer_model.specs.Endings.{looked_for, Says, EndsWith}
@@ -14,6 +14,7 @@ use Rattle.answer_model.proofs.Said.{said_among}
 use Rattle.answer_model.proofs.Stages.{at_start, rose_by_said}
 use Rattle.asked_words.specs.Shown.{asked_of}
 use Rattle.cdpp_top.specs.Starting.{classes_by}
+use Rattle.cdpp_top.specs.Visits.{visits_to, visits_if, visits_for}
 use Rattle.cdpp_top.specs.Statuses.{read_statuses, statuses}
 use Rattle.cdpp_top.proofs.Reached.{if_some_all}
 use Rattle.cdpp_top.proofs.Words.{asked_answer, refused_answer, usage_is, not_usage, only_refused}
@@ -94,3 +95,24 @@ returns-in-Err-clause-ends g c =
     if_some_all old.files (λ files. Outcome (answer words files classes) old old 12) (λ files.
     let x = answer words files classes in
     at_start x old old 12 (endings_follow.memory x (looked_for []) old (none_begun x (looked_for []) refl refl)))
+
+-- ---- visits
+
+pub returns-in-Ok-Some-clause-visits : goal.returns-in-Ok-Some-clause-visits
+returns-in-Ok-Some-clause-visits g c =
+    let words = map string_bytes c.args.words.now in
+    let classes = classes_by (λ m. g.M.AtomicModel.held m) c.args.boxes.items in
+    let old = g.R.Room.outside c.args.room.now in
+    let a = asked_of c.in-Ok-Some.asked in
+    let is : Some a ≡ asked words = rw c.in-Ok-Some.field-0-is at c.in-Ok-Some.ensures.value in
+    let within = λ (k : ℕ). c.run_asked.new.steps ≤ c.args.steps.now + k in
+    IfSome_then old.files {P = λ files. within (visits_to a files classes)} {Q = λ files. within (visits_for words files classes)} c.run_asked.ensures.visits
+    (λ files v. subst (λ (o : Option Asked). within (visits_if o files classes)) is v)
+
+pub returns-in-Ok-None-clause-visits : goal.returns-in-Ok-None-clause-visits
+returns-in-Ok-None-clause-visits g c =
+    if_some_all (g.R.Room.outside c.args.room.now).files _ (λ files. omega arith)
+
+pub returns-in-Err-clause-visits : goal.returns-in-Err-clause-visits
+returns-in-Err-clause-visits g c =
+    if_some_all (g.R.Room.outside c.args.room.now).files _ (λ files. omega arith)

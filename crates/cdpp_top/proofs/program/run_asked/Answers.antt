@@ -1,4 +1,4 @@
-use Rattle.std.proofs.Common.{List, [], ap, sym, ◌∙◌, subst}
+use Rattle.std.proofs.Common.{◌+◌, ◌≤◌, arith, List, [], ap, sym, ◌∙◌, subst}
 use Rattle.std.specs.Prelude.{IsTrue, IfSome, not}
 use Rattle.std.specs.List.{list_all}
 use Rattle.atomic_face.specs.StockView.{Stocked}
@@ -8,6 +8,7 @@ use Rattle.answer_model.specs.Cdpp.{answer_to}
 use Rattle.answer_model.specs.Endings.{looked_for, EndsWith}
 use Rattle.asked_words.specs.Shown.{asked_of}
 use Rattle.cdpp_top.specs.Starting.{classes_by}
+use Rattle.cdpp_top.specs.Visits.{visits_to}
 use Rattle.cdpp_top.proofs.Causing.{memory_ends}
 use Rattle.cdpp_top.proofs.Reached.{if_some_all}
 use Rattle.cdpp_top.proofs.Boxes.{none_taken, classes_are}
@@ -35,3 +36,14 @@ returns-clause-ends g c =
     let new = g.R.Room.outside c.read_asked.new.room in
     let is = ap classes_of c.in-Ok.ensures ∙ classes_are (λ m. g.M.AtomicModel.held m) c.args.boxes.items in
     subst (λ (classes : List Class). IfSome old.files (λ files. EndsWith (answer_to a files classes) (looked_for []) old new c.read_asked.result)) is c.read_asked.ensures.ends
+
+pub returns-in_default-clause-visits : goal.returns-in_default-clause-visits
+returns-in_default-clause-visits g c =
+    if_some_all (g.R.Room.outside c.args.room.now).files _ (λ files. omega arith)
+
+pub returns-clause-visits : goal.returns-clause-visits
+returns-clause-visits g c =
+    let a = asked_of c.args.asked.now in
+    let old = g.R.Room.outside c.args.room.now in
+    let is = ap classes_of c.in-Ok.ensures ∙ classes_are (λ m. g.M.AtomicModel.held m) c.args.boxes.items in
+    subst (λ (classes : List Class). IfSome old.files (λ files. c.read_asked.new.steps ≤ c.args.steps.now + visits_to a files classes)) is c.read_asked.ensures.visits

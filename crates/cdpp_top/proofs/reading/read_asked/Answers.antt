@@ -1,8 +1,9 @@
+use Rattle.std.proofs.Common.{arith}
 use Rattle.model_tree.specs.declared.table.Model.{Model}
 use Rattle.route_flat.specs.declared.routes.Routes.{Routes}
 use Rattle.model_stock.specs.Settled.{classes_of}
 use Rattle.cdpp_top.proofs.Causing.{later_ends, model_told}
-use Rattle.cdpp_top.proofs.Reached.{runs_on, stops_at}
+use Rattle.cdpp_top.proofs.Reached.{if_some_all, runs_on, stops_at, visits_of_read}
 use Rattle.cdpp_top.proofs.reading.read_asked.Goals as goal
 
 pub returns-in-Ok-clause-ends : goal.returns-in-Ok-clause-ends
@@ -28,3 +29,13 @@ pub returns-in-Err-clause-causes : goal.returns-in-Err-clause-causes
 returns-in-Err-clause-causes g c =
     let e = c.in-Err.ensures.reads in
     model_told (Model × Routes) c.in-Err.why _ _ _ c.tell_model.result e.counted e.only c.tell_model.ensures
+
+pub returns-in-Ok-clause-visits : goal.returns-in-Ok-clause-visits
+returns-in-Ok-clause-visits g c =
+    let old = g.R.Room.outside c.args.room.now in
+    visits_of_read c.args.asked.now (classes_of c.args.stock) c.read_source.new.stock c.in-Ok.model c.in-Ok.routes old (g.R.Room.outside c.read_source.new.room)
+    c.args.steps.now c.run_with_events.new.steps c.in-Ok.ensures.reads c.run_with_events.ensures.visits
+
+pub returns-in-Err-clause-visits : goal.returns-in-Err-clause-visits
+returns-in-Err-clause-visits g c =
+    if_some_all (g.R.Room.outside c.args.room.now).files _ (λ files. omega arith)

@@ -8,7 +8,7 @@ use Rattle.cdpp_top.proofs.tell.tell_model.Goals as goal
 pub returns-in-ReadFault : goal.returns-in-ReadFault
 returns-in-ReadFault g c =
     let old = g.R.Room.outside c.args.room.now in
-    let new = g.R.Room.outside c.tell_named-in-ReadFault.new.room in
-    let given = c.tell_named-in-ReadFault.result in
+    let new = g.R.Room.outside c.complain_of-in-ReadFault.new.room in
+    let given = c.complain_of-in-ReadFault.result in
     subst (λ (reason : ModelRefusal). TellsModel reason old new given) (sym c.in-ReadFault.is)
-    (subst (λ name. Says (read_fault_line name) 4 old new given) c.as_bytes-in-ReadFault.ensures c.tell_named-in-ReadFault.ensures)
+    (subst (λ name. Says (read_fault_line name) 4 old new given) c.as_bytes-in-ReadFault.ensures c.complain_of-in-ReadFault.ensures)
