@@ -1,5 +1,5 @@
 -- What components give: a coupled component, and some components one after another.
-use Rattle.std.proofs.Common.{◌≡◌, ◌+◌, ◌++◌, ℕ, ℤ, zero, suc, Bool, List, [], ◌∷◌, map, take, refl, sym, ap, ◌∙◌, subst, arith}
+use Rattle.std.proofs.Common.{◌≡◌, ◌+◌, ◌++◌, ℕ, ℤ, zero, suc, Bool, List, [], ◌∷◌, take, refl, sym, ap, ◌∙◌, subst, arith}
 use Rattle.std.specs.Prelude.{slice_get, Some, if◌then◌else◌}
 use Rattle.std.specs.List.{filter, flat_map}
 use Rattle.std.specs.Str.{bytes_eq}
@@ -17,9 +17,11 @@ use Rattle.model_tree.specs.Stands.{part_of, parts_of}
 use Rattle.model_tree.proofs.Rows.{row_of}
 use Rattle.port_net.specs.declared.net.Node.{Node}
 use Rattle.port_net.specs.declared.ports.Outputs.{Outputs}
-use Rattle.port_net.specs.Shown.{AllGive, Join, Extends, leaf_list, picked}
+use Rattle.port_net.specs.declared.arrivals.Arrivals.{Arrivals}
+use Rattle.port_net.specs.Shown.{Join, Extends, leaf_list}
+use Rattle.port_net.specs.Arriving.{nodes_to, Brings}
 use Rattle.port_net.specs.Outside.{given_in, AreOutputs, AllOutputs, leaves_of}
-use Rattle.port_net.proofs.Stood.{links-join}
+use Rattle.port_net.proofs.Arrived.{test-own}
 use Rattle.port_net.proofs.Standing.{are-kept}
 
 -- ---- links bring the same where children give the same
@@ -50,17 +52,17 @@ given-Coupled c settings first port child =
     given-row row.0 row.1 settings first port child ∙ ap (λ cs. given_in cs settings first port child) (items_hidden-the_row-Component-0 c.children)
 
 -- the links of a coupled component bring out what comes out
-pub coupled-gives : (ns : List Node) (c : Coupled) (first : ℕ) (settings : ℕ → List ℤ) (ins : List Word) (ks : List ℕ) (port : Word) → AllGive ins ns ks (map (λ (l : Link). P.at_source l.from P.nothing (given_in c.children.items settings first) P.nothing) c.links.items)
-    → Join ins ns (picked (P.is_own port) c.links.items ks) (P.given_out (part_of (in_tree.Coupled c) settings) first leaf_list port)
-coupled-gives ns c first settings ins ks port h =
-    subst (λ (xs : List P.Source). Join ins ns (picked (P.is_own port) c.links.items ks) xs)
+pub coupled-gives : (ns : List Node) (c : Coupled) (first : ℕ) (settings : ℕ → List ℤ) (ins : List Word) (a : Arrivals) (port : Word) → Brings ins ns a (λ (l : Link). P.at_source l.from P.nothing (given_in c.children.items settings first) P.nothing) c.links.items
+    → Join ins ns (nodes_to a (P.is_own port)) (P.given_out (part_of (in_tree.Coupled c) settings) first leaf_list port)
+coupled-gives ns c first settings ins a port h =
+    subst (λ (xs : List P.Source). Join ins ns (nodes_to a (P.is_own port)) xs)
     (sym (brought-same c.links.items (P.is_own port) P.nothing (P.given_by (parts_of (row_of (in_tree.Coupled c)).1 settings) first leaf_list) (given_in c.children.items settings first) P.nothing (given-Coupled c settings first)))
-    (links-join ins ns (P.is_own port) (λ (l : Link). P.at_source l.from P.nothing (given_in c.children.items settings first) P.nothing) c.links.items ks h)
+    (h (P.is_own port) (end.Own port) (test-own port))
 
 -- the same for a group
-pub group-gives : (ns : List Node) (g : CellGroup) (first : ℕ) (settings : ℕ → List ℤ) (ins : List Word) (ks : List ℕ) (port : Word) → AllGive ins ns ks (map (λ (l : Link). P.at_source l.from P.nothing (λ p c. []) (λ n. leaf_list (first + n))) g.links.items)
-    → Join ins ns (picked (P.is_own port) g.links.items ks) (P.given_out (part_of (in_tree.Cells g) settings) first leaf_list port)
-group-gives ns g first settings ins ks port h = links-join ins ns (P.is_own port) (λ (l : Link). P.at_source l.from P.nothing (λ p c. []) (λ n. leaf_list (first + n))) g.links.items ks h
+pub group-gives : (ns : List Node) (g : CellGroup) (first : ℕ) (settings : ℕ → List ℤ) (ins : List Word) (a : Arrivals) (port : Word) → Brings ins ns a (λ (l : Link). P.at_source l.from P.nothing (λ p c. []) (λ n. leaf_list (first + n))) g.links.items
+    → Join ins ns (nodes_to a (P.is_own port)) (P.given_out (part_of (in_tree.Cells g) settings) first leaf_list port)
+group-gives ns g first settings ins a port h = h (P.is_own port) (end.Own port) (test-own port)
 
 -- ---- how many leaves there are
 

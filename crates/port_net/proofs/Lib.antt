@@ -1,4 +1,5 @@
 pub mod Stood
+pub mod Arrived
 pub mod Standing
 pub mod Coming
 pub mod Rowed

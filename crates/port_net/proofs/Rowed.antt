@@ -8,6 +8,7 @@ use Rattle.model_tree.specs.declared.component.Component.{Component, Row_of-Comp
 use Rattle.model_tree.specs.declared.component.Component.TheVariants as in_tree
 use Rattle.model_tree.specs.declared.component.Coupled.{Coupled}
 use Rattle.model_tree.specs.declared.group.CellGroup.{CellGroup}
+use Rattle.model_tree.specs.declared.link.End.TheVariants as end
 use Rattle.model_tree.specs.declared.link.Link.{Link}
 use Rattle.model_tree.specs.Tree.{Word, name_of, leaf_count}
 use Rattle.model_tree.specs.Pull as P
@@ -19,10 +20,12 @@ use Rattle.port_net.specs.declared.source.Span.{Span}
 use Rattle.port_net.specs.declared.growing.Growing.{Growing}
 use Rattle.port_net.specs.Nodes.{part_at}
 use Rattle.port_net.specs.Nets.{AreWithin}
-use Rattle.port_net.specs.Shown.{shown, AllGive, Join, Extends, leaf_list, picked}
+use Rattle.port_net.specs.declared.arrivals.Arrivals.{Arrivals}
+use Rattle.port_net.specs.Shown.{shown, AllGive, Join, Extends, leaf_list}
+use Rattle.port_net.specs.Arriving.{nodes_to, Brings}
 use Rattle.port_net.specs.Outside.{given_in}
 use Rattle.port_net.specs.Rows.{Shows, Grows, taken_by, cell_rows}
-use Rattle.port_net.proofs.Stood.{links-join}
+use Rattle.port_net.proofs.Arrived.{test-child}
 use Rattle.port_net.proofs.Coming.{brought-same, given-Coupled, counted_in}
 
 -- ---- spans in a longer list
@@ -117,12 +120,12 @@ abbrev pub own_of : Coupled → (ℕ → List ℤ) → ℕ → (Word → List P.
 own_of c settings first lists child port =
     P.brought c.links.items (P.is_child port child) lists (P.given_by (parts_of (row_of (in_tree.Coupled c)).1 settings) first leaf_list) P.nothing
 
-pub coupled-takes : (c : Coupled) (settings : ℕ → List ℤ) (first : ℕ) (ins : List Word) (ns : List Node) (ks : List ℕ) (lists : Word → List P.Source) → AllGive ins ns ks (map (λ (l : Link). P.at_source l.from lists (given_in c.children.items settings first) P.nothing) c.links.items)
-    → (child port : Word) → Join ins ns (picked (P.is_child port child) c.links.items ks) (own_of c settings first lists child port)
-coupled-takes c settings first ins ns ks lists h child port =
-    subst (λ (xs : List P.Source). Join ins ns (picked (P.is_child port child) c.links.items ks) xs)
+pub coupled-takes : (c : Coupled) (settings : ℕ → List ℤ) (first : ℕ) (ins : List Word) (ns : List Node) (a : Arrivals) (lists : Word → List P.Source) → Brings ins ns a (λ (l : Link). P.at_source l.from lists (given_in c.children.items settings first) P.nothing) c.links.items
+    → (child port : Word) → Join ins ns (nodes_to a (P.is_child port child)) (own_of c settings first lists child port)
+coupled-takes c settings first ins ns a lists h child port =
+    subst (λ (xs : List P.Source). Join ins ns (nodes_to a (P.is_child port child)) xs)
     (sym (brought-same c.links.items (P.is_child port child) lists (P.given_by (parts_of (row_of (in_tree.Coupled c)).1 settings) first leaf_list) (given_in c.children.items settings first) P.nothing (given-Coupled c settings first)))
-    (links-join ins ns (P.is_child port child) (λ (l : Link). P.at_source l.from lists (given_in c.children.items settings first) P.nothing) c.links.items ks h)
+    (h (P.is_child port child) (end.Child port child) (test-child port child))
 
 -- one component more
 pub taken-behind : (cs : List Component) (c : Component) (settings : ℕ → List ℤ) (first n : ℕ) (own : Word → Word → List P.Source) → n ≡ first + counted_in cs settings → taken_by (cs ++ c ∷ []) settings first own ≡ taken_by cs settings first own ++ P.taken_in (part_of c settings) n leaf_list (own (name_of (part_of c settings)))

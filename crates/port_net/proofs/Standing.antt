@@ -20,7 +20,9 @@ use Rattle.port_net.specs.declared.ports.Ports.{Ports}
 use Rattle.port_net.specs.declared.ports.Ports.TheVariants as ports
 use Rattle.port_net.specs.declared.ports.Inside.{Inside}
 use Rattle.port_net.specs.declared.ports.Inside.TheVariants as inside
+use Rattle.port_net.specs.declared.arrivals.Arrivals.{Arrivals}
 use Rattle.port_net.specs.Shown.{shown, Gives, Join, Extends, leaf_list, picked, one_if}
+use Rattle.port_net.specs.Arriving.{nodes_to}
 use Rattle.port_net.specs.Outside.{is_at, InputsAre, PortsAre, given_in, GivesOut, AreOutputs, AllOutputs, InsideIs, place_from, comes_out}
 use Rattle.port_net.proofs.Stood.{gives-kept, join-kept}
 
@@ -30,7 +32,7 @@ pub ports-kept : (ins : List Word) (a b : List Node) (ps : Ports) (lists : Word 
 ports-kept ins a b ports.Nothing lists g h = h
 ports-kept ins a b (ports.Inputs names) lists g h =
     record { same = h.same; give = λ k lt. gives-kept ins a b k (P.top_source (name_at ins k) ∷ []) g (h.give k lt); are = h.are }
-ports-kept ins a b (ports.Linked links ks x) lists g h = λ port. join-kept ins a b (picked (is_at x port) links.now ks.now) (lists port) g (h port)
+ports-kept ins a b (ports.Linked links x) lists g h = λ port. join-kept ins a b (nodes_to links.now (is_at x port)) (lists port) g (h port)
 
 out-kept : (a b : List Node) (c : Component) (o : Outputs) → Extends a b → GivesOut a c o → GivesOut b c o
 out-kept a b (Coupled' name is os shape children links) o g h = λ ins settings port. join-kept ins a b _ _ g (h ins settings port)
@@ -59,11 +61,11 @@ module _ (a b : List Node) (k : ℕ) (ps : Ports) (port : Word) where
       let none : lists port ≡ [] = subst (λ (x : Ports). PortsAre ins a x lists) is h port in
       join ins (lists port) (λ more. ap (flat_map (shown ins (a ++ more))) e ∙ sym none)
 
-  pub linked-given : (older : List ℕ) (links : List Link) (ks : List ℕ) (x : At) → older ≡ picked (is_at x port) links ks
-      → ((ins : List Word) (lists : Word → List P.Source) → PortsAre ins a ps lists → (p : Word) → Join ins a (picked (is_at x p) links ks) (lists p))
+  pub linked-given : (older : List ℕ) (links : Arrivals) (x : At) → older ≡ nodes_to links (is_at x port)
+      → ((ins : List Word) (lists : Word → List P.Source) → PortsAre ins a ps lists → (p : Word) → Join ins a (nodes_to links (is_at x p)) (lists p))
       → ((ins : List Word) (xs : List P.Source) → Join ins a older xs → Gives ins b k xs)
       → (ins : List Word) (lists : Word → List P.Source) → PortsAre ins a ps lists → Gives ins b k (lists port)
-  linked-given older links ks x e is join ins lists h =
+  linked-given older links x e is join ins lists h =
       join ins (lists port) (subst (λ (os : List ℕ). Join ins a os (lists port)) (sym e) (is ins lists h port))
 
   pub input-given : (names : List Word) → ((ins : List Word) (lists : Word → List P.Source) → PortsAre ins a ps lists → InputsAre ins a names lists) → slice_get names k ≡ Some port

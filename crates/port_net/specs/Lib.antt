@@ -1,5 +1,6 @@
 pub mod Nodes
 pub mod Nets
 pub mod Shown
+pub mod Arriving
 pub mod Outside
 pub mod Rows

@@ -5,6 +5,7 @@ use Rattle.std.specs.Str.{bytes_eq}
 use Rattle.model_tree.specs.declared.component.Component.{Component}
 use Rattle.model_tree.specs.declared.component.Component.TheVariants.{Coupled', Cells, Atomic}
 use Rattle.model_tree.specs.declared.link.End.{End}
+use Rattle.model_tree.specs.declared.link.End.TheVariants as end
 use Rattle.model_tree.specs.declared.link.Link.{Link}
 use Rattle.model_tree.specs.Tree.{Word, name_of, leaf_count}
 use Rattle.model_tree.specs.Pull as P
@@ -18,7 +19,8 @@ use Rattle.port_net.specs.declared.ports.Ports.{Ports}
 use Rattle.port_net.specs.declared.ports.Ports.TheVariants as ports
 use Rattle.port_net.specs.declared.ports.Inside.{Inside}
 use Rattle.port_net.specs.declared.ports.Inside.TheVariants as inside
-use Rattle.port_net.specs.Shown.{Gives, Join, leaf_list, picked}
+use Rattle.port_net.specs.Shown.{Gives, Join, leaf_list}
+use Rattle.port_net.specs.Arriving.{nodes_to}
 
 -- ---- at ports
 
@@ -27,6 +29,12 @@ abbrev pub is_at : At → Word → End → Bool
 is_at at.Own port = P.is_own port
 is_at (at.Child child) port = P.is_child port child.now
 is_at (at.Cell cell) port = P.is_cell port cell
+
+-- that end
+abbrev pub end_at : At → Word → End
+end_at at.Own port = end.Own port
+end_at (at.Child child) port = end.Child port child.now
+end_at (at.Cell cell) port = end.Cell port cell
 
 -- the first nodes are the inputs of top, by their names
 pub record InputsAre (ins : List Word) (ns : List Node) (names : List Word) (lists : Word → List P.Source) : Type 0 where
@@ -38,7 +46,7 @@ pub record InputsAre (ins : List Word) (ns : List Node) (names : List Word) (lis
 abbrev pub PortsAre : List Word → List Node → Ports → (Word → List P.Source) → Type 0
 PortsAre ins ns ports.Nothing lists = (port : Word) → lists port ≡ []
 PortsAre ins ns (ports.Inputs names) lists = InputsAre ins ns names.now lists
-PortsAre ins ns (ports.Linked links ks a) lists = (port : Word) → Join ins ns (picked (is_at a port) links.now ks.now) (lists port)
+PortsAre ins ns (ports.Linked links a) lists = (port : Word) → Join ins ns (nodes_to links.now (is_at a port)) (lists port)
 
 -- ---- what children give
 
@@ -49,12 +57,12 @@ given_in (c ∷ cs) settings first port child =
     if bytes_eq (name_of (part_of c settings)) child then P.given_out (part_of c settings) first leaf_list port
     else given_in cs settings (first + leaf_count (part_of c settings)) port child
 
--- the node of each link of a component shows what the link brings out
+-- the nodes of a component's links show what the links bring out
 abbrev pub GivesOut : List Node → Component → Outputs → Type 0
 GivesOut ns (Coupled' name is os shape children links) out =
-    (ins : List Word) (settings : ℕ → List ℤ) (port : Word) → Join ins ns (picked (P.is_own port) links.items out.links.items) (P.given_out (part_of (Coupled' name is os shape children links) settings) out.first leaf_list port)
+    (ins : List Word) (settings : ℕ → List ℤ) (port : Word) → Join ins ns (nodes_to out.links (P.is_own port)) (P.given_out (part_of (Coupled' name is os shape children links) settings) out.first leaf_list port)
 GivesOut ns (Cells g) out =
-    (ins : List Word) (settings : ℕ → List ℤ) (port : Word) → Join ins ns (picked (P.is_own port) g.links.items out.links.items) (P.given_out (part_of (Cells g) settings) out.first leaf_list port)
+    (ins : List Word) (settings : ℕ → List ℤ) (port : Word) → Join ins ns (nodes_to out.links (P.is_own port)) (P.given_out (part_of (Cells g) settings) out.first leaf_list port)
 GivesOut ns (Atomic a) out = ⊤
 
 -- the outputs of a component whose first leaf has this number

@@ -2,7 +2,6 @@
 use Rattle.std.specs.Prelude.{◌≡◌, ℕ, ◌+◌, List, [], ◌∷◌, ◌++◌, ℤ, map}
 use Rattle.std.specs.List.{enumerate_from, flat_map}
 use Rattle.model_tree.specs.declared.component.Component.{Component}
-use Rattle.model_tree.specs.declared.link.Link.{Link}
 use Rattle.model_tree.specs.Tree.{Word, name_of, leaf_count}
 use Rattle.model_tree.specs.Pull as P
 use Rattle.model_tree.specs.Stands.{part_of}
@@ -12,7 +11,9 @@ use Rattle.port_net.specs.Nodes.{part_at}
 use Rattle.port_net.specs.Nets.{AreWithin}
 use Rattle.port_net.specs.declared.ports.Outputs.{Outputs}
 use Rattle.port_net.specs.declared.ports.Ports.{Ports}
-use Rattle.port_net.specs.Shown.{Join, shown, leaf_list, picked}
+use Rattle.port_net.specs.declared.arrivals.Arrivals.{Arrivals}
+use Rattle.port_net.specs.Shown.{Join, shown, leaf_list}
+use Rattle.port_net.specs.Arriving.{nodes_to}
 use Rattle.port_net.specs.Outside.{PortsAre, AllOutputs}
 
 -- these lists stand at the ports of the leaves so far
@@ -41,19 +42,19 @@ Takes c first own old new =
     → PortsAre ins old.nodes.items own lists → Grows ins old new (P.taken_in (part_of c settings) first leaf_list lists)
 
 -- those of some components, where links bring these lists to the inputs of each
-abbrev pub TakeAll : List Component → List Outputs → List Link → List ℕ → Growing → Growing → Type 0
-TakeAll cs outs links ks old new =
+abbrev pub TakeAll : List Component → List Outputs → Arrivals → Growing → Growing → Type 0
+TakeAll cs outs links old new =
     (ins : List Word) (settings : ℕ → List ℤ) (first : ℕ) (own : Word → Word → List P.Source)
     → AllOutputs old.nodes.items cs first outs
-    → ((child port : Word) → Join ins old.nodes.items (picked (P.is_child port child) links ks) (own child port))
+    → ((child port : Word) → Join ins old.nodes.items (nodes_to links (P.is_child port child)) (own child port))
     → Grows ins old new (taken_by cs settings first own)
 
 -- those of cells whose ports have these names, where links bring these lists to the ports of each
 abbrev pub cell_rows : (ℕ → Word → List P.Source) → List (List Word) → List (List (List P.Source))
 cell_rows lists names = map (λ (p : ℕ × List Word). map (lists p.0) p.1) (enumerate_from 0 names)
 
-abbrev pub TakeCells : List (List Word) → List Link → List ℕ → Growing → Growing → Type 0
-TakeCells names links ks old new =
+abbrev pub TakeCells : List (List Word) → Arrivals → Growing → Growing → Type 0
+TakeCells names links old new =
     (ins : List Word) (lists : ℕ → Word → List P.Source)
-    → ((cell : ℕ) (port : Word) → Join ins old.nodes.items (picked (P.is_cell port cell) links ks) (lists cell port))
+    → ((cell : ℕ) (port : Word) → Join ins old.nodes.items (nodes_to links (P.is_cell port cell)) (lists cell port))
     → Grows ins old new (cell_rows lists names)

@@ -1,8 +1,8 @@
 // The ports of a model as a net of numbered nodes.
 #![tactic(auto)]
 
+mod arrivals;
 mod growing;
-mod links;
 pub mod making;
 pub mod net;
 mod nodes;

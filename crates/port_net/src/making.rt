@@ -67,6 +67,6 @@ fn outputs_of_top(
         → AllGive ins nodes.new.items ks.items (top_sources (part_of (in_tree.Coupled top.now) settings))) }
 {
     let out = outputs_of_coupled(alloc, top, 0, nodes)?;
-    let ports = Ports::Linked(&top.links, &out.links, At::Own);
+    let ports = Ports::Linked(&out.links, At::Own);
     row(alloc, &ports, &top.outs, nodes)
 }

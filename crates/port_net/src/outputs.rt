@@ -4,9 +4,10 @@ ghost use Rattle.model_tree.specs.declared.component.Component.TheVariants as in
 ghost use Rattle.port_net.specs.Shown.{Extends};
 ghost use Rattle.port_net.specs.Outside.{AreOutputs, AllOutputs, leaves_of};
 
+use crate::arrivals::Arrivals;
 use crate::net::Node;
 use crate::ports::{Inside, Outputs, Ports};
-use crate::sources::link_nodes;
+use crate::sources::arrivals;
 use model_tree::{CellGroup, Component, Coupled};
 use quantity::OutOfMemory;
 use std::alloc::{AllocError, Global};
@@ -28,7 +29,7 @@ pub(crate) fn outputs(
         Component::Atomic(_) => Ok(Outputs {
             first,
             leaves: 1,
-            links: Vec::new(alloc),
+            links: Arrivals::none(alloc),
         }),
     }
 }
@@ -46,7 +47,7 @@ pub(crate) fn outputs_of_coupled(
 {
     let outs = outputs_of_all(alloc, &coupled.children, first, nodes)?;
     let inside = Inside::Children(&coupled.children, &outs);
-    let links = link_nodes(alloc, &coupled.links, &Ports::Nothing, &inside, nodes)?;
+    let links = arrivals(alloc, &coupled.links, &Ports::Nothing, &inside, nodes)?;
     let leaves = total(&outs)?;
     Ok(Outputs {
         first,
@@ -86,7 +87,7 @@ fn outputs_of_group(
     ensures extends { OnOk result (Extends nodes.old.items nodes.new.items) }
     ensures ok { IfOk result (λ out. AreOutputs nodes.new.items (in_tree.Cells group.now) first out) }
 {
-    let links = link_nodes(
+    let links = arrivals(
         alloc,
         &group.links,
         &Ports::Nothing,

@@ -1,14 +1,15 @@
 // What stands at ports, as nodes.
-use model_tree::{Component, Link};
+use crate::arrivals::Arrivals;
+use model_tree::Component;
 use quantity::Name;
 
-/// What a component gives: its first leaf, how many leaves it has, and for each of its links the node of
-/// what the link brings where nothing stands at the own inputs.
+/// What a component gives: its first leaf, how many leaves it has, and the nodes of what its links bring
+/// where nothing stands at the own inputs.
 #[derive(Drop)]
 pub(crate) struct Outputs {
     pub(crate) first: u32,
     pub(crate) leaves: u32,
-    pub(crate) links: Vec<u32>,
+    pub(crate) links: Arrivals,
 }
 
 /// Which links are meant of those that lead to ports of a name: to own ports, to those of a child, or to
@@ -21,12 +22,12 @@ pub(crate) enum At<'n> {
 }
 
 /// Where the lists at ports come from: nothing stands there, or the inputs of top by these names, or what
-/// links bring, each by its node.
+/// links bring, by their nodes.
 #[derive(Clone, Copy)]
-pub(crate) enum Ports<'l, 'k, 'n> {
+pub(crate) enum Ports<'k, 'n> {
     Nothing,
-    Inputs(&'l [Name]),
-    Linked(&'l [Link], &'k [u32], At<'n>),
+    Inputs(&'n [Name]),
+    Linked(&'k Arrivals, At<'n>),
 }
 
 /// What is inside a component: children with their outputs, or cells, the first of which is this leaf.

@@ -7,13 +7,14 @@ ghost use Rattle.port_net.specs.Shown.{Extends};
 ghost use Rattle.port_net.specs.Outside.{PortsAre};
 ghost use Rattle.port_net.specs.Rows.{Grows, Takes, TakeAll, TakeCells};
 
+use crate::arrivals::Arrivals;
 use crate::growing::Growing;
 use crate::nodes::counted;
 use crate::outputs::outputs_of_all;
 use crate::ports::{At, Inside, Outputs, Ports};
-use crate::sources::{link_nodes, name_of, out_at, row};
+use crate::sources::{arrivals, name_of, out_at, row};
 use atomic_face::Class;
-use model_tree::{Atomic, CellGroup, Component, Coupled, Link};
+use model_tree::{Atomic, CellGroup, Component, Coupled};
 use quantity::{Name, OutOfMemory};
 use std::alloc::{AllocError, Global};
 
@@ -23,7 +24,7 @@ pub(crate) fn put(
     alloc: Global,
     component: &Component,
     first: u32,
-    own: &Ports<'_, '_, '_>,
+    own: &Ports<'_, '_>,
     net: &mut Growing,
 ) -> Result<(), OutOfMemory>
     ensures extends { OnOk result (Extends net.old.nodes.items net.new.nodes.items) }
@@ -42,7 +43,7 @@ pub(crate) fn put_coupled(
     alloc: Global,
     coupled: &Coupled,
     first: u32,
-    own: &Ports<'_, '_, '_>,
+    own: &Ports<'_, '_>,
     net: &mut Growing,
 ) -> Result<(), OutOfMemory>
     ensures extends { OnOk result (Extends net.old.nodes.items net.new.nodes.items) }
@@ -50,8 +51,8 @@ pub(crate) fn put_coupled(
 {
     let outs = outputs_of_all(alloc, &coupled.children, first, &mut net.nodes)?;
     let inside = Inside::Children(&coupled.children, &outs);
-    let ks = link_nodes(alloc, &coupled.links, own, &inside, &mut net.nodes)?;
-    put_all(alloc, &coupled.children, &outs, &coupled.links, &ks, net)
+    let links = arrivals(alloc, &coupled.links, own, &inside, &mut net.nodes)?;
+    put_all(alloc, &coupled.children, &outs, &links, net)
 }
 
 /// Those of some components.
@@ -60,18 +61,17 @@ fn put_all(
     alloc: Global,
     children: &[Component],
     outs: &[Outputs],
-    links: &[Link],
-    ks: &[u32],
+    links: &Arrivals,
     net: &mut Growing,
 ) -> Result<(), OutOfMemory>
     ensures extends { OnOk result (Extends net.old.nodes.items net.new.nodes.items) }
-    ensures takes { OnOk result (TakeAll children.now outs.now links.now ks.now net.old net.new) }
+    ensures takes { OnOk result (TakeAll children.now outs.now links.now net.old net.new) }
 {
     for (i, child) in children.iter().enumerate() {
         let Some(out) = out_at(outs, i) else {
             return Err(OutOfMemory);
         };
-        let own = Ports::Linked(links, ks, At::Child(name_of(child)));
+        let own = Ports::Linked(links, At::Child(name_of(child)));
         put(alloc, child, out.first, &own, net)?;
     }
     Ok(())
@@ -82,7 +82,7 @@ fn put_atomic(
     alloc: Global,
     atomic: &Atomic,
     first: u32,
-    own: &Ports<'_, '_, '_>,
+    own: &Ports<'_, '_>,
     net: &mut Growing,
 ) -> Result<(), OutOfMemory>
     ensures extends { OnOk result (Extends net.old.nodes.items net.new.nodes.items) }
@@ -95,7 +95,7 @@ fn put_atomic(
 /// One leaf, whose ports have these names.
 fn put_leaf(
     alloc: Global,
-    own: &Ports<'_, '_, '_>,
+    own: &Ports<'_, '_>,
     names: &[Name],
     net: &mut Growing,
 ) -> Result<(), OutOfMemory>
@@ -113,33 +113,32 @@ fn put_group(
     alloc: Global,
     group: &CellGroup,
     first: u32,
-    own: &Ports<'_, '_, '_>,
+    own: &Ports<'_, '_>,
     net: &mut Growing,
 ) -> Result<(), OutOfMemory>
     ensures extends { OnOk result (Extends net.old.nodes.items net.new.nodes.items) }
     ensures takes { OnOk result (Takes (in_tree.Cells group.now) first own.now net.old net.new) }
 {
     let inside = Inside::Cells(first);
-    let ks = link_nodes(alloc, &group.links, own, &inside, &mut net.nodes)?;
+    let links = arrivals(alloc, &group.links, own, &inside, &mut net.nodes)?;
     let names = group.ports_of_cells(alloc)?;
-    put_cells(alloc, &group.links, &ks, &names, net)
+    put_cells(alloc, &links, &names, net)
 }
 
 /// The cells of a group, whose ports have these names.
 fn put_cells(
     alloc: Global,
-    links: &[Link],
-    ks: &[u32],
+    links: &Arrivals,
     names: &[Vec<Name>],
     net: &mut Growing,
 ) -> Result<(), OutOfMemory>
     ensures extends { OnOk result (Extends net.old.nodes.items net.new.nodes.items) }
     ensures takes { let all = map (λ v. v.items) names.now in
-        OnOk result (TakeCells all links.now ks.now net.old net.new) }
+        OnOk result (TakeCells all links.now net.old net.new) }
 {
     for (i, cell_names) in names.iter().enumerate() {
         let cell = counted(i)?;
-        let own = Ports::Linked(links, ks, At::Cell(cell));
+        let own = Ports::Linked(links, At::Cell(cell));
         put_leaf(alloc, &own, cell_names, net)?;
     }
     Ok(())

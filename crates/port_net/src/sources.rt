@@ -4,10 +4,11 @@ ghost use Rattle.model_tree.specs.Tree.{Word, name_of};
 ghost use Rattle.model_tree.specs.Causes.{OfComponent};
 ghost use Rattle.model_tree.specs.Pull.{Source as AnySource};
 ghost use Rattle.port_net.specs.Shown.{Extends, Gives, AllGive};
+ghost use Rattle.port_net.specs.Arriving.{Brings};
 ghost use Rattle.port_net.specs.Outside.{PortsAre, InsideIs, AllOutputs, GivesOut, cell_lists, child_lists};
 ghost use Rattle.port_net.specs.Outside.{brought_by, stands_at, given_in, place_from, comes_out};
 
-use crate::links::{pick, same};
+use crate::arrivals::{Arrivals, same};
 use crate::net::Node;
 use crate::nodes::{counted, give, join};
 use crate::ports::{At, Inside, Outputs, Ports};
@@ -18,7 +19,7 @@ use std::alloc::{AllocError, Global};
 /// The node of what stands at a port. An input of top that there is not gives no net.
 pub(crate) fn node_at(
     alloc: Global,
-    ports: &Ports<'_, '_, '_>,
+    ports: &Ports<'_, '_>,
     port: &Name,
     nodes: &mut Vec<Node>,
 ) -> Result<u32, OutOfMemory>
@@ -30,8 +31,8 @@ pub(crate) fn node_at(
     match ports {
         Ports::Nothing => join(nodes, Vec::new(alloc)),
         Ports::Inputs(names) => place_among(names, port),
-        Ports::Linked(links, ks, at) => {
-            let older = pick(alloc, links, ks, at, port)?;
+        Ports::Linked(links, at) => {
+            let older = links.nodes(alloc, at, port)?;
             join(nodes, older)
         }
     }
@@ -52,7 +53,7 @@ fn place_among(names: &[Name], name: &Name) -> Result<u32, OutOfMemory>
 /// The nodes of what stands at ports, one after another.
 pub(crate) fn row(
     alloc: Global,
-    ports: &Ports<'_, '_, '_>,
+    ports: &Ports<'_, '_>,
     names: &[Name],
     nodes: &mut Vec<Node>,
 ) -> Result<Vec<u32>, OutOfMemory>
@@ -70,11 +71,30 @@ pub(crate) fn row(
     Ok(ks)
 }
 
-/// The node of each link: of what stands where it begins.
-pub(crate) fn link_nodes(
+/// The nodes of what links bring, by where they lead.
+pub(crate) fn arrivals(
     alloc: Global,
     links: &[Link],
-    own: &Ports<'_, '_, '_>,
+    own: &Ports<'_, '_>,
+    inside: &Inside<'_, '_>,
+    nodes: &mut Vec<Node>,
+) -> Result<Arrivals, OutOfMemory>
+    ensures extends { OnOk result (Extends nodes.old.items nodes.new.items) }
+    ensures brings { IfOk result
+        (λ a. (ins : List Word) (lists : Word → List AnySource) (first : ℕ) (settings : ℕ → List ℤ)
+        → PortsAre ins nodes.old.items own.now lists → InsideIs nodes.old.items inside.now first
+        → Brings ins nodes.new.items a
+        (λ l. stands_at inside.now settings first lists l.from) links.now) }
+{
+    let ks = link_nodes(alloc, links, own, inside, nodes)?;
+    Arrivals::of_links(alloc, links, &ks)
+}
+
+/// The node of each link: of what stands where it begins.
+fn link_nodes(
+    alloc: Global,
+    links: &[Link],
+    own: &Ports<'_, '_>,
     inside: &Inside<'_, '_>,
     nodes: &mut Vec<Node>,
 ) -> Result<Vec<u32>, OutOfMemory>
@@ -97,7 +117,7 @@ pub(crate) fn link_nodes(
 fn node_of(
     alloc: Global,
     from: &End,
-    own: &Ports<'_, '_, '_>,
+    own: &Ports<'_, '_>,
     inside: &Inside<'_, '_>,
     nodes: &mut Vec<Node>,
 ) -> Result<u32, OutOfMemory>
@@ -228,12 +248,12 @@ fn out_node(
         → Gives ins nodes.new.items k (comes_out component.now settings out.now port.now)) }
 {
     match component {
-        Component::Coupled(c) => {
-            let older = pick(alloc, &c.links, &out.links, &At::Own, port)?;
+        Component::Coupled(_coupled) => {
+            let older = out.links.nodes(alloc, &At::Own, port)?;
             join(nodes, older)
         }
-        Component::Cells(g) => {
-            let older = pick(alloc, &g.links, &out.links, &At::Own, port)?;
+        Component::Cells(_group) => {
+            let older = out.links.nodes(alloc, &At::Own, port)?;
             join(nodes, older)
         }
         Component::Atomic(_) => give(nodes, out.first),

@@ -1,4 +1,4 @@
-use Rattle.std.proofs.Common.{◌≡◌, ◌≤◌, ◌<◌, ◌+◌, ◌++◌, [], ◌∷◌, ℕ, List, map, take, length, refl, sym, ap, ◌∙◌, subst, arith}
+use Rattle.std.proofs.Common.{◌≡◌, ◌≤◌, ◌<◌, ◌+◌, ◌++◌, [], ◌∷◌, List, take, length, refl, sym, ap, ◌∙◌, subst, arith}
 use Rattle.std.proofs.lemmas.List.{take_more, take_all}
 use Rattle.std.proofs.lemmas.Result.{on_ok_weaker}
 use Rattle.model_tree.specs.declared.component.Component.{Component}
@@ -7,7 +7,8 @@ use Rattle.model_tree.specs.Tree.{Word, name_of}
 use Rattle.model_tree.specs.Pull as P
 use Rattle.model_tree.specs.Stands.{part_of}
 use Rattle.port_net.specs.declared.ports.Outputs.{Outputs}
-use Rattle.port_net.specs.Shown.{AllGive, Extends, Join, picked}
+use Rattle.port_net.specs.Shown.{Extends, Join}
+use Rattle.port_net.specs.Arriving.{nodes_to, Brings}
 use Rattle.port_net.specs.Outside.{AllOutputs, given_in}
 use Rattle.port_net.specs.Rows.{Takes, taken_by}
 use Rattle.port_net.proofs.Stood.{extends-on, join-kept}
@@ -42,8 +43,8 @@ put_all-loop-i-preserved t c =
           grows-child ins c.args.net.now c.loop-i.net c.put.new.net c.args.children.now c.loop-i.i c.index-children-i.result settings first c.in-Some.out.now.first own took
           (first-at c.args.net.now.nodes.items c.args.children.now first c.args.outs.now settings c.loop-i.i c.in-Some.out.now known c.in-Some.ensures) (inv.takes ins settings first own known join)
           (c.in_ok-put.ensures.takes ins settings (own name)
-          (λ port. join-kept ins c.args.net.now.nodes.items c.loop-i.net.nodes.items (picked (P.is_child port c.name_of.result.now) c.args.links.now c.args.ks.now) (own name port) inv.extends
-          (subst (λ (w : Word). Join ins c.args.net.now.nodes.items (picked (P.is_child port w) c.args.links.now c.args.ks.now) (own name port)) (sym called) (join name port))));
+          (λ port. join-kept ins c.args.net.now.nodes.items c.loop-i.net.nodes.items (nodes_to c.args.links.now (P.is_child port c.name_of.result.now)) (own name port) inv.extends
+          (subst (λ (w : Word). Join ins c.args.net.now.nodes.items (nodes_to c.args.links.now (P.is_child port w)) (own name port)) (sym called) (join name port))));
     }
 
 pub put_all-returns-clause-takes : goal.put_all-returns-clause-takes
@@ -51,32 +52,37 @@ put_all-returns-clause-takes t c = λ ins settings first own known join.
     let past : length c.args.children.now ≤ c.loop-i.i = omega arith in
     rw (take_all c.loop-i.i c.args.children.now past) at (c.loop-i.invariant.takes ins settings first own known join)
 
+pub put_coupled-returns-clause-extends : goal.put_coupled-returns-clause-extends
+put_coupled-returns-clause-extends t c =
+    on_ok_weaker c.put_all.result
+    (λ more.
+    extends-on c.args.net.now.nodes.items c.arrivals.new.nodes.items c.put_all.new.net.nodes.items
+    (extends-on c.args.net.now.nodes.items c.outputs_of_all.new.nodes.items c.arrivals.new.nodes.items c.in_ok-outs.ensures.extends c.in_ok-links.ensures.extends) more)
+    c.put_all.ensures.extends
+
 pub put_coupled-returns-clause-takes : goal.put_coupled-returns-clause-takes
 put_coupled-returns-clause-takes t c =
     on_ok_weaker c.put_all.result
     (λ h ins settings lists own.
     let old = c.args.net.now.nodes.items in
     let mid = c.outputs_of_all.new.nodes.items in
-    let new = c.link_nodes.new.nodes.items in
+    let new = c.arrivals.new.nodes.items in
     let top = c.args.coupled.now in
     let from = λ (cs : List Component) (l : Link). P.at_source l.from lists (given_in cs settings c.args.first) P.nothing in
-    let longer : Extends old new = extends-on old mid new c.in_ok-outs.ensures.extends c.in_ok-ks.ensures.extends in
+    let longer : Extends old new = extends-on old mid new c.in_ok-outs.ensures.extends c.in_ok-links.ensures.extends in
     let known : AllOutputs mid top.children.items c.args.first c.in_ok-outs.outs.items = subst (λ (cs : List Component). AllOutputs mid cs c.args.first c.in_ok-outs.outs.items) c.deref.ensures.value c.in_ok-outs.ensures.ok in
     let known2 : AllOutputs mid c.deref-2.result.now c.args.first c.deref-3.result.now =
     subst (λ (cs : List Component). AllOutputs mid cs c.args.first c.deref-3.result.now) (sym c.deref-2.ensures.value) (subst (λ (os : List Outputs). AllOutputs mid top.children.items c.args.first os) (sym c.deref-3.ensures.value) known) in
     let known3 : AllOutputs new c.deref-5.result.now c.args.first c.deref-6.result.now =
     subst (λ (cs : List Component). AllOutputs new cs c.args.first c.deref-6.result.now) (sym c.deref-5.ensures.value)
-    (subst (λ (os : List Outputs). AllOutputs new top.children.items c.args.first os) (sym c.deref-6.ensures.value) (outputs-kept mid new top.children.items c.args.first c.in_ok-outs.outs.items c.in_ok-ks.ensures.extends known)) in
-    let given : AllGive ins new c.in_ok-ks.ks.items (map (from top.children.items) top.links.items) =
-    subst (λ (ls : List Link). AllGive ins new c.in_ok-ks.ks.items (map (from top.children.items) ls)) c.deref-4.ensures.value
-    (subst (λ (cs : List Component). AllGive ins new c.in_ok-ks.ks.items (map (from cs) c.deref-4.result.now)) c.deref-2.ensures.value
-    (c.in_ok-ks.ensures.gives ins lists c.args.first settings (ports-kept ins old mid c.args.own.now lists c.in_ok-outs.ensures.extends own) known2)) in
+    (subst (λ (os : List Outputs). AllOutputs new top.children.items c.args.first os) (sym c.deref-6.ensures.value) (outputs-kept mid new top.children.items c.args.first c.in_ok-outs.outs.items c.in_ok-links.ensures.extends known)) in
+    let given : Brings ins new c.in_ok-links.links (from top.children.items) top.links.items =
+    subst (λ (ls : List Link). Brings ins new c.in_ok-links.links (from top.children.items) ls) c.deref-4.ensures.value
+    (subst (λ (cs : List Component). Brings ins new c.in_ok-links.links (from cs) c.deref-4.result.now) c.deref-2.ensures.value
+    (c.in_ok-links.ensures.brings ins lists c.args.first settings (ports-kept ins old mid c.args.own.now lists c.in_ok-outs.ensures.extends own) known2)) in
     grows-as ins c.args.net.now c.put_all.new.net (taken_by c.deref-5.result.now settings c.args.first (own_of top settings c.args.first lists)) _
     (ap (λ (cs : List Component). taken_by cs settings c.args.first (own_of top settings c.args.first lists)) c.deref-5.ensures.value ∙ taken-Coupled top settings c.args.first (own_of top settings c.args.first lists))
     (grows-on ins c.args.net.now _ c.put_all.new.net [] (taken_by c.deref-5.result.now settings c.args.first (own_of top settings c.args.first lists)) (nodes-put c.args.net.now _ ins longer refl refl)
     (h ins settings c.args.first (own_of top settings c.args.first lists) known3
-    (λ child port.
-    subst (λ (ls : List Link). Join ins new (picked (P.is_child port child) ls c.deref-8.result.now) (own_of top settings c.args.first lists child port)) (sym c.deref-7.ensures.value)
-    (subst (λ (ks : List ℕ). Join ins new (picked (P.is_child port child) top.links.items ks) (own_of top settings c.args.first lists child port)) (sym c.deref-8.ensures.value)
-    (coupled-takes top settings c.args.first ins new c.in_ok-ks.ks.items lists given child port))))))
+    (coupled-takes top settings c.args.first ins new c.in_ok-links.links lists given))))
     c.put_all.ensures.takes

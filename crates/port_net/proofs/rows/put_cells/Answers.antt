@@ -2,7 +2,7 @@ use Rattle.std.proofs.Common.{◌≤◌, [], ◌∷◌, List, map, length, arith
 use Rattle.std.proofs.lemmas.List.{take_all}
 use Rattle.model_tree.specs.Tree.{Word}
 use Rattle.model_tree.specs.Pull.{is_cell}
-use Rattle.port_net.specs.Shown.{picked}
+use Rattle.port_net.specs.Arriving.{nodes_to}
 use Rattle.port_net.specs.Rows.{Grows}
 use Rattle.port_net.proofs.Stood.{extends-on, join-kept}
 use Rattle.port_net.proofs.Rowed.{grows-cell}
@@ -18,7 +18,7 @@ loop-i-preserved c =
           grows-cell (λ v. v.items) ins c.args.net.now c.loop-i.net c.put_leaf.new.net c.args.names.now c.loop-i.i c.in_ok-cell.cell c.index-names-i.result lists c.loop-i-test.true c.index-names-i.is c.in_ok-cell.ensures (inv.takes ins lists join)
           (subst (λ (ns : List Word). Grows ins c.loop-i.net c.put_leaf.new.net (map (lists c.in_ok-cell.cell) ns ∷ [])) c.deref.ensures.value
           (c.in_ok-put_leaf.ensures.takes ins (lists c.in_ok-cell.cell)
-          (λ port. join-kept ins c.args.net.now.nodes.items c.loop-i.net.nodes.items (picked (is_cell port c.in_ok-cell.cell) c.args.links.now c.args.ks.now) (lists c.in_ok-cell.cell port) inv.extends (join c.in_ok-cell.cell port))));
+          (λ port. join-kept ins c.args.net.now.nodes.items c.loop-i.net.nodes.items (nodes_to c.args.links.now (is_cell port c.in_ok-cell.cell)) (lists c.in_ok-cell.cell port) inv.extends (join c.in_ok-cell.cell port))));
     }
 
 pub returns-clause-takes : goal.returns-clause-takes

@@ -21,6 +21,6 @@ returns-in-Inputs-clause-gives c =
 pub returns-in_ok-older-in-Linked-clause-gives : goal.returns-in_ok-older-in-Linked-clause-gives
 returns-in_ok-older-in-Linked-clause-gives c =
     IfOk-weaker c.join-in-Linked.result _ _
-    (λ k h. linked-given c.args.nodes.now.items c.join-in-Linked.new.nodes.items k c.args.ports.now c.args.port.now c.in_ok-older-in-Linked.older.items c.in-Linked.links.now c.in-Linked.ks.now c.in-Linked.at c.in_ok-older-in-Linked.ensures
+    (λ k h. linked-given c.args.nodes.now.items c.join-in-Linked.new.nodes.items k c.args.ports.now c.args.port.now c.in_ok-older-in-Linked.older.items c.in-Linked.links.now c.in-Linked.at c.in_ok-older-in-Linked.ensures
     (λ ins lists are. subst (λ (p : Ports). PortsAre ins c.args.nodes.now.items p lists) c.in-Linked.is are) h)
     c.join-in-Linked.ensures.joins

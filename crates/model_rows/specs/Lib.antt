@@ -1,0 +1,4 @@
+pub mod Kinds
+pub mod Phases
+pub mod Steps
+pub mod Long

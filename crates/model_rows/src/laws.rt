@@ -1,0 +1,25 @@
+// Calls that name the rows.
+ghost use Rattle.model_rows.specs.Kinds.{KindsAreShown};
+ghost use Rattle.model_rows.specs.Phases.{PhasesFollow};
+ghost use Rattle.model_rows.specs.Steps.{StepsFollow};
+ghost use Rattle.model_rows.specs.Long.{LongFilesAreRefused};
+
+/// Kinds of refusals, each at its line.
+pub fn kinds_are_shown()
+    ensures { KindsAreShown }
+{}
+
+/// Where two phases refuse, the earlier one counts, also where its line is the greater.
+pub fn phases_follow()
+    ensures { PhasesFollow }
+{}
+
+/// Within a phase the first that is met counts, or the least line, as the phase says.
+pub fn steps_follow()
+    ensures { StepsFollow }
+{}
+
+/// Files of more than 16777216 bytes are refused, whatever they hold.
+pub fn long_files_are_refused()
+    ensures { LongFilesAreRefused }
+{}
