@@ -6,10 +6,11 @@ use Rattle.std.specs.List.{position, position_or_len, list_any}
 use Rattle.std.proofs.lemmas.Bool.Decides.{nat_tests}
 use Rattle.std.proofs.lemmas.List.{map-set, length-map, length-set, take_all}
 use Rattle.atomic_face.specs.declared.class.Class.{Class}
-use Rattle.atomic_face.specs.declared.class.Class.TheVariants.{Queue, Generator, Cpu, Counter, Table}
-use Rattle.atomic_face.specs.StockView.{Stocked, is_of, is_free, class_number}
+use Rattle.atomic_face.specs.ClassTable.{all_classes, class_number}
+use Rattle.atomic_face.specs.StockView.{Stocked, is_of, is_free}
 use Rattle.atomic_face.specs.StockStarts.{KeepsStarts, NoneFreeBefore}
-use Rattle.atomic_face.proofs.Shown.{map-set_same, shown}
+use Rattle.atomic_face.proofs.ClassNumbers.{same-number, number-below, equal-if}
+use Rattle.atomic_face.proofs.Shown.{map-set_same}
 
 -- ---- the first that passes, looked for behind a place before which none does
 
@@ -106,7 +107,7 @@ same-free c s t e f = rw (e, f) refl
 pub starts-stay : {A : Type 0} (f : A → Stocked) (xs : List A) (starts : List ℕ) (i : ℕ) (o y : A) → o ≡ get_or xs i o → (f y).box.kind ≡ (f o).box.kind → (f y).taken ≡ (f o).taken → KeepsStarts (map f xs) starts → KeepsStarts (map f (set xs i y)) starts
 starts-stay {A} f xs starts i o y e kind taken h = record {
   few = subst (λ n. n < 2 ^ 32) (sym long) h.few;
-  five = h.five;
+  each = h.each;
   none_before = λ c. (
     subst (λ n. get_or starts (class_number c) 0 ≤ n) (sym long) (h.none_before c).0,
     any-map (is_free c) (get_or starts (class_number c) 0) (map f (set xs i y)) ∙ ap (λ bs. list_any (λ b. b) (take (get_or starts (class_number c) 0) bs)) (free c) ∙ sym (any-map (is_free c) (get_or starts (class_number c) 0) (map f xs)) ∙ (h.none_before c).1,
@@ -126,46 +127,26 @@ starts-stay {A} f xs starts i o y e kind taken h = record {
 
 -- ---- boxes that are handed in
 
-pub starts-new : {A B : Type 0} (f : A → Stocked) (bs : List B) (xs : List A) (starts : List ℕ) → length xs ≡ length bs → starts ≡ 0 ∷ 0 ∷ 0 ∷ 0 ∷ 0 ∷ [] → length bs < 2 ^ 32 → KeepsStarts (map f xs) starts
+all_zero : {X : Type 0} (xs : List X) (n : ℕ) → ◌≡◌ {A = ℕ} (get_or (map (λ x. 0) xs) n 0) 0
+all_zero [] n = refl
+all_zero (x ∷ xs) zero = refl
+all_zero (x ∷ xs) (suc n) = all_zero xs n
+
+pub starts-new : {A B : Type 0} (f : A → Stocked) (bs : List B) (xs : List A) (starts : List ℕ) → length xs ≡ length bs → starts ≡ map (λ c. 0) all_classes → length bs < 2 ^ 32 → KeepsStarts (map f xs) starts
 starts-new f bs xs starts long zeros lt = rw zeros record {
   few = rw (length-map xs f, long) lt;
-  five = refl;
+  each = refl;
   none_before = λ c. before c;
 }
   where
-    before : (c : Class) → NoneFreeBefore (map f xs) c (get_or (0 ∷ 0 ∷ 0 ∷ 0 ∷ 0 ∷ []) (class_number c) 0)
-    before Queue = (omega arith, refl)
-    before Generator = (omega arith, refl)
-    before Cpu = (omega arith, refl)
-    before Counter = (omega arith, refl)
-    before Table = (omega arith, refl)
+    before : (c : Class) → NoneFreeBefore (map f xs) c (get_or (map (λ c. 0) all_classes) (class_number c) 0)
+    before c = subst (λ n. NoneFreeBefore (map f xs) c n) (sym (all_zero all_classes (class_number c))) (omega arith, refl)
 
 -- what the start of a class says of the items
 pub none-here : {A : Type 0} (f : A → Stocked) (xs ys : List A) (starts : List ℕ) (c : Class) (n : ℕ) → n ≡ class_number c → xs ≡ ys → list_any (is_free c) (take (get_or starts (class_number c) 0) (map f xs)) ≡ false → list_any (λ x. is_free c (f x)) (take (get_or starts n 0) ys) ≡ false
 none-here f xs ys starts c n e same h = rw (e, ← same) (sym (any-take f (is_free c) (get_or starts (class_number c) 0) xs) ∙ h)
 
 -- ---- a box that is taken
-
-abbrev class_at : ℕ → Class
-class_at zero = Queue
-class_at (suc zero) = Generator
-class_at (suc (suc zero)) = Cpu
-class_at (suc (suc (suc zero))) = Counter
-class_at (suc (suc (suc (suc n)))) = Table
-
-class_at-number : (c : Class) → class_at (class_number c) ≡ c
-class_at-number Queue = refl
-class_at-number Generator = refl
-class_at-number Cpu = refl
-class_at-number Counter = refl
-class_at-number Table = refl
-
-number-below : (c : Class) → class_number c < 5
-number-below Queue = omega arith
-number-below Generator = omega arith
-number-below Cpu = omega arith
-number-below Counter = omega arith
-number-below Table = omega arith
 
 is_free-taken : (c : Class) (s : Stocked) → s.taken ≡ true → is_free c s ≡ false
 is_free-taken c s e = ap (λ b. is_of c s && not b) e ∙ go (is_of c s)
@@ -174,14 +155,10 @@ is_free-taken c s e = ap (λ b. is_of c s && not b) e ∙ go (is_of c s)
     go true = refl
     go false = refl
 
-equal-if : (n m : ℕ) (b : Bool) → (n == m) ≡ b → cond b (n ≡ m) (n ≢ m)
-equal-if n m true e = grind (arith, nat_tests)
-equal-if n m false e = grind (arith, nat_tests)
-
 pub starts-take : {A : Type 0} (f : A → Stocked) (xs : List A) (starts : List ℕ) (c : Class) (at : ℕ) (y : A) → position (is_free c) (map f xs) ≡ Some at → (f y).taken ≡ true → KeepsStarts (map f xs) starts → KeepsStarts (map f (set xs at y)) (set starts (class_number c) at)
 starts-take f xs starts c at y found taken h = rw (map-set f xs at y) record {
   few = subst (λ n. n < 2 ^ 32) (sym (length-set (map f xs) at (f y))) h.few;
-  five = length-set starts (class_number c) at ∙ h.five;
+  each = length-set starts (class_number c) at ∙ h.each;
   none_before = λ k. of k (class_number k == class_number c) refl;
 }
   where
@@ -201,8 +178,8 @@ starts-take f xs starts c at y found taken h = rw (map-set f xs at y) record {
     of : (k : Class) (b : Bool) → (class_number k == class_number c) ≡ b → NoneFreeBefore (set (map f xs) at (f y)) k (start k)
     of k true e =
         let same : class_number k ≡ class_number c = equal-if (class_number k) (class_number c) true e in
-        let class : k ≡ c = sym (class_at-number k) ∙ ap class_at same ∙ class_at-number c in
-        let there : start k ≡ at = ap (λ n. get_or (set starts (class_number c) at) n 0) same ∙ get_or-set_same starts (class_number c) at 0 (subst (λ n. class_number c < n) (sym h.five) (number-below c)) in
+        let class : k ≡ c = same-number k c same in
+        let there : start k ≡ at = ap (λ n. get_or (set starts (class_number c) at) n 0) same ∙ get_or-set_same starts (class_number c) at 0 (subst (λ n. class_number c < n) (sym h.each) (number-below c)) in
         keeps k (start k) (subst (λ n. NoneFreeBefore (map f xs) k n) (sym there) (subst (λ q. NoneFreeBefore (map f xs) q at) (sym class) first))
     of k false e =
         let other : class_number k ≢ class_number c = equal-if (class_number k) (class_number c) false e in

@@ -6,21 +6,13 @@ use Rattle.std.specs.Option.{option_map}
 use Rattle.std.specs.Str.{bytes_eq}
 use Rattle.quantity.specs.Bytes.{Bytes}
 use Rattle.atomic_face.specs.declared.class.Class.{Class}
-use Rattle.atomic_face.specs.declared.class.Class.TheVariants.{Queue, Generator, Cpu, Counter, Table}
 use Rattle.atomic_face.specs.declared.class.PortNo.{PortNo}
-use Rattle.atomic_face.specs.Classes.{out_port}
-
--- the classes, in the order of their boxes in the stock of the program
-abbrev pub all_classes : List Class
-all_classes = Queue ∷ Generator ∷ Cpu ∷ Counter ∷ Table ∷ []
+use Rattle.atomic_face.specs.Bags.{out_port}
+use Rattle.atomic_face.specs.ClassTable.{all_classes, rules_of}
 
 -- the name by which model files call a class
 abbrev pub class_name : Class → Bytes
-class_name Queue = codes "queue"
-class_name Generator = codes "generator"
-class_name Cpu = codes "cpu"
-class_name Counter = codes "counter"
-class_name Table = codes "table"
+class_name class = (rules_of class).name
 
 -- the class of a name, where there is one
 abbrev pub class_named : Bytes → Option Class
@@ -28,11 +20,7 @@ class_named text = find (λ c. bytes_eq (class_name c) text) all_classes
 
 -- the input ports, by number
 abbrev pub class_ports : Class → List Bytes
-class_ports Queue = codes "in" ∷ codes "done" ∷ []
-class_ports Generator = []
-class_ports Cpu = codes "in" ∷ []
-class_ports Counter = codes "in" ∷ codes "reset" ∷ []
-class_ports Table = codes "a" ∷ codes "b" ∷ codes "c" ∷ codes "d" ∷ []
+class_ports class = (rules_of class).inputs
 
 -- the output ports, by number
 abbrev pub class_outputs : Class → List Bytes

@@ -1,6 +1,9 @@
 -- The settings of a state table: its states, what each state holds, and what it takes.
-use Rattle.std.specs.Prelude.{ℕ, ◌==◌, Bool, false, not, ◌&&◌, Option, Some, None, List, [], ◌∷◌, ◌++◌, map, length, take, drop, ℤ, pos, negsuc, if◌then◌else◌, codes}
-use Rattle.std.specs.List.{filter, filter_map, find, flat_map, list_all, list_any, position, range_with_len}
+use Rattle.std.specs.Prelude.{ℕ, ◌==◌, ◌+◌, ◌^◌, Bool, false, not, ◌&&◌, if◌then◌else◌, codes}
+use Rattle.std.specs.Prelude.{Option, Some, None, ℤ, pos, negsuc}
+use Rattle.std.specs.Prelude.{List, [], ◌∷◌, ◌++◌, map, length, take, drop}
+use Rattle.std.specs.List.{filter, filter_map, find, flat_map, list_all, list_any}
+use Rattle.std.specs.List.{position, range_with_len}
 use Rattle.std.specs.Option.{option_map, option_and_then, unwrap_or, is_some}
 use Rattle.std.specs.Bool.{then_some}
 use Rattle.std.specs.Str.{bytes_eq}
@@ -9,11 +12,20 @@ use Rattle.quantity.specs.Names.{is_name}
 use Rattle.quantity.specs.Digits.{has_length}
 use Rattle.quantity.specs.Literals.{value_in}
 use Rattle.quantity.specs.Times.{time_in}
-use Rattle.atomic_face.specs.declared.class.Class.TheVariants.{Table}
 use Rattle.atomic_face.specs.declared.params.Param.{Param}
 use Rattle.atomic_face.specs.Words.{word_of}
-use Rattle.atomic_face.specs.Classes.{any_word}
-use Rattle.atomic_face.specs.ClassNames.{class_ports}
+
+-- the word of the last value, and of any value
+abbrev pub any_word : ℤ
+any_word = pos (10 ^ 16 + 1)
+
+-- the input ports, by number
+abbrev pub table_ports : List Bytes
+table_ports = codes "a" ∷ codes "b" ∷ codes "c" ∷ codes "d" ∷ []
+
+-- the keys that stand at most once
+abbrev pub table_once_keys : List Bytes
+table_once_keys = codes "states" ∷ codes "initial" ∷ []
 
 -- the parameters of this key
 abbrev pub with_key : Bytes → List Param → List Param
@@ -21,7 +33,8 @@ with_key key es = filter (λ (e : Param). bytes_eq e.key key) es
 
 -- the value of the first parameter of this key
 abbrev pub value_with : Bytes → List Param → Option Bytes
-value_with key es = option_map (λ (e : Param). e.value) (find (λ (e : Param). bytes_eq e.key key) es)
+value_with key es =
+    option_map (λ (e : Param). e.value) (find (λ (e : Param). bytes_eq e.key key) es)
 
 -- ---- states
 
@@ -50,7 +63,8 @@ word_in names text = option_map (λ n. pos n) (number_in names text)
 
 -- a literal, ? or this word
 abbrev pub value_or : Bytes → Bytes → Option ℤ
-value_or special text = if bytes_eq text special then Some any_word else option_map word_of (value_in text)
+value_or special text =
+    if bytes_eq text special then Some any_word else option_map word_of (value_in text)
 
 -- what a state holds: a time, the value that it then gives, and the state that follows
 pub record HoldWords : Type 0 where
@@ -65,7 +79,9 @@ hold_of state words = None
 -- the words STATE TIME VALUE NEXT as a hold
 abbrev pub hold_of_words : List Bytes → List Bytes → Option HoldWords
 hold_of_words names (state ∷ time ∷ value ∷ next ∷ []) =
-    hold_of (number_in names state) (all_there (option_map (λ n. pos n) (time_in time) ∷ value_or (codes "last") value ∷ word_in names next ∷ []))
+    hold_of (number_in names state)
+    (all_there (option_map (λ n. pos n) (time_in time) ∷ value_or (codes "last") value
+    ∷ word_in names next ∷ []))
 hold_of_words names texts = None
 
 -- the hold that a parameter names
@@ -75,7 +91,8 @@ hold_in names e = hold_of_words names (words e.value)
 -- a state, a port, the value that is taken there, and the state that follows
 abbrev pub take_of_words : List Bytes → List Bytes → Option (List ℤ)
 take_of_words names (state ∷ port ∷ value ∷ next ∷ []) =
-    all_there (word_in names state ∷ word_in (class_ports Table) port ∷ value_or (codes "any") value ∷ word_in names next ∷ [])
+    all_there (word_in names state ∷ word_in table_ports port ∷ value_or (codes "any") value
+    ∷ word_in names next ∷ [])
 take_of_words names texts = None
 
 -- the take that a parameter names
@@ -90,11 +107,15 @@ holds_of names es = filter_map (hold_in names) (with_key (codes "hold") es)
 
 -- the numbers of the hold of a state, or of none
 abbrev pub hold_words : List HoldWords → ℕ → List ℤ
-hold_words hs state = unwrap_or (option_map (λ (h : HoldWords). h.words) (find (λ (h : HoldWords). h.state == state) hs)) (negsuc 0 ∷ pos 0 ∷ pos 0 ∷ [])
+hold_words hs state =
+    unwrap_or
+    (option_map (λ (h : HoldWords). h.words) (find (λ (h : HoldWords). h.state == state) hs))
+    (negsuc 0 ∷ pos 0 ∷ pos 0 ∷ [])
 
 -- the number of the first state: the one that is named, or 0
 abbrev pub initial_word : List Bytes → List Param → ℤ
-initial_word names es = unwrap_or (option_and_then (word_in names) (value_with (codes "initial") es)) (pos 0)
+initial_word names es =
+    unwrap_or (option_and_then (word_in names) (value_with (codes "initial") es)) (pos 0)
 
 -- the settings of a table with these states
 abbrev pub settings_with : List Bytes → List Param → List ℤ
@@ -122,20 +143,25 @@ is_new_hold before (Some h) = not (list_any (λ (k : HoldWords). k.state == h.st
 abbrev pub holds_off : List Bytes → List HoldWords → List Param → List ℕ
 holds_off names before [] = []
 holds_off names before (e ∷ es) =
-    line_unless (is_new_hold before (hold_in names e)) e ++ holds_off names (before ++ filter_map (hold_in names) (e ∷ [])) es
+    line_unless (is_new_hold before (hold_in names e)) e
+    ++ holds_off names (before ++ filter_map (hold_in names) (e ∷ [])) es
 
 -- the 1025th of all holds and takes
 abbrev pub one_too_many : List Param → List ℕ
 one_too_many es =
-    map (λ (e : Param). e.line) (take 1 (drop 1024 (filter (λ (e : Param). is_among (codes "hold" ∷ codes "take" ∷ []) e.key) es)))
+    map (λ (e : Param). e.line)
+    (take 1 (drop 1024
+    (filter (λ (e : Param). is_among (codes "hold" ∷ codes "take" ∷ []) e.key) es)))
 
 -- where the states are off their form, theirs is the only line
 abbrev pub lines_off_with : Option (List Bytes) → List Param → List ℕ
 lines_off_with None es = map (λ (e : Param). e.line) (take 1 (with_key (codes "states") es))
 lines_off_with (Some names) es =
-    flat_map (λ (e : Param). line_unless (is_some (number_in names e.value)) e) (with_key (codes "initial") es)
+    flat_map (λ (e : Param). line_unless (is_some (number_in names e.value)) e)
+    (with_key (codes "initial") es)
     ++ holds_off names [] (with_key (codes "hold") es)
-    ++ flat_map (λ (e : Param). line_unless (is_some (take_in names e)) e) (with_key (codes "take") es) ++ one_too_many es
+    ++ flat_map (λ (e : Param). line_unless (is_some (take_in names e)) e)
+    (with_key (codes "take") es) ++ one_too_many es
 
 -- the lines on which a parameter of a table is off its form
 abbrev pub table_lines_off : List Param → List ℕ

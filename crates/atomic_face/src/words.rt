@@ -3,8 +3,9 @@ ghost use Rattle.std.specs.Prelude.{◌≡◌, ◌≤◌, ◌^◌, ◌++◌, [],
 ghost use Rattle.std.specs.Result.{result_ok};
 ghost use Rattle.quantity.specs.Arithmetic.{sum_of};
 ghost use Rattle.atomic_face.specs.Words.{word_of, word_or_none, value_in, Reads};
-ghost use Rattle.atomic_face.specs.BoxStates.{is_due, is_due_word, is_time_word, is_value_word};
-ghost use Rattle.atomic_face.specs.Classes.{is_at, outputs};
+ghost use Rattle.atomic_face.specs.Words.{is_due, is_due_word, is_time_word, is_value_word};
+ghost use Rattle.atomic_face.specs.Bags.{outputs};
+ghost use Rattle.atomic_face.specs.Classes.{is_at};
 
 use crate::PortNo;
 use quantity::{OutOfMemory, Overflow, Raw, Time, Value};
@@ -99,7 +100,8 @@ pub fn due_of(word: i64) -> Option<Option<Time>>
     }
 }
 
-/// The time of this number where one is wanted, and else that there is none; None for other numbers.
+/// The time of this number where one is wanted, and else that there is none; None for other
+/// numbers.
 pub fn due_if(wanted: bool, word: i64) -> Option<Option<Time>>
     ensures { Reads (is_due wanted) word_or_none word result }
 {
@@ -136,7 +138,8 @@ pub fn sum(a: &Value, b: &Value) -> Result<Value, Overflow>
 /// Appends a value at the port `out`. A refusal leaves `into` as it was.
 pub fn give(value: &Value, into: &mut Vec<(PortNo, Value)>) -> Result<(), OutOfMemory>
     ensures ok { OnOk result (into.new.items ≡ into.old.items ++ outputs (value.now ∷ [])) }
-    ensures by_word { OnOk result (into.new.items ≡ into.old.items ++ outputs (value_in (word_of value.now) ∷ [])) }
+    ensures by_word { OnOk result
+        (into.new.items ≡ into.old.items ++ outputs (value_in (word_of value.now) ∷ [])) }
     ensures err { OnErr result (into.new.items ≡ into.old.items) }
 {
     let _ = value.known();

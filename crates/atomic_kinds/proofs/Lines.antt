@@ -6,7 +6,8 @@ use Rattle.std.proofs.lemmas.List.{append-nil}
 use Rattle.quantity.specs.Bytes.{Bytes}
 use Rattle.atomic_face.specs.declared.class.Class.TheVariants.{Queue, Generator, Cpu, Counter}
 use Rattle.atomic_face.specs.declared.params.Param.{Param}
-use Rattle.atomic_face.specs.Settings.{parameter, first_line_off, least_line, lines_off_of, time_word, period_word, value_word, count_word}
+use Rattle.atomic_face.specs.Parameters.{parameter, lines_off_of, time_word, period_word, value_word, count_word}
+use Rattle.atomic_face.specs.Settings.{first_line_off, least_line}
 use Rattle.atomic_kinds.specs.Parameters.{least_of}
 
 least_of_assoc : (a b c : Option ℕ) → least_of (least_of a b) c ≡ least_of a (least_of b c)

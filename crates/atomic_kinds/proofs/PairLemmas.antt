@@ -10,8 +10,9 @@ use Rattle.std.proofs.lemmas.Bool.Decides.{nat_tests}
 use Rattle.std.proofs.lemmas.List.{take_all}
 use Rattle.quantity.specs.declared.value.Value.{Value}
 use Rattle.atomic_face.specs.Words.{word_of}
-use Rattle.atomic_face.specs.BoxStates.{are_pairs}
-use Rattle.atomic_face.specs.Classes.{Bag, cpu_inputs, cpu_moved, cpu_next, cpu_pairs, cpu_put, cpu_words, is_at, outputs, pairs_at, values_in}
+use Rattle.atomic_face.specs.Cpu.{are_pairs, cpu_inputs, cpu_moved, cpu_next, cpu_pairs, cpu_put, cpu_words, pairs_at, values_in}
+use Rattle.atomic_face.specs.Bags.{outputs}
+use Rattle.atomic_face.specs.Classes.{Bag, is_at}
 use Rattle.atomic_kinds.specs.Pairs.{given_at, left_at, pair_words, place_for, word_pairs, HasPair, ReadsPair}
 
 -- ---- words

@@ -5,9 +5,9 @@ use Rattle.std.specs.List.{filter}
 use Rattle.std.proofs.lemmas.Bool.Decides.{nat_tests}
 use Rattle.std.proofs.lemmas.List.{drop_more}
 use Rattle.quantity.specs.declared.value.Value.{Value}
-use Rattle.atomic_face.specs.BoxStates.{are_pairs, is_time_word, is_value_word}
-use Rattle.atomic_face.specs.Classes.{cpu_next, is_at}
-use Rattle.atomic_face.specs.Words.{word_of}
+use Rattle.atomic_face.specs.Words.{is_time_word, is_value_word, word_of}
+use Rattle.atomic_face.specs.Cpu.{are_pairs, cpu_next}
+use Rattle.atomic_face.specs.Classes.{is_at}
 use Rattle.atomic_kinds.specs.Pairs.{given_at, given_by, left_at, pair_words, place_for, rises_from, word_pairs, GivenFrom}
 
 -- ---- tests

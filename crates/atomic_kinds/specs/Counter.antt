@@ -7,16 +7,20 @@ use Rattle.quantity.specs.declared.value.Overflow.{Overflow}
 use Rattle.atomic_face.specs.declared.class.Class.TheVariants.{Counter}
 use Rattle.atomic_face.specs.declared.class.PortNo.{PortNo}
 use Rattle.atomic_face.specs.Words.{word_of, word_or_none}
-use Rattle.atomic_face.specs.Classes.{Bag, CounterState, counter_input, counter_inputs, is_at}
+use Rattle.atomic_face.specs.Counter.{CounterState, counter_input, counter_inputs}
+use Rattle.atomic_face.specs.Classes.{Bag, is_at}
 use Rattle.atomic_face.specs.Held.{Held}
 use Rattle.atomic_kinds.specs.declared.counter.CounterModel.{CounterModel}
 
+-- the words of a counter's settings
 abbrev pub counter_settings : CounterModel → List ℤ
 counter_settings c = pos c.delay ∷ word_of c.start ∷ word_of c.step ∷ []
 
+-- a counter in code as a box of the definitions
 abbrev pub held_counter : CounterModel → Held
 held_counter c = record { kind = Counter; settings = counter_settings c; state = word_of c.total ∷ word_or_none c.due ∷ [] }
 
+-- a counter with another total
 abbrev pub with_total : ℤ → AnyValue → CounterState
 with_total due total = record { total = word_of total; due = due }
 

@@ -5,17 +5,20 @@ use Rattle.std.specs.declared.result.Result.TheVariants.{Ok, Err}
 use Rattle.quantity.specs.declared.value.Overflow.{Overflow}
 use Rattle.atomic_face.specs.declared.class.Class.TheVariants.{Generator}
 use Rattle.atomic_face.specs.Words.{word_of, word_or_none}
-use Rattle.atomic_face.specs.Classes.{GeneratorState, generator_internal, generator_settings}
+use Rattle.atomic_face.specs.Generator.{GeneratorState, generator_internal, generator_settings}
 use Rattle.atomic_face.specs.Held.{Held}
 use Rattle.atomic_kinds.specs.declared.generator.GeneratorModel.{GeneratorModel}
 
+-- the words of a generator's settings
 abbrev pub settings_in : GeneratorModel → List ℤ
 settings_in g = pos g.start ∷ pos g.period ∷ word_of g.value ∷ word_of g.step ∷ word_or_none g.count ∷ []
 
+-- a generator in code as a box of the definitions
 abbrev pub held_generator : GeneratorModel → Held
 held_generator g =
     record { kind = Generator; settings = settings_in g; state = word_or_none g.next ∷ word_of g.current ∷ word_or_none g.left ∷ [] }
 
+-- a generator's state in code as one of the definitions
 abbrev pub state_in : GeneratorModel → GeneratorState
 state_in g = record { next = word_or_none g.next; value = word_of g.current; left = word_or_none g.left }
 

@@ -8,13 +8,16 @@ use Rattle.quantity.specs.declared.value.Value.{Value as AnyValue}
 use Rattle.atomic_face.specs.declared.class.PortNo.{PortNo}
 use Rattle.atomic_face.specs.declared.params.RestoreRefusal.{RestoreRefusal}
 use Rattle.atomic_face.specs.declared.params.RestoreRefusal.TheVariants.{BadState, Memory}
-use Rattle.atomic_face.specs.Words.{value_in, word_of}
-use Rattle.atomic_face.specs.BoxStates.{are_pairs, is_time_word, is_value_word}
-use Rattle.atomic_face.specs.Classes.{Bag, cpu_next, cpu_words, is_at, out_port, outputs, pairs_at, values_in}
+use Rattle.atomic_face.specs.Words.{value_in, word_of, is_time_word, is_value_word}
+use Rattle.atomic_face.specs.Cpu.{are_pairs, cpu_next, cpu_words, pairs_at, values_in}
+use Rattle.atomic_face.specs.Bags.{outputs}
+use Rattle.atomic_face.specs.Classes.{Bag, is_at, out_port}
 
+-- pairs of a time and a value as words
 abbrev pub word_pairs : List (ℕ × AnyValue) → List (ℤ × ℤ)
 word_pairs ps = map (λ (p : ℕ × AnyValue). (pos p.0, word_of p.1)) ps
 
+-- the same, one after another
 abbrev pub pair_words : List (ℕ × AnyValue) → List ℤ
 pair_words ps = cpu_words (word_pairs ps)
 

@@ -1,7 +1,7 @@
 -- Parameters by the forms of their values.
 use Rattle.std.specs.Prelude.{ℕ, min, Option, Some, None, ℤ}
 use Rattle.quantity.specs.Bytes.{Bytes}
-use Rattle.atomic_face.specs.Settings.{time_word, period_word, value_word, count_word}
+use Rattle.atomic_face.specs.Parameters.{time_word, period_word, value_word, count_word}
 use Rattle.atomic_kinds.specs.declared.parameters.Form.{Form}
 use Rattle.atomic_kinds.specs.declared.parameters.Form.TheVariants.{Time, Period, Value, Count}
 

@@ -6,16 +6,18 @@ use Rattle.std.specs.declared.result.Result.TheVariants.{Ok, Err}
 use Rattle.quantity.specs.declared.value.Value.{Value as AnyValue}
 use Rattle.atomic_face.specs.declared.params.RestoreRefusal.{RestoreRefusal}
 use Rattle.atomic_face.specs.declared.params.RestoreRefusal.TheVariants.{BadState, Memory}
-use Rattle.atomic_face.specs.Words.{no_time, word_of}
-use Rattle.atomic_face.specs.BoxStates.{are_values, is_due, is_one, is_waiting}
+use Rattle.atomic_face.specs.Words.{no_time, word_of, are_values, is_due}
+use Rattle.atomic_face.specs.Queue.{is_one, is_waiting}
 use Rattle.atomic_kinds.specs.declared.queue.Phase.{Phase}
 use Rattle.atomic_kinds.specs.declared.queue.Phase.TheVariants.{Idle, Preparing, GivenOut}
 
+-- the word of a phase
 abbrev pub phase_number : Phase → ℕ
 phase_number Idle = 0
 phase_number (Preparing t) = 1
 phase_number GivenOut = 2
 
+-- the word of the time at which a phase ends
 abbrev pub phase_due : Phase → ℤ
 phase_due Idle = no_time
 phase_due (Preparing t) = pos t

@@ -1,7 +1,7 @@
 // Cpus.
 ghost use Rattle.std.specs.Prelude.{◌≡◌, ◌<◌, ◌≤◌, ◌+◌, ◌++◌, length, drop, true, IfOk, MatchOption, OnOk, OnErr};
 ghost use Rattle.std.specs.VecDeque.{deque_len, deque_capacity};
-ghost use Rattle.atomic_face.specs.Classes.{cpu_inputs, cpu_next, cpu_put};
+ghost use Rattle.atomic_face.specs.Cpu.{cpu_inputs, cpu_next, cpu_put};
 ghost use Rattle.atomic_face.specs.Settings.{first_line_off};
 ghost use Rattle.atomic_kinds.specs.Pairs.{given_at, given_by, left_at, pair_words, place_for, rises_from, word_pairs, GivenFrom, HasPair, LacksPair, ReadsPair, ReadsPairs};
 

@@ -1,9 +1,8 @@
 // Generators.
 ghost use Rattle.std.specs.Prelude.{◌≡◌, ◌≤◌};
-ghost use Rattle.atomic_face.specs.BoxStates.{is_left, is_zero_word};
-ghost use Rattle.atomic_face.specs.Classes.{is_none_left, one_less};
+ghost use Rattle.atomic_face.specs.Words.{is_zero_word, word_or_none, Reads};
+ghost use Rattle.atomic_face.specs.Generator.{is_left, is_none_left, one_less};
 ghost use Rattle.atomic_face.specs.Settings.{first_line_off};
-ghost use Rattle.atomic_face.specs.Words.{word_or_none, Reads};
 
 use crate::parameters::{
     Form, count_setting, least, line_off, period_setting, time_setting, value_setting,

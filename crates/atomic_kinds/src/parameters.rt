@@ -3,7 +3,8 @@ ghost use Rattle.std.specs.Prelude.{◌≡◌, ◌≤◌, ℕ, ◌∷◌, [], ma
 ghost use Rattle.std.specs.List.{find};
 ghost use Rattle.std.specs.Option.{is_some, option_copied, option_map};
 ghost use Rattle.std.specs.Str.{bytes_eq};
-ghost use Rattle.atomic_face.specs.Settings.{parameter, is_off, lines_off_of, least_line, setting_of, time_word, period_word, value_word, count_word};
+ghost use Rattle.atomic_face.specs.Parameters.{parameter, is_off, lines_off_of, setting_of, time_word, period_word, value_word, count_word};
+ghost use Rattle.atomic_face.specs.Settings.{least_line};
 ghost use Rattle.atomic_face.specs.Words.{no_time, word_of, word_or_none};
 ghost use Rattle.atomic_kinds.specs.Parameters.{word_in, least_of};
 

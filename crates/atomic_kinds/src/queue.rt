@@ -97,7 +97,8 @@ impl AtomicModel for QueueModel {
 impl QueueModel {
     ghost use Rattle.std.specs.Prelude.{[], Option};
     ghost use Rattle.atomic_face.specs.declared.class.Class.TheVariants.{Queue};
-    ghost use Rattle.atomic_face.specs.Classes.{is_at, queue_next, queue_internal, queue_input, queue_inputs, queue_closing};
+    ghost use Rattle.atomic_face.specs.Queue.{queue_next, queue_internal, queue_input, queue_inputs, queue_closing};
+    ghost use Rattle.atomic_face.specs.Classes.{is_at};
     ghost use Rattle.atomic_face.specs.Moves.{started};
     ghost use Rattle.atomic_face.specs.Settings.{settings_of};
     ghost use Rattle.atomic_kinds.specs.Queue.{held_queue, state_in};

@@ -18,15 +18,6 @@ use std::process::ExitCode;
 use std::sync::ledger::{Blank, Ledger};
 use told_lines::status::NO_MEMORY;
 
-/// The classes of the boxes, in the order in which they stand in the stock.
-const CLASSES: [Class; 5] = [
-    Class::Queue,
-    Class::Generator,
-    Class::Cpu,
-    Class::Counter,
-    Class::Table,
-];
-
 /// How many boxes there are of each class.
 const BOXES: usize = 4096;
 
@@ -74,8 +65,8 @@ fn run_with_boxes(
     room: &mut FolderRoom<HostRuntime>,
 ) -> Result<u8, OutOfMemory> {
     let mut boxes: Vec<Box<dyn AtomicModel>> = Vec::new(alloc);
-    for number in 0..CLASSES.len() * BOXES {
-        let made: Box<dyn AtomicModel> = match CLASSES[number / BOXES] {
+    for number in 0..Class::ALL.len() * BOXES {
+        let made: Box<dyn AtomicModel> = match Class::ALL[number / BOXES] {
             Class::Queue => Box::new(alloc, QueueModel::new(alloc)).map_err(AllocError::from)?,
             Class::Generator => Box::new(alloc, GeneratorModel::new()).map_err(AllocError::from)?,
             Class::Cpu => Box::new(alloc, CpuModel::new(alloc)).map_err(AllocError::from)?,

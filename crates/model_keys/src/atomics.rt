@@ -1,8 +1,6 @@
 // What is refused of the parameters of atomic components.
 ghost use Rattle.std.specs.Prelude.{◌≡◌, ◌∷◌, [], map, IfOk};
 ghost use Rattle.std.specs.List.{filter, flat_map};
-ghost use Rattle.atomic_face.specs.Settings.{once_keys};
-ghost use Rattle.source_text.specs.Shown.{texts};
 ghost use Rattle.model_text.specs.Keys as K;
 ghost use Rattle.model_text.specs.Walk as W;
 ghost use Rattle.model_walk.specs.Shown.{item_of};
@@ -61,28 +59,5 @@ fn of_atomic(
     let Some(section) = section_named(sections, name_of(item)) else {
         return Ok(None);
     };
-    again(alloc, once_keys(class), &section.entries)
-}
-
-const QUEUE_KEYS: [&[u8]; 1] = [b"preparation"];
-
-const GENERATOR_KEYS: [&[u8]; 5] = [b"start", b"period", b"value", b"step", b"count"];
-
-const CPU_KEYS: [&[u8]; 1] = [b"delay"];
-
-const COUNTER_KEYS: [&[u8]; 3] = [b"delay", b"start", b"step"];
-
-const TABLE_KEYS: [&[u8]; 2] = [b"states", b"initial"];
-
-/// The parameters of a class that may stand once.
-fn once_keys(class: Class) -> &'static [&'static [u8]]
-    ensures { texts result.now ≡ once_keys class }
-{
-    match class {
-        Class::Queue => &QUEUE_KEYS,
-        Class::Generator => &GENERATOR_KEYS,
-        Class::Cpu => &CPU_KEYS,
-        Class::Counter => &COUNTER_KEYS,
-        Class::Table => &TABLE_KEYS,
-    }
+    again(alloc, class.once_keys(), &section.entries)
 }

@@ -6,6 +6,7 @@ use Rattle.std.specs.Option.{option_map, option_or, option_and_then, is_some}
 use Rattle.std.proofs.lemmas.List.{length-set, map-set, set-get_or}
 use Rattle.std.proofs.lemmas.Option.{get_or_from_slice_get, slice_get_within}
 use Rattle.ma_lines.specs.Sections.{Section}
+use Rattle.atomic_face.proofs.ClassNumbers.{same_class-is}
 use Rattle.atomic_face.specs.declared.class.Class.{Class}
 use Rattle.atomic_face.specs.declared.stock.BoxNo.{BoxNo}
 use Rattle.atomic_face.specs.declared.stock.StockRefusal.{StockRefusal}
@@ -27,7 +28,7 @@ use Rattle.model_walk.specs.declared.refused.Refused.{Refused}
 use Rattle.model_walk.specs.Shown.{refusal_of}
 use Rattle.model_stock.specs.Settled.{classes_of, started_box}
 use Rattle.model_stock.specs.Taken.{HasOnce, Adds, Settles, lacks, lacks_class, component_lacks, off_of_box, kind_of_stock, taken_of}
-use Rattle.model_stock.proofs.Counts.{same-is, found-at, none-counted, at-counted, parts-counted}
+use Rattle.model_stock.proofs.Counts.{found-at, none-counted, at-counted, parts-counted}
 
 -- ---- lists
 
@@ -77,7 +78,7 @@ took c old new at h =
       before = x.0;
       stood = x.1;
       free = x.2;
-      kind = same-is x.0.box.kind c parts.0;
+      kind = same_class-is x.0.box.kind c parts.0;
       list = list;
       stands = ap (λ ss. slice_get ss at.0) list ∙ get-set old at.0 x.0 (record (x.0) { taken = true }) x.1;
     }

@@ -9,7 +9,7 @@ use Rattle.std.proofs.lemmas.Bool.Decides.{nat_tests}
 use Rattle.std.proofs.lemmas.List.Sums.{sum_by-append, passes_at_first}
 use Rattle.std.proofs.lemmas.Option.{slice_get-get_or}
 use Rattle.atomic_face.specs.declared.class.Class.{Class}
-use Rattle.atomic_face.specs.declared.class.Class.TheVariants.{Queue, Generator, Cpu, Counter, Table}
+use Rattle.atomic_face.proofs.ClassNumbers.{same_class-swapped}
 use Rattle.atomic_face.specs.Held.{same_class}
 use Rattle.atomic_face.specs.StockView.{Stocked, is_of, is_free}
 use Rattle.model_text.specs.declared.kind.Kind.{Kind}
@@ -17,24 +17,6 @@ use Rattle.model_text.specs.declared.kind.Kind.TheVariants.{UnknownClass, OutOfS
 use Rattle.model_text.specs.Stock.{boxes_of, box_refused}
 use Rattle.model_stock.specs.Settled.{classes_of}
 use Rattle.model_stock.specs.Taken.{lacks, taken_of}
-
--- ---- classes
-
-pub same-is : (a b : Class) → same_class a b ≡ true → a ≡ b
-same-is Queue Queue e = refl
-same-is Generator Generator e = refl
-same-is Cpu Cpu e = refl
-same-is Counter Counter e = refl
-same-is Table Table e = refl
-same-is a b e = absurd cc
-
-pub same-back : (a b : Class) → same_class a b ≡ same_class b a
-same-back Queue Queue = refl
-same-back Generator Generator = refl
-same-back Cpu Cpu = refl
-same-back Counter Counter = refl
-same-back Table Table = refl
-same-back a b = refl
 
 -- ---- counts
 
@@ -114,7 +96,7 @@ none-found p xs e = by (nat_lt (position_or_len p xs) (length xs)) refl e
 pub boxes-counted : (c : Class) (stock : List Stocked) → boxes_of c (classes_of stock) ≡ count_by (is_of c) stock
 boxes-counted c [] = refl
 boxes-counted c (s ∷ ss) =
-    count-cons (same_class c) s.box.kind (classes_of ss) ∙ ap (λ b. cond b 1 0 + count_by (same_class c) (classes_of ss)) (same-back c s.box.kind)
+    count-cons (same_class c) s.box.kind (classes_of ss) ∙ ap (λ b. cond b 1 0 + count_by (same_class c) (classes_of ss)) (same_class-swapped c s.box.kind)
     ∙ ap (λ n. cond (same_class s.box.kind c) 1 0 + n) (boxes-counted c ss) ∙ sym (count-cons (is_of c) s ss)
 
 -- boxes are taken or free

@@ -10,6 +10,7 @@ use Rattle.std.proofs.lemmas.List.Elements.{filter_map-append}
 use Rattle.quantity.specs.Bytes.{Bytes}
 use Rattle.ma_lines.specs.Sections.{Section}
 use Rattle.atomic_face.specs.declared.class.Class.{Class}
+use Rattle.atomic_face.proofs.ClassNumbers.{same_class-is, same_class-swapped}
 use Rattle.atomic_face.specs.Held.{same_class}
 use Rattle.atomic_face.specs.Settings.{first_line_off}
 use Rattle.atomic_face.specs.StockView.{Stocked, is_of, is_free}
@@ -25,7 +26,7 @@ use Rattle.model_walk.specs.Shown.{item_of}
 use Rattle.model_walk.specs.Met.{IsWalk, met_of}
 use Rattle.model_stock.specs.Settled.{classes_of, named, named_item, started_box, settled, are_apart}
 use Rattle.model_stock.specs.Taken.{Adds, Stands, lacks, lacks_class, component_lacks, taken_of}
-use Rattle.model_stock.proofs.Counts.{one_if, same-is, same-back, count-cons, count-append, count-set, lacks-box}
+use Rattle.model_stock.proofs.Counts.{one_if, count-cons, count-append, count-set, lacks-box}
 use Rattle.model_stock.proofs.Boxes.{both, get-set, get-other, map-set_same, params-off, off_of_kind, some-lacks}
 use Rattle.std.proofs.lemmas.Option.{get_or_from_slice_get}
 
@@ -131,7 +132,7 @@ taken-more : (c class : Class) (old : List Stocked) (at : ℕ) (b y : Stocked) (
 taken-more c class old at b y taken stood free kind now e =
     let p = λ (t : Stocked). is_of c t && t.taken in
     let no : one_if (p b) ≡ 0 = ap (λ t. one_if (is_of c b && t)) free ∙ ap one_if (and-false (is_of c b)) in
-    let yes : one_if (p y) ≡ one_if (same_class c class) = ap (λ t. one_if (is_of c y && t)) now ∙ ap one_if (and-true (is_of c y)) ∙ ap (λ k. one_if (same_class k c)) kind ∙ ap one_if (same-back class c) in
+    let yes : one_if (p y) ≡ one_if (same_class c class) = ap (λ t. one_if (is_of c y && t)) now ∙ ap one_if (and-true (is_of c y)) ∙ ap (λ k. one_if (same_class k c)) kind ∙ ap one_if (same_class-swapped class c) in
     omega (arith, no, yes, e, count-set p old at b y stood, count-append (same_class c) taken class)
 
 pub stands-more : (ss : List Section) (classes : List Class) (old new : List Stocked) (front all : List Atomic) (done : List Item) (i : Item)
@@ -140,7 +141,7 @@ stands-more ss classes old new front all done i h a =
     let parts = both (is_of a.class a.before) a.before.taken a.free in
     let y = started_box ss i a.class in
     let made : Atomic = record { name = name_of i; class = a.class; at = a.at } in
-    let old_kind : a.before.box.kind ≡ a.class = same-is a.before.box.kind a.class parts.0 in
+    let old_kind : a.before.box.kind ≡ a.class = same_class-is a.before.box.kind a.class parts.0 in
     let stays = boxes-stay ss done front old new a.at.0 a.before y a.stood parts.1 a.settled h.named h.boxes in
     let last : slice_get new a.at.0 ≡ settled ss i = ap (λ ys. slice_get ys a.at.0) a.settled ∙ get-set old a.at.0 a.before y a.stood ∙ sym (ap (option_map (started_box ss i)) a.known) in
     let one : filter_map class_of_item (done ++ i ∷ []) ≡ filter_map class_of_item done ++ a.class ∷ [] =

@@ -18,15 +18,19 @@ use Rattle.model_tree.specs.Stands.{group_of, part_of}
 abbrev pub OfComponent : Component → (Tree → Type 0) → Type 0
 OfComponent c P = (settings : ℕ → List ℤ) → P (part_of c settings)
 
+-- said of the tree of a coupled component, for all settings of its boxes
 abbrev pub OfCoupled : Coupled → (Tree → Type 0) → Type 0
 OfCoupled c P = (settings : ℕ → List ℤ) → P (part_of (in_tree c) settings)
 
+-- said of the tree of a group
 abbrev pub OfGroup : CellGroup → (Tree → Type 0) → Type 0
 OfGroup g P = P (cells (group_of g))
 
+-- the ports that links inside a component may use
 abbrev pub face_in : Tree → Face
 face_in t = face_of t
 
+-- why a link is refused in a component
 abbrev pub refused_in : Tree → Link → Option LinkRefusal
 refused_in t l = link_refused (face_of t) (links_of t) l
 
@@ -45,8 +49,10 @@ child_in [] settings name = None
 child_in (c ∷ cs) settings name =
     if bytes_eq (name_of (part_of c settings)) name then Some (part_of c settings) else child_in cs settings name
 
+-- no child has this name
 abbrev pub NoneNamed : List Component → Word → Type 0
 NoneNamed cs name = (settings : ℕ → List ℤ) → child_in cs settings name ≡ None
 
+-- this is the first child of the name
 abbrev pub FirstNamed : List Component → Word → Component → Type 0
 FirstNamed cs name c = (settings : ℕ → List ℤ) → child_in cs settings name ≡ Some (part_of c settings)

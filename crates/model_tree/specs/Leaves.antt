@@ -14,6 +14,7 @@ use Rattle.model_tree.specs.Models.{tree_of}
 abbrev pub Settings : Type 0
 Settings = ℕ → List ℤ
 
+-- boxes without settings
 abbrev pub no_settings : Settings
 no_settings n = []
 

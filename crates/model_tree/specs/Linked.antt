@@ -45,5 +45,6 @@ abbrev pub LinksCoupled : Coupled → Link → Result Unit LinkRefusal → Coupl
 LinksCoupled old l r new =
     (settings : ℕ → List ℤ) → LinkGives (part_of (in_tree old) settings) l r (part_of (in_tree new) settings)
 
+-- a link more in a group, or its refusal
 abbrev pub LinksGroup : CellGroup → Link → Result Unit LinkRefusal → CellGroup → Type 0
 LinksGroup old l r new = LinkGives (cells (group_of old)) l r (cells (group_of new))

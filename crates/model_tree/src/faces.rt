@@ -60,13 +60,7 @@ pub(crate) fn takes(component: &Component, port: &Name) -> bool
 fn is_port_of_class(class: Class, port: &Name) -> bool
     ensures { result ≡ is_among (class_ports class) port.now }
 {
-    match class {
-        Class::Queue => is_one_of(&[b"in", b"done"], port),
-        Class::Generator => false,
-        Class::Cpu => is_one_of(&[b"in"], port),
-        Class::Counter => is_one_of(&[b"in", b"reset"], port),
-        Class::Table => is_one_of(&[b"a", b"b", b"c", b"d"], port),
-    }
+    is_one_of(class.in_ports(), port)
 }
 
 fn is_one_of(texts: &[&[u8]], name: &Name) -> bool

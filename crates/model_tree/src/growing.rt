@@ -1,13 +1,12 @@
 // The making of a model's table: one walk over its components.
-ghost use Rattle.std.specs.Prelude.{◌≡◌, ◌+◌, ◌<◌, ◌^◌, ◌++◌, [], ◌∷◌, Some, map, IfOk, OnOk, slice_get};
+ghost use Rattle.std.specs.Prelude.{◌≡◌, ◌+◌, ◌<◌, ◌^◌, ◌++◌, [], ◌∷◌, Some, IfOk, OnOk, slice_get};
 ghost use Rattle.model_tree.specs.declared.table.Part.{Part};
-ghost use Rattle.model_tree.specs.Pull.{class_ports};
 ghost use Rattle.model_tree.specs.Table.{seat_at};
 ghost use Rattle.model_tree.specs.Growing.{AtPart, box_seat_of, cell_seats, part_seats};
 
 use crate::group::{Atomic, CellGroup};
+use crate::input_names::inputs_of_class;
 use crate::table::{Part, PartAt, Row};
-use atomic_face::Class;
 use quantity::{Name, OutOfMemory};
 use std::alloc::{AllocError, Global};
 
@@ -98,7 +97,7 @@ impl Growing {
     {
         let name = copied(alloc, &atomic.name)?;
         let part = self.part(name, PartAt::Atomic(atomic.at))?;
-        let names = ports_of_class(alloc, atomic.class)?;
+        let names = inputs_of_class(alloc, atomic.class)?;
         self.seat(alloc, part, 0, &names)
     }
 
@@ -156,29 +155,4 @@ fn all_copied(alloc: Global, names: &[Name]) -> Result<Vec<Name>, OutOfMemory>
         copies.push(copy).map_err(AllocError::from)?;
     }
     Ok(copies)
-}
-
-/// The names of the input ports of a class.
-fn ports_of_class(alloc: Global, class: Class) -> Result<Vec<Name>, OutOfMemory>
-    ensures { IfOk result (λ names. names.items ≡ class_ports class) }
-{
-    match class {
-        Class::Queue => names_of(alloc, &[b"in", b"done"]),
-        Class::Generator => names_of(alloc, &[]),
-        Class::Cpu => names_of(alloc, &[b"in"]),
-        Class::Counter => names_of(alloc, &[b"in", b"reset"]),
-        Class::Table => names_of(alloc, &[b"a", b"b", b"c", b"d"]),
-    }
-}
-
-/// The names that are written so.
-fn names_of(alloc: Global, texts: &[&[u8]]) -> Result<Vec<Name>, OutOfMemory>
-    ensures { IfOk result (λ names. names.items ≡ map (λ text. text.now) texts.now) }
-{
-    let mut names = Vec::new(alloc);
-    for text in texts {
-        let name = Name::parse(alloc, text).map_err(|_| OutOfMemory)?;
-        names.push(name).map_err(AllocError::from)?;
-    }
-    Ok(names)
 }

@@ -12,7 +12,15 @@ use Rattle.atomic_face.specs.declared.class.Class.{Class}
 use Rattle.atomic_face.specs.declared.class.Class.TheVariants.{Queue, Generator, Cpu, Counter, Table}
 use Rattle.atomic_face.specs.declared.class.PortNo.{PortNo}
 use Rattle.atomic_face.specs.Words.{no_time, time_in, word_of, value_in, milliseconds}
-use Rattle.atomic_face.specs.Classes.{Bag, outputs, is_at, same_time, QueueState, queue_state, without_first, first_value, queue_internal, queue_input, queue_inputs, queue_closing, queue_next, is_empty, first_time, GeneratorState, GeneratorSettings, generator_state, generator_settings, generator_words, generator_internal, is_none_left, one_less, cpu_pairs, cpu_next, cpu_put, cpu_inputs, cpu_moved, pairs_at, values_in, CounterState, counter_state, counter_words, counter_input, counter_inputs, counter_closing, counter_internal, or_none, setting, TableSettings, TableState, Take, Hold, no_hold, same_word, any_word, held_value, table_settings, table_state, entered, due_after, hold_of, taken, takes, table_input, table_internal, next_of, output_of, moved_state, initial_state}
+use Rattle.atomic_face.specs.Bags.{outputs, same_time}
+use Rattle.atomic_face.specs.Parameters.{first_time, setting}
+use Rattle.atomic_face.specs.Queue.{QueueState, queue_state, without_first, first_value, queue_internal, queue_input, queue_inputs, queue_closing, queue_next, is_empty}
+use Rattle.atomic_face.specs.Generator.{GeneratorState, GeneratorSettings, generator_state, generator_settings, generator_words, generator_internal, is_none_left, one_less}
+use Rattle.atomic_face.specs.Cpu.{cpu_pairs, cpu_next, cpu_put, cpu_inputs, cpu_moved, pairs_at, values_in}
+use Rattle.atomic_face.specs.Counter.{CounterState, counter_state, counter_words, counter_input, counter_inputs, counter_closing, counter_internal, or_none}
+use Rattle.atomic_face.specs.TableSettings.{any_word}
+use Rattle.atomic_face.specs.StateTable.{TableSettings, TableState, Take, Hold, no_hold, same_word, held_value, table_settings, table_state, entered, due_after, hold_of, taken, takes, table_input, table_internal}
+use Rattle.atomic_face.specs.Classes.{Bag, is_at, next_of, output_of, moved_state, initial_state}
 use Rattle.quantity.specs.Times.{IsDelay, IsTime}
 use Rattle.run_model.specs.Bounds.{IsValueWord, IsBoundedHold, AreBoundedSettings, AreBoundedWords, IsBoundedBox}
 use Rattle.run_model.proofs.WaitingBoxes.{cpu_pairs-cpu_words}

@@ -11,9 +11,13 @@ use Rattle.quantity.specs.declared.value.Value.TheVariants.{Undefined, Num}
 use Rattle.quantity.specs.Arithmetic.{IsBounded, sum_of}
 use Rattle.atomic_face.specs.declared.class.Class.TheVariants.{Queue, Cpu, Counter}
 use Rattle.atomic_face.specs.declared.class.PortNo.{PortNo}
-use Rattle.atomic_face.specs.Words.{no_time, time_in, word_of, value_in, milliseconds}
-use Rattle.atomic_face.specs.Classes.{Bag, is_at, QueueState, queue_state, queue_words, without_first, queue_internal, queue_input, queue_inputs, queue_closing, queue_next, is_empty, first_time, CounterState, counter_state, counter_words, counter_input, counter_inputs, counter_closing, counter_internal, or_none, setting, cpu_pairs, cpu_words, cpu_next, cpu_put, cpu_inputs, cpu_moved, pairs_at, same_time}
-use Rattle.atomic_face.specs.BoxStates.{is_time_word, is_none_word, is_due, is_value_word, are_values, is_waiting, is_one, is_queue, is_counter, are_pairs}
+use Rattle.atomic_face.specs.Words.{no_time, time_in, word_of, value_in, milliseconds, is_time_word, is_none_word, is_due, is_value_word, are_values}
+use Rattle.atomic_face.specs.Bags.{same_time}
+use Rattle.atomic_face.specs.Parameters.{first_time, setting}
+use Rattle.atomic_face.specs.Queue.{QueueState, queue_state, queue_words, without_first, queue_internal, queue_input, queue_inputs, queue_closing, queue_next, is_empty, is_waiting, is_one, is_queue}
+use Rattle.atomic_face.specs.Cpu.{cpu_pairs, cpu_words, cpu_next, cpu_put, cpu_inputs, cpu_moved, pairs_at, are_pairs}
+use Rattle.atomic_face.specs.Counter.{CounterState, counter_state, counter_words, counter_input, counter_inputs, counter_closing, counter_internal, or_none, is_counter}
+use Rattle.atomic_face.specs.Classes.{Bag, is_at}
 use Rattle.quantity.specs.Times.{IsDelay}
 use Rattle.run_model.specs.Waiting.{IsTimeFrom, NeverFalls}
 use Rattle.run_model.specs.BoxesStay.{StaysAState}

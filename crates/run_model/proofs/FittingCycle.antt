@@ -12,7 +12,13 @@ use Rattle.cell_grid.specs.Space.{cell_count}
 use Rattle.atomic_face.specs.declared.class.Class.{Class}
 use Rattle.atomic_face.specs.declared.class.Class.TheVariants.{Queue, Generator, Cpu, Counter, Table}
 use Rattle.atomic_face.specs.declared.class.PortNo.{PortNo}
-use Rattle.atomic_face.specs.Classes.{Bag, outputs, is_at, output_of, moved_state, queue_state, first_value, generator_state, cpu_pairs, cpu_next, pairs_at, values_in, counter_state, table_state, table_settings, hold_of, held_value}
+use Rattle.atomic_face.specs.Bags.{outputs}
+use Rattle.atomic_face.specs.Queue.{queue_state, first_value}
+use Rattle.atomic_face.specs.Generator.{generator_state}
+use Rattle.atomic_face.specs.Cpu.{cpu_pairs, cpu_next, pairs_at, values_in}
+use Rattle.atomic_face.specs.Counter.{counter_state}
+use Rattle.atomic_face.specs.StateTable.{table_state, table_settings, hold_of, held_value}
+use Rattle.atomic_face.specs.Classes.{Bag, is_at, output_of, moved_state}
 use Rattle.atomic_face.specs.Words.{value_in}
 use Rattle.atomic_face.specs.Moves.{next_of_box, output_of_box}
 use Rattle.model_tree.specs.Tree.{Word, Tree, Trees, coupled, cells, atomic, nil, cons, Leaf, atomic_leaf, cell_leaf, name_of, leaf_count, leaves_from, all_leaves_from, leaves, outs_of}

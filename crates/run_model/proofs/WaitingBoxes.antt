@@ -11,7 +11,14 @@ use Rattle.atomic_face.specs.declared.class.Class.{Class}
 use Rattle.atomic_face.specs.declared.class.Class.TheVariants.{Queue, Generator, Cpu, Counter, Table}
 use Rattle.atomic_face.specs.declared.class.PortNo.{PortNo}
 use Rattle.atomic_face.specs.Words.{no_time, time_in, word_of, value_in, milliseconds}
-use Rattle.atomic_face.specs.Classes.{Bag, is_at, same_time, QueueState, queue_state, queue_internal, queue_input, queue_inputs, queue_closing, queue_next, queue_moved, is_empty, first_time, GeneratorState, GeneratorSettings, generator_state, generator_settings, generator_words, generator_internal, is_none_left, one_less, cpu_pairs, cpu_words, cpu_next, cpu_put, cpu_inputs, cpu_moved, pairs_at, CounterState, counter_state, counter_words, counter_input, counter_inputs, counter_closing, counter_internal, or_none, setting, TableSettings, TableState, Take, table_settings, table_state, entered, due_after, hold_of, taken, takes, table_input, table_internal, next_of, moved_state, initial_state}
+use Rattle.atomic_face.specs.Bags.{same_time}
+use Rattle.atomic_face.specs.Parameters.{first_time, setting}
+use Rattle.atomic_face.specs.Queue.{QueueState, queue_state, queue_internal, queue_input, queue_inputs, queue_closing, queue_next, queue_moved, is_empty}
+use Rattle.atomic_face.specs.Generator.{GeneratorState, GeneratorSettings, generator_state, generator_settings, generator_words, generator_internal, is_none_left, one_less}
+use Rattle.atomic_face.specs.Cpu.{cpu_pairs, cpu_words, cpu_next, cpu_put, cpu_inputs, cpu_moved, pairs_at}
+use Rattle.atomic_face.specs.Counter.{CounterState, counter_state, counter_words, counter_input, counter_inputs, counter_closing, counter_internal, or_none}
+use Rattle.atomic_face.specs.StateTable.{TableSettings, TableState, Take, table_settings, table_state, entered, due_after, hold_of, taken, takes, table_input, table_internal}
+use Rattle.atomic_face.specs.Classes.{Bag, is_at, next_of, moved_state, initial_state}
 use Rattle.run_model.specs.Waiting.{IsNotBefore, IsTimeFrom, NeverFalls, BoxWaitsFrom}
 
 -- ---- queue: a value is prepared from an instant on

@@ -10,7 +10,13 @@ use Rattle.cell_grid.specs.Space.{cell_count}
 use Rattle.atomic_face.specs.declared.class.Class.{Class}
 use Rattle.atomic_face.specs.declared.class.Class.TheVariants.{Queue, Generator, Cpu, Counter, Table}
 use Rattle.atomic_face.specs.Words.{time_in, value_in, milliseconds}
-use Rattle.atomic_face.specs.Classes.{first_time, generator_settings, setting, Hold, table_settings, same_word, any_word, queue_state, generator_state, cpu_pairs, counter_state, table_state}
+use Rattle.atomic_face.specs.Parameters.{first_time, setting}
+use Rattle.atomic_face.specs.Queue.{queue_state}
+use Rattle.atomic_face.specs.Generator.{generator_settings, generator_state}
+use Rattle.atomic_face.specs.Cpu.{cpu_pairs}
+use Rattle.atomic_face.specs.Counter.{counter_state}
+use Rattle.atomic_face.specs.TableSettings.{any_word}
+use Rattle.atomic_face.specs.StateTable.{Hold, table_settings, same_word, table_state}
 use Rattle.model_tree.specs.Tree.{Group, Tree, Trees, coupled, cells, atomic, nil, cons}
 use Rattle.run_model.specs.CellStep.{PortState, CellState}
 use Rattle.run_model.specs.Cycle.{LeafState, box_state, cell_state}
@@ -62,15 +68,19 @@ IsValueWord w = IsBounded (value_in w)
 
 -- the value of a hold, unless it is the last value taken
 abbrev pub IsBoundedHold : Hold → Type 0
-IsBoundedHold h = IfSome (time_in h.time) IsDelay × (same_word h.value any_word ≡ false → IsValueWord h.value)
+IsBoundedHold h =
+    IfSome (time_in h.time) IsDelay × (same_word h.value any_word ≡ false → IsValueWord h.value)
 
 -- the times and values of a box
 abbrev pub AreBoundedSettings : Class → List ℤ → Type 0
 AreBoundedSettings Queue settings = IsDelay (first_time settings)
 AreBoundedSettings Generator settings =
-    IfSome (time_in (generator_settings settings).start) IsTime × IsDelay (milliseconds (generator_settings settings).period) × IsValueWord (generator_settings settings).value
+    IfSome (time_in (generator_settings settings).start) IsTime
+    × IsDelay (milliseconds (generator_settings settings).period)
+    × IsValueWord (generator_settings settings).value
 AreBoundedSettings Cpu settings = IsDelay (first_time settings)
-AreBoundedSettings Counter settings = IsDelay (milliseconds (setting settings 0)) × IsValueWord (setting settings 1)
+AreBoundedSettings Counter settings =
+    IsDelay (milliseconds (setting settings 0)) × IsValueWord (setting settings 1)
 AreBoundedSettings Table settings = All IsBoundedHold (table_settings settings).holds
 
 abbrev mutual
@@ -110,11 +120,15 @@ AreBoundedWords p = IfSome (time_in p.0) IsTime × IsValueWord p.1
 
 -- the times and values of its state
 abbrev pub IsBoundedBox : Class → List ℤ → Type 0
-IsBoundedBox Queue state = IfSome (time_in (queue_state state).due) IsTime × All IsValueWord (queue_state state).waiting
-IsBoundedBox Generator state = IfSome (time_in (generator_state state).next) IsTime × IsValueWord (generator_state state).value
+IsBoundedBox Queue state =
+    IfSome (time_in (queue_state state).due) IsTime × All IsValueWord (queue_state state).waiting
+IsBoundedBox Generator state =
+    IfSome (time_in (generator_state state).next) IsTime × IsValueWord (generator_state state).value
 IsBoundedBox Cpu state = All AreBoundedWords (cpu_pairs state)
-IsBoundedBox Counter state = IfSome (time_in (counter_state state).due) IsTime × IsValueWord (counter_state state).total
-IsBoundedBox Table state = IfSome (time_in (table_state state).due) IsTime × IsValueWord (table_state state).last
+IsBoundedBox Counter state =
+    IfSome (time_in (counter_state state).due) IsTime × IsValueWord (counter_state state).total
+IsBoundedBox Table state =
+    IfSome (time_in (table_state state).due) IsTime × IsValueWord (table_state state).last
 
 -- a box or a cell
 abbrev pub IsBoundedLeaf : LeafState → Type 0
@@ -154,10 +168,12 @@ pub record IsBoundedCycle (end : ℕ) (c : Cycle) : Type 0 where
 -- of a bounded model with bounded events
 abbrev pub StartIsBounded : Type 0
 StartIsBounded =
-    (tree : Tree) (events : List Event) → HasBoundedValues tree → All IsBoundedEvent events → IsBoundedState (start tree events)
+    (tree : Tree) (events : List Event) → HasBoundedValues tree → All IsBoundedEvent events
+    → IsBoundedState (start tree events)
 
 -- from a bounded state, up to an end of at most 99:59:59:999
 abbrev pub RunsAreBounded : Type 0
 RunsAreBounded =
-    (tree : Tree) (end limit : ℕ) (s l : RunState) (cs : List Cycle) (v : Verdict) → HasBoundedValues tree → IsDelay end → IsBoundedState s → Runs tree end limit s cs v l
+    (tree : Tree) (end limit : ℕ) (s l : RunState) (cs : List Cycle) (v : Verdict)
+    → HasBoundedValues tree → IsDelay end → IsBoundedState s → Runs tree end limit s cs v l
     → All (IsBoundedCycle end) cs × IsBoundedState l

@@ -13,5 +13,7 @@ use Rattle.run_model.specs.Bounds.{AreBoundedSettings}
 -- a move at a time, with bounded values, keeps a state a state
 abbrev pub StaysAState : Class → Type 0
 StaysAState class =
-    (settings state : List ℤ) (t : ℕ) (bag : Bag) → AreBoundedSettings class settings → IsDelay t → All (λ (i : PortNo × Value). IsBounded i.1) bag → is_box_state class settings state ≡ true
-    → IfSome (moved_state class settings state t bag) (λ words. is_box_state class settings words ≡ true)
+    (settings state : List ℤ) (t : ℕ) (bag : Bag) → AreBoundedSettings class settings → IsDelay t
+    → All (λ (i : PortNo × Value). IsBounded i.1) bag → is_box_state class settings state ≡ true
+    → IfSome (moved_state class settings state t bag)
+    (λ words. is_box_state class settings words ≡ true)

@@ -31,5 +31,7 @@ IsCell (cell_leaf g first cell) = ⊤
 -- over any run from a state that stands and fits
 abbrev pub EmitsWhatItGives : Type 0
 EmitsWhatItGives =
-    (tree : Tree) (end limit low leaf : ℕ) (s l : RunState) (cs : List Cycle) (v : Verdict) → StandsFrom limit low s → FitsTree tree s.leaf_states → OfLeaf tree leaf IsCell
-    → Runs tree end limit s cs v l → emitted_at l.leaf_states leaf ≡ last_given leaf cs (emitted_at s.leaf_states leaf)
+    (tree : Tree) (end limit low leaf : ℕ) (s l : RunState) (cs : List Cycle) (v : Verdict)
+    → StandsFrom limit low s → FitsTree tree s.leaf_states → OfLeaf tree leaf IsCell
+    → Runs tree end limit s cs v l
+    → emitted_at l.leaf_states leaf ≡ last_given leaf cs (emitted_at s.leaf_states leaf)

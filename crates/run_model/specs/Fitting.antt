@@ -1,4 +1,5 @@
--- The states of a run fit the leaves of its model, and its records name leaves and ports that there are.
+-- The states of a run fit the leaves of its model, and its records name leaves and ports that there
+-- are.
 use Rattle.std.specs.Prelude.{◌≡◌, ℕ, suc, ◌<◌, ◌≤◌, Bool, Option, List, length, slice_get, IfOk, IsSome, IsNone, IsSomeAnd}
 use Rattle.std.specs.List.{All, AllZip}
 use Rattle.quantity.specs.declared.value.Value.{Value}
@@ -20,7 +21,8 @@ abbrev pub Fits : Leaf → LeafState → Type 0
 Fits (atomic_leaf name class settings) (box_state b) = (b.kind ≡ class) × (b.settings ≡ settings)
 Fits (atomic_leaf name class settings) (cell_state c) = ⊥
 Fits (cell_leaf g first cell) (box_state b) = ⊥
-Fits (cell_leaf g first cell) (cell_state c) = HasNumbers (suc (length g.port_values)) (length g.variable_values) c
+Fits (cell_leaf g first cell) (cell_state c) =
+    HasNumbers (suc (length g.port_values)) (length g.variable_values) c
 
 -- each state fits its leaf
 abbrev pub FitsTree : Tree → List LeafState → Type 0
@@ -59,18 +61,22 @@ StartFits = (tree : Tree) (events : List Event) → FitsTree tree (start tree ev
 
 -- a cell keeps its ports and variables where it gives output, and where it moves
 pub record CellsKeepNumbers : Type 0 where
-  pub emission : (ports variables t : ℕ) (c : CellState) → HasNumbers ports variables c → HasNumbers ports variables (cell_emitted t c)
-  pub move : (ports variables : ℕ) (g : Group) (cell t : ℕ) (woken : Bool) (sight : Sight) (bag : Bag) (c : CellState) → HasNumbers ports variables c
+  pub emission : (ports variables t : ℕ) (c : CellState) → HasNumbers ports variables c
+      → HasNumbers ports variables (cell_emitted t c)
+  pub move : (ports variables : ℕ) (g : Group) (cell t : ℕ) (woken : Bool) (sight : Sight)
+      (bag : Bag) (c : CellState) → HasNumbers ports variables c
       → IfOk (cell_moved g cell t woken sight bag c) (HasNumbers ports variables)
 
 -- one cycle
 abbrev pub CycleFits : Type 0
 CycleFits =
-    (tree : Tree) (end limit : ℕ) (s n : RunState) (c : Cycle) → FitsTree tree s.leaf_states → next_cycle tree end limit s ≡ cycled c n
+    (tree : Tree) (end limit : ℕ) (s n : RunState) (c : Cycle) → FitsTree tree s.leaf_states
+    → next_cycle tree end limit s ≡ cycled c n
     → NamesItsParts tree c × FitsTree tree n.leaf_states
 
 -- over a whole run
 abbrev pub RunsFit : Type 0
 RunsFit =
-    (tree : Tree) (end limit : ℕ) (s l : RunState) (cs : List Cycle) (v : Verdict) → FitsTree tree s.leaf_states → Runs tree end limit s cs v l
+    (tree : Tree) (end limit : ℕ) (s l : RunState) (cs : List Cycle) (v : Verdict)
+    → FitsTree tree s.leaf_states → Runs tree end limit s cs v l
     → All (NamesItsParts tree) cs × FitsTree tree l.leaf_states

@@ -17,10 +17,14 @@ pub record IsJoined (first : ℕ) (begun more whole : Run) : Type 0 where
 -- from a state in which no cycle was run
 abbrev pub CyclesJoin : Type 0
 CyclesJoin =
-    (tree : Tree) (first last limit low : ℕ) (s : RunState) → StandsFrom limit low s → s.last ≡ None → first ≤ last → (run_to tree first limit s).verdict ≡ done
-    → IsJoined first (run_to tree first limit s) (run_to tree last limit (resumed first (run_to tree first limit s).left.leaf_states s.events)) (run_to tree last limit s)
+    (tree : Tree) (first last limit low : ℕ) (s : RunState) → StandsFrom limit low s → s.last ≡ None
+    → first ≤ last → (run_to tree first limit s).verdict ≡ done
+    → IsJoined first (run_to tree first limit s)
+    (run_to tree last limit (resumed first (run_to tree first limit s).left.leaf_states s.events))
+    (run_to tree last limit s)
 
 -- a state that is saved again has the events after its own time
 abbrev pub ResumesAgain : Type 0
 ResumesAgain =
-    (first second : ℕ) (states others : List LeafState) (events : List Event) → first ≤ second → resumed second states (resumed first others events).events ≡ resumed second states events
+    (first second : ℕ) (states others : List LeafState) (events : List Event) → first ≤ second
+    → resumed second states (resumed first others events).events ≡ resumed second states events

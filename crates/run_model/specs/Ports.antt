@@ -23,9 +23,12 @@ each_took kind at os ps = ps
 abbrev pub ports_differ : List (ℕ × Value) → Bool
 ports_differ gs = differ (map (λ (g : ℕ × Value). g.0) gs)
 
--- where values are given at different ports, taking them in written order is taking them port by port
+-- where values are given at different ports, taking them in written order is taking them port by
+-- port
 pub record TakesByPort : Type 0 where
-  pub any_ports : (kind : DelayKind) (at : ℕ) (gs : List (ℕ × Value)) (ps : List PortState) → ports_differ gs ≡ true
+  pub any_ports : (kind : DelayKind) (at : ℕ) (gs : List (ℕ × Value)) (ps : List PortState)
+      → ports_differ gs ≡ true
       → took kind at gs ps ≡ each_took kind at (map (given_at gs) (range_with_len 0 (length ps))) ps
-  pub four_ports : (kind : DelayKind) (at : ℕ) (gs : List (ℕ × Value)) (ps : List PortState) → ports_differ gs ≡ true → length ps ≤ 4
+  pub four_ports : (kind : DelayKind) (at : ℕ) (gs : List (ℕ × Value)) (ps : List PortState)
+      → ports_differ gs ≡ true → length ps ≤ 4
       → took kind at gs ps ≡ each_took kind at (by_port gs) ps

@@ -61,7 +61,8 @@ computed_of (cell_state c) = option_map (λ (p : PortState). p.computed) (slice_
 -- the S record of a leaf that moved
 abbrev pub record_of_move : ℕ → Moved → Option StateRecord
 record_of_move leaf stayed = None
-record_of_move leaf (moved s) = Some (record { leaf = leaf; value = computed_of s; next = leaf_next s })
+record_of_move leaf (moved s) =
+    Some (record { leaf = leaf; value = computed_of s; next = leaf_next s })
 record_of_move leaf (stopped stop) = None
 
 -- the same of a pair
@@ -74,7 +75,8 @@ out_records p = map (λ v. record { port = p.0; value = v }) p.1
 
 -- ---- one cycle
 
--- where a run stands: its leaves, the events not yet taken, and the last instant with the number of its cycles
+-- where a run stands: its leaves, the events not yet taken, and the last instant with the number of
+-- its cycles
 pub record RunState : Type 0 where
   pub leaf_states : List LeafState
   pub events : List Event
@@ -83,12 +85,18 @@ pub record RunState : Type 0 where
 
 -- all leaves at the start, and all events
 abbrev pub start : Tree → List Event → RunState
-start tree events = record { leaf_states = map initial_leaf (leaves tree); events = events; last = None; count = 0 }
+start tree events =
+    record { leaf_states = map initial_leaf (leaves tree); events = events; last = None; count = 0 }
 
 -- a saved state of this time, with the events after it
 abbrev pub resumed : ℕ → List LeafState → List Event → RunState
 resumed time states events =
-    record { leaf_states = states; events = filter (λ (e : Event). nat_lt time e.time) events; last = None; count = 0 }
+    record {
+      leaf_states = states;
+      events = filter (λ (e : Event). nat_lt time e.time) events;
+      last = None;
+      count = 0;
+    }
 
 -- the least time of an event
 abbrev pub first_event : List Event → Option ℕ
@@ -156,7 +164,8 @@ unless_stop t (Some p) c s = ended (stop p.0 t p.1)
 
 -- the cycle from what was given and what moved
 abbrev pub moved_on : Tree → ℕ → RunState → List Bag → (Word → List Value) → List Moved → Next
-moved_on tree t s gave top ms = unless_stop t (first_stop 0 ms) (cycle_of tree t gave top ms) (state_after t s ms)
+moved_on tree t s gave top ms =
+    unless_stop t (first_stop 0 ms) (cycle_of tree t gave top ms) (state_after t s ms)
 
 -- the cycle at an instant
 abbrev pub cycled_at : Tree → ℕ → RunState → Next
@@ -169,7 +178,8 @@ cycled_at tree t s =
 abbrev pub next_at : Tree → ℕ → ℕ → RunState → Option ℕ → Next
 next_at tree end limit s None = ended done
 next_at tree end limit s (Some t) =
-    if nat_lt end t then ended done else if nat_le limit (cycles_at t s) then ended (too_many t) else cycled_at tree t s
+    if nat_lt end t then ended done
+    else if nat_le limit (cycles_at t s) then ended (too_many t) else cycled_at tree t s
 
 -- the next cycle, or the verdict
 unfoldable pub next_cycle : Tree → ℕ → ℕ → RunState → Next
@@ -200,7 +210,8 @@ at_last s (cycled c n) = record { cycles = []; verdict = too_many c.time; left =
 -- at most n cycles, and then a verdict
 unfoldable pub run_from : ℕ → Tree → ℕ → ℕ → RunState → Run
 run_from zero tree end limit s = at_last s (next_cycle tree end limit s)
-run_from (suc n) tree end limit s = and_on s (next_cycle tree end limit s) (run_from n tree end limit)
+run_from (suc n) tree end limit s =
+    and_on s (next_cycle tree end limit s) (run_from n tree end limit)
 
 -- at each instant up to the end there are at most `limit` cycles
 abbrev pub most_cycles : ℕ → ℕ → ℕ

@@ -5,7 +5,8 @@ use Rattle.quantity.specs.declared.value.Value.{Value}
 use Rattle.atomic_face.specs.declared.class.Class.{Class}
 use Rattle.atomic_face.specs.declared.class.Class.TheVariants.{Queue, Generator, Cpu, Counter, Table}
 use Rattle.atomic_face.specs.Words.{milliseconds}
-use Rattle.atomic_face.specs.Classes.{next_of, cpu_pairs}
+use Rattle.atomic_face.specs.Cpu.{cpu_pairs}
+use Rattle.atomic_face.specs.Classes.{next_of}
 use Rattle.run_model.specs.CellStep.{PortState, CellState}
 use Rattle.run_model.specs.Cycle.{LeafState, box_state, cell_state}
 use Rattle.run_model.specs.Run.{Event, RunState}
@@ -47,7 +48,8 @@ abbrev pub LeafWaitsFrom : ℕ → LeafState → Type 0
 LeafWaitsFrom low (box_state b) = BoxWaitsFrom low b.kind b.state
 LeafWaitsFrom low (cell_state c) = CellWaitsFrom low c
 
--- where a run stands between two cycles: all that waits is from this instant on, and the last one isn't later
+-- where a run stands between two cycles: all that waits is from this instant on, and the last one
+-- isn't later
 pub record StandsFrom (limit low : ℕ) (s : RunState) : Type 0 where
   pub leaves : All (LeafWaitsFrom low) s.leaf_states
   pub events : All (λ (e : Event). low ≤ e.time) s.events

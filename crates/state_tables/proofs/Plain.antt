@@ -6,9 +6,8 @@ use Rattle.std.specs.List.{flat_map, find}
 use Rattle.std.specs.Option.{option_map, unwrap_or, is_some}
 use Rattle.quantity.specs.declared.value.Value.{Value}
 use Rattle.atomic_face.specs.declared.class.PortNo.{PortNo}
-use Rattle.atomic_face.specs.Words.{no_time, word_of}
-use Rattle.atomic_face.specs.BoxStates.{has_hold, is_below, is_due, is_none_word, is_table, is_value_word}
-use Rattle.atomic_face.specs.Classes.{holds_in, takes_in, table_input, table_settings, taken, takes}
+use Rattle.atomic_face.specs.Words.{no_time, word_of, is_due, is_none_word, is_value_word}
+use Rattle.atomic_face.specs.StateTable.{has_hold, is_below, is_table, holds_in, takes_in, table_input, table_settings, taken, takes}
 use Rattle.state_tables.specs.declared.settings.Hold.{Hold}
 use Rattle.state_tables.specs.declared.settings.Take.{Take}
 use Rattle.state_tables.specs.declared.settings.TableSettings.{TableSettings}

@@ -3,24 +3,28 @@ use Rattle.std.specs.Prelude.{ℕ, ◌==◌, ◌&&◌, ◌||◌, Bool, Option, S
 use Rattle.quantity.specs.declared.value.Value.{Value}
 use Rattle.atomic_face.specs.declared.class.PortNo.{PortNo}
 use Rattle.atomic_face.specs.Words.{word_of, word_or_none}
-use Rattle.atomic_face.specs.Classes.{any_word, no_hold, same_word}
-use Rattle.atomic_face.specs.Classes.{Hold as PlainHold, Take as PlainTake, TableSettings as PlainSettings, TableState as PlainState}
+use Rattle.atomic_face.specs.TableSettings.{any_word}
+use Rattle.atomic_face.specs.StateTable.{no_hold, same_word, Hold as PlainHold, Take as PlainTake, TableSettings as PlainSettings, TableState as PlainState}
 use Rattle.state_tables.specs.declared.settings.Hold.{Hold}
 use Rattle.state_tables.specs.declared.settings.Take.{Take}
 use Rattle.state_tables.specs.declared.settings.TableSettings.{TableSettings}
 use Rattle.state_tables.specs.declared.moves.Standing.{Standing}
 use Rattle.state_tables.specs.Settings.{shown_word, wanted_word}
 
+-- a hold in code as one of the definitions
 abbrev pub plain_hold : Option Hold → PlainHold
 plain_hold None = no_hold
 plain_hold (Some h) = record { time = pos h.time; value = shown_word h.shown; next = h.next }
 
+-- a take in code as one of the definitions
 abbrev pub plain_take : Take → PlainTake
 plain_take t = record { state = t.state; port = t.port.0; match = wanted_word t.wanted; next = t.next }
 
+-- settings in code as those of the definitions
 abbrev pub plain_settings : TableSettings → PlainSettings
 plain_settings s = record { initial = s.initial; holds = map plain_hold s.holds.items; takes = map plain_take s.takes.items }
 
+-- a state in code as one of the definitions
 abbrev pub plain_state : Standing → PlainState
 plain_state s = record { state = s.state; due = word_or_none s.due; last = word_of s.last }
 

@@ -17,9 +17,11 @@ least_of (Some a) (Some b) = Some (min a b)
 
 -- ---- lines that are off their form
 
+-- the first state is none of the states
 abbrev pub is_initial_off : List Bytes → Param → Bool
 is_initial_off names e = bytes_eq e.key (codes "initial") && not (is_some (number_in names e.value))
 
+-- a take off its form
 abbrev pub is_take_off : List Bytes → Param → Bool
 is_take_off names e = bytes_eq e.key (codes "take") && not (is_some (take_in names e))
 
@@ -29,9 +31,11 @@ hold_lines names before e = if bytes_eq e.key (codes "hold") then line_unless (i
 
 -- ---- holds
 
+-- the words of a hold
 abbrev pub words_of_hold : Hold → List ℤ
 words_of_hold h = pos h.time ∷ shown_word h.shown ∷ pos h.next ∷ []
 
+-- a hold as it was read
 abbrev pub hold_read : ℕ × Hold → HoldWords
 hold_read h = record { state = h.0; words = words_of_hold h.1 }
 

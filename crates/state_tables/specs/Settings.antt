@@ -2,7 +2,7 @@
 use Rattle.std.specs.Prelude.{ℕ, ◌<◌, ◌≤◌, List, [], ◌∷◌, ◌++◌, Option, Some, None, length, All, IfSome, ℤ, pos}
 use Rattle.std.specs.List.{flat_map}
 use Rattle.atomic_face.specs.Words.{no_time, word_of}
-use Rattle.atomic_face.specs.Classes.{any_word}
+use Rattle.atomic_face.specs.TableSettings.{any_word}
 use Rattle.state_tables.specs.declared.settings.Shown.{Shown}
 use Rattle.state_tables.specs.declared.settings.Shown.TheVariants as shown
 use Rattle.state_tables.specs.declared.settings.Wanted.{Wanted}
@@ -11,10 +11,12 @@ use Rattle.state_tables.specs.declared.settings.Hold.{Hold}
 use Rattle.state_tables.specs.declared.settings.Take.{Take}
 use Rattle.state_tables.specs.declared.settings.TableSettings.{TableSettings}
 
+-- the word of the value that a hold gives
 abbrev pub shown_word : Shown → ℤ
 shown_word (shown.Value v) = word_of v
 shown_word shown.Last = any_word
 
+-- the word of the value that a take wants
 abbrev pub wanted_word : Wanted → ℤ
 wanted_word (wanted.Value v) = word_of v
 wanted_word wanted.Any = any_word
@@ -28,6 +30,7 @@ hold_words (Some h) = pos h.time ∷ shown_word h.shown ∷ pos h.next ∷ []
 abbrev pub take_words : Take → List ℤ
 take_words t = pos t.state ∷ pos t.port.0 ∷ wanted_word t.wanted ∷ pos t.next ∷ []
 
+-- the words of settings
 abbrev pub words_of : TableSettings → List ℤ
 words_of s =
     pos (length s.holds.items) ∷ pos s.initial ∷ (flat_map hold_words s.holds.items ++ flat_map take_words s.takes.items)
@@ -36,6 +39,7 @@ words_of s =
 abbrev pub IsHoldOf : ℕ → Hold → Type 0
 IsHoldOf states h = (h.time ≤ 359999999) × (h.next < states)
 
+-- a take between states that are there
 abbrev pub IsTakeOf : ℕ → Take → Type 0
 IsTakeOf states t = (t.state < states) × (t.next < states)
 

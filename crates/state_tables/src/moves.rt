@@ -1,7 +1,7 @@
 // The moves of tables.
 ghost use Rattle.std.specs.Prelude.{◌≡◌, ◌≤◌};
 ghost use Rattle.std.specs.List.{find};
-ghost use Rattle.atomic_face.specs.Classes.{entered, held_value, hold_of, table_input, table_internal, table_moved};
+ghost use Rattle.atomic_face.specs.StateTable.{entered, held_value, hold_of, table_input, table_internal, table_moved};
 ghost use Rattle.atomic_face.specs.Words.{word_of};
 ghost use Rattle.state_tables.specs.Holds.{hold_at, AreShort};
 

@@ -72,7 +72,7 @@ impl AtomicModel for TableModel {
 
 impl TableModel {
     ghost use Rattle.std.specs.Prelude.{[], ◌∷◌, pos, IfOk};
-    ghost use Rattle.atomic_face.specs.BoxStates.{is_below, is_table};
+    ghost use Rattle.atomic_face.specs.StateTable.{is_below, is_table};
     ghost use Rattle.atomic_face.specs.Moves.{started};
     ghost use Rattle.atomic_face.specs.Settings.{settings_of};
     ghost use Rattle.state_tables.specs.Settings.{words_of, AreSettings};

@@ -1,6 +1,6 @@
 use Rattle.std.proofs.Common.{◌≡◌, ◌++◌, length}
 use Rattle.std.specs.Prelude.{pos}
-use Rattle.atomic_face.specs.BoxStates.{are_pairs}
+use Rattle.atomic_face.specs.Cpu.{are_pairs}
 use Rattle.atomic_kinds.specs.Pairs.{pair_words}
 use Rattle.atomic_kinds.proofs.cpu.pairs_of.Given as goal
 

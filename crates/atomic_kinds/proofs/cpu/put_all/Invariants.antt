@@ -1,6 +1,6 @@
 use Rattle.std.proofs.Common.{◌≡◌, true, ◌≤◌, ◌+◌, ◌-◌, length, drop}
 use Rattle.std.specs.VecDeque.{deque_len, deque_capacity}
-use Rattle.atomic_face.specs.Classes.{cpu_inputs}
+use Rattle.atomic_face.specs.Cpu.{cpu_inputs}
 use Rattle.atomic_kinds.specs.Pairs.{rises_from, word_pairs}
 use Rattle.atomic_kinds.proofs.cpu.put_all.Given as goal
 

@@ -1,6 +1,7 @@
 use Rattle.std.proofs.Common.{◌≡◌, drop}
 use Rattle.std.specs.Prelude.{pos}
-use Rattle.atomic_face.specs.Settings.{parameter, lines_off_of, least_line}
+use Rattle.atomic_face.specs.Parameters.{parameter, lines_off_of}
+use Rattle.atomic_face.specs.Settings.{least_line}
 use Rattle.atomic_kinds.specs.Parameters.{word_in, least_of}
 use Rattle.atomic_kinds.proofs.parameters.line_off.Given as goal
 

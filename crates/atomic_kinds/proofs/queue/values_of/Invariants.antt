@@ -1,6 +1,5 @@
 use Rattle.std.proofs.Common.{◌≡◌, drop, take, map}
-use Rattle.atomic_face.specs.BoxStates.{are_values}
-use Rattle.atomic_face.specs.Words.{word_of}
+use Rattle.atomic_face.specs.Words.{are_values, word_of}
 use Rattle.atomic_kinds.proofs.queue.values_of.Given as goal
 
 abbrev pub invariant-loop-word : goal.invariant-loop-word

@@ -3,9 +3,8 @@ use Rattle.std.specs.Prelude.{◌&&◌}
 use Rattle.std.specs.List.{position}
 use Rattle.std.proofs.lemmas.List.{length-set}
 use Rattle.std.proofs.lemmas.List.Quantifiers.{position-Some}
-use Rattle.atomic_face.specs.declared.class.Class.{Class}
-use Rattle.atomic_face.specs.declared.class.Class.TheVariants.{Queue, Generator, Cpu, Counter, Table}
-use Rattle.atomic_face.specs.Held.{Held, same_class}
+use Rattle.atomic_face.specs.declared.class.Class.TheVariants.{Queue, Table}
+use Rattle.atomic_face.proofs.ClassNumbers.{same_class-is}
 use Rattle.atomic_face.specs.Stocked.{Stocked, is_free}
 use Rattle.state_tables.proofs.tests.taken.Goals as goal
 
@@ -16,19 +15,12 @@ first_true : (a b : Bool) → a && b ≡ true → a ≡ true
 first_true true b e = refl
 first_true false b e = e
 
-is_table : (k : Class) → same_class k Table ≡ true → k ≡ Table
-is_table Queue e = absurd cc
-is_table Generator e = absurd cc
-is_table Cpu e = absurd cc
-is_table Counter e = absurd cc
-is_table Table e = refl
-
 -- the box that is taken is a table
 kind_taken : (old new : List Stocked) (i : ℕ) → position (is_free Table) old ≡ Some i → ((d : Stocked) → new ≡ set old i (record (get_or old i d) { taken = true })) → (d : Stocked) → (get_or new i d).box.kind ≡ Table
 kind_taken old new i e same d =
     let found = position-Some (is_free Table) old i d e in
     let within : i < length old = found.0 in
-    rw (same d, get_or-set_same) (is_table _ (first_true _ _ found.1))
+    rw (same d, get_or-set_same) (same_class-is _ Table (first_true _ _ found.1))
 
 pub returns : goal.returns
 returns g c =

@@ -1,5 +1,4 @@
 use Rattle.std.proofs.Common.{refl, ap}
-use Rattle.atomic_face.specs.Stocked.{Stocked}
 use Rattle.atomic_face.specs.Moves.{RestoreGives}
 use Rattle.atomic_face.proofs.Shown.{changes-box, map-set_same}
 use Rattle.atomic_face.proofs.Starts.{starts-stay}

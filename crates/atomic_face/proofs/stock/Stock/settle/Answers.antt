@@ -1,5 +1,4 @@
 use Rattle.std.proofs.Common.{refl, ap, IsTrue}
-use Rattle.atomic_face.specs.Stocked.{Stocked}
 use Rattle.atomic_face.specs.Moves.{SettleGives}
 use Rattle.atomic_face.specs.Settings.{are_once}
 use Rattle.atomic_face.proofs.Shown.{changes-box, map-set_same, shown-at}

@@ -1,6 +1,6 @@
 use Rattle.std.proofs.Common.{◌≡◌, drop}
 use Rattle.std.specs.Prelude.{ℤ}
-use Rattle.atomic_face.specs.Classes.{counter_inputs}
+use Rattle.atomic_face.specs.Counter.{counter_inputs}
 use Rattle.atomic_kinds.specs.Counter.{counter_settings, with_total}
 use Rattle.atomic_kinds.proofs.counter.CounterModel.total_after.Given as goal
 

@@ -1,5 +1,5 @@
 use Rattle.std.proofs.Common.{Some, ap, refl}
-use Rattle.atomic_face.specs.Classes.{cpu_words}
+use Rattle.atomic_face.specs.Cpu.{cpu_words}
 use Rattle.atomic_kinds.proofs.PairLemmas.{cpu_moves}
 use Rattle.atomic_kinds.proofs.cpu.CpuModelAtomicModel.advance.Goals as goal
 

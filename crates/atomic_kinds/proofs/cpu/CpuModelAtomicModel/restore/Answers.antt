@@ -1,6 +1,6 @@
 use Rattle.std.proofs.Common.{ap, ◌∙◌}
 use Rattle.std.specs.Prelude.{pos}
-use Rattle.atomic_face.specs.BoxStates.{are_pairs}
+use Rattle.atomic_face.specs.Cpu.{are_pairs}
 use Rattle.atomic_kinds.proofs.Rising.{read_rises}
 use Rattle.atomic_kinds.proofs.cpu.CpuModelAtomicModel.restore.Goals as goal
 

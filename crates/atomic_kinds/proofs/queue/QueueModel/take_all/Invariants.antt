@@ -1,6 +1,6 @@
 use Rattle.std.proofs.Common.{◌≡◌, ◌≤◌, ◌+◌, ◌-◌, length, drop}
 use Rattle.std.specs.VecDeque.{deque_len, deque_capacity}
-use Rattle.atomic_face.specs.Classes.{queue_inputs}
+use Rattle.atomic_face.specs.Queue.{queue_inputs}
 use Rattle.atomic_kinds.specs.Queue.{state_in}
 use Rattle.atomic_kinds.proofs.queue.QueueModel.take_all.Given as goal
 

@@ -1,5 +1,5 @@
 use Rattle.std.proofs.Common.{◌≡◌, drop, fold}
-use Rattle.atomic_face.specs.Classes.{table_input, table_moved}
+use Rattle.atomic_face.specs.StateTable.{table_input, table_moved}
 use Rattle.state_tables.specs.Moves.{plain_settings, plain_state}
 use Rattle.state_tables.proofs.settings.TableSettings.moved.Given as goal
 

@@ -1,7 +1,7 @@
 use Rattle.std.proofs.Common.{sym, ap, ◌∙◌}
 use Rattle.quantity.specs.declared.value.Value.TheVariants.{Undefined}
 use Rattle.atomic_face.specs.declared.class.Class.TheVariants.{Table}
-use Rattle.atomic_face.specs.Classes.{TableState, entered, table_words}
+use Rattle.atomic_face.specs.StateTable.{TableState, entered, table_words}
 use Rattle.atomic_face.specs.Held.{Held}
 use Rattle.atomic_face.specs.Words.{word_of}
 use Rattle.state_tables.specs.Settings.{words_of}

@@ -1,5 +1,5 @@
 use Rattle.std.proofs.Common.{Some, refl, sym, ap, ◌∙◌}
-use Rattle.atomic_face.specs.Classes.{table_moved, table_words}
+use Rattle.atomic_face.specs.StateTable.{table_moved, table_words}
 use Rattle.state_tables.specs.Moves.{plain_state}
 use Rattle.state_tables.proofs.Plain.{plain_words}
 use Rattle.state_tables.proofs.table.TableModelAtomicModel.advance.Goals as goal

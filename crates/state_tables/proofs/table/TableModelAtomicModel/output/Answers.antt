@@ -1,6 +1,7 @@
 use Rattle.std.proofs.Common.{◌≡◌, [], ◌∷◌, ◌++◌, OnOk, sym, ap, subst, ◌∙◌}
 use Rattle.quantity.specs.declared.value.Value.{Value}
-use Rattle.atomic_face.specs.Classes.{held_value, hold_of, outputs}
+use Rattle.atomic_face.specs.Bags.{outputs}
+use Rattle.atomic_face.specs.StateTable.{held_value, hold_of}
 use Rattle.state_tables.specs.Moves.{plain_state}
 use Rattle.state_tables.proofs.Plain.{plain_words}
 use Rattle.state_tables.proofs.table.TableModelAtomicModel.output.Goals as goal

@@ -1,6 +1,6 @@
 use Rattle.std.proofs.Common.{FitsSigned, get_or, pos, sym, ap, w64, rules, ◌∙◌}
 use Rattle.std.proofs.lemmas.Int.{to_z-of_z}
-use Rattle.atomic_face.specs.BoxStates.{is_table}
+use Rattle.atomic_face.specs.StateTable.{is_table}
 use Rattle.atomic_face.specs.Moves.{with_state}
 use Rattle.state_tables.specs.Settings.{words_of}
 use Rattle.state_tables.specs.Table.{held_table}
