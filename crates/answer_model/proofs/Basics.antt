@@ -52,9 +52,6 @@ pub both_false : (a b : Bool) → (a || b) ≡ false → (a ≡ false) × (b ≡
 both_false true b e = absurd (true_false e)
 both_false false b e = (refl, e)
 
-pub same_bytes : (a b : Bytes) → bytes_eq a b ≡ true → a ≡ b
-same_bytes a b e = search (rules, bytes_eq-Decides)
-
 -- ---- lists in two parts
 
 pub both_empty : {A : Type 0} (xs ys : List A) → xs ++ ys ≡ [] → (xs ≡ []) × (ys ≡ [])

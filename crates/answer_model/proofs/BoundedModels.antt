@@ -21,7 +21,7 @@ use Rattle.cell_grid.specs.Places.{cell_in}
 use Rattle.source_text.specs.Lines.{Files, Line, lines_of, filled_lines}
 use Rattle.ma_lines.specs.declared.section.Entry.{Entry}
 use Rattle.ma_lines.specs.Sections.{Section}
-use Rattle.rule_syntax.specs.declared.refusal.RuleRefusal.{RuleRefusal}
+use Rattle.rule_words.specs.declared.refusal.RuleRefusal.{RuleRefusal}
 use Rattle.rule_tree.specs.Expression.{Rule}
 use Rattle.rule_tree.specs.Scope.{Names}
 use Rattle.rule_syntax.specs.RuleOf.{rule_of, FindsTheGrammar}

@@ -6,8 +6,8 @@ use Rattle.std.specs.List.{All, list_any}
 use Rattle.std.specs.Option.{ok_or, unwrap_or}
 use Rattle.std.proofs.lemmas.List.Elements.{All-nil, All-cons}
 use Rattle.quantity.specs.Bytes.{Bytes}
-use Rattle.rule_syntax.specs.declared.refusal.RuleRefusal.{RuleRefusal}
-use Rattle.rule_syntax.specs.declared.refusal.RuleRefusal.TheVariants.{BadRule, BadSort, NotANeighbour, TooLarge, UnknownVariable, UnknownNeighbourPort}
+use Rattle.rule_words.specs.declared.refusal.RuleRefusal.{RuleRefusal}
+use Rattle.rule_words.specs.declared.refusal.RuleRefusal.TheVariants.{BadRule, BadSort, NotANeighbour, TooLarge, UnknownVariable, UnknownNeighbourPort}
 use Rattle.rule_tree.specs.Expression.{Rule}
 use Rattle.rule_tree.specs.Phrases as P
 use Rattle.rule_tree.specs.Phrases.{Phrase, Assigned, Written, Level, phrases}

@@ -17,9 +17,10 @@ use Rattle.atomic_face.specs.declared.class.Class.TheVariants.{Queue, Generator,
 use Rattle.atomic_face.specs.declared.params.Param.{Param}
 use Rattle.atomic_face.specs.Words as W
 use Rattle.atomic_face.specs.Words.{word_of, milliseconds}
-use Rattle.atomic_face.specs.Classes.{holds_in, any_word, same_word, table_settings}
-use Rattle.atomic_face.specs.Settings.{Parameter, parameter, time_word, period_word, positive, value_word, setting_of, settings_of}
-use Rattle.atomic_face.specs.TableSettings.{HoldWords, hold_of, hold_of_words, hold_in, holds_of, hold_words, with_key, value_or, word_in, number_in, take_in, states_of, settings_with}
+use Rattle.atomic_face.specs.TableSettings.{any_word, HoldWords, hold_of, hold_of_words, hold_in, holds_of, hold_words, with_key, value_or, word_in, number_in, take_in, states_of, settings_with}
+use Rattle.atomic_face.specs.StateTable.{holds_in, same_word, table_settings}
+use Rattle.atomic_face.specs.Parameters.{Parameter, parameter, time_word, period_word, positive, value_word, setting_of}
+use Rattle.atomic_face.specs.Settings.{settings_of}
 use Rattle.run_model.specs.Bounds.{IsValueWord, IsBoundedHold, AreBoundedSettings}
 use Rattle.answer_model.proofs.BoundedTexts.{value_bounded, time_early}
 use Rattle.answer_model.proofs.Basics.{true_false, none_some, some_same, then_there, map_there, on_there}

@@ -21,10 +21,12 @@ use Rattle.answer_model.proofs.Basics.{true_false, some_none, map_there}
 use Rattle.answer_model.proofs.SoundParts.{sound_is}
 use Rattle.answer_model.proofs.NamedCells.{none_found, found_in, other_cells}
 
-abbrev group_in : Option (ℕ × Group) → Option Group
+-- the group that is found, without its first leaf
+abbrev pub group_in : Option (ℕ × Group) → Option Group
 group_in o = option_map (λ (p : ℕ × Group). p.1) o
 
-abbrev is_named : Word → Group → Bool
+-- the group has this name
+abbrev pub is_named : Word → Group → Bool
 is_named name g = bytes_eq g.name name
 
 find_in : (name : Word) (xs ys : List Group) → find (is_named name) (xs ++ ys) ≡ option_or (find (is_named name) xs) (find (is_named name) ys)
@@ -72,15 +74,17 @@ cells_found name g first a (suc n) h = go (bytes_eq g.name name) refl
     go true same = refl
     go false same = ap group_in (none_found name rest (other_cells name g first (a + 1) n same))
 
+-- ---- the group of a name, among the leaves and among the groups
+
 mutual
-  found : (t : Tree) (first : ℕ) (name : Word) → is_sound_part t ≡ true → group_in (group_at name (leaves_from t first)) ≡ find (is_named name) (groups t)
-  found (coupled n ins outs children links) first name sound =
+  pub group_found : (t : Tree) (first : ℕ) (name : Word) → is_sound_part t ≡ true → group_in (group_at name (leaves_from t first)) ≡ find (is_named name) (groups t)
+  group_found (coupled n ins outs children links) first name sound =
       all_found children first name (and_parts (has_child children && not (has_repeat ins) && not (has_repeat outs) && are_accepted (face_of_coupled ins outs children) [] links) (are_sound_parts children) sound).1
-  found (cells g) first name sound =
+  group_found (cells g) first name sound =
       let p = and_parts (is_sound_group g && not (has_repeat g.ins) && not (has_repeat g.outs)) (are_accepted (face_of_group g) [] g.links) sound in
       let q = and_parts (is_sound_group g && not (has_repeat g.ins)) (not (has_repeat g.outs)) p.0 in
       cells_found name g first 0 (cell_count g.space) (has_cells g (and_parts (is_sound_group g) (not (has_repeat g.ins)) q.0).0)
-  found (atomic n class settings) first name sound = refl
+  group_found (atomic n class settings) first name sound = refl
 
   all_found : (ts : Trees) (first : ℕ) (name : Word) → are_sound_parts ts ≡ true → group_in (group_at name (all_leaves_from ts first)) ≡ find (is_named name) (all_groups ts)
   all_found nil first name sound = refl
@@ -88,7 +92,7 @@ mutual
       let p = and_parts (is_sound_part t) (are_sound_parts ts) sound in
       let rest = all_leaves_from ts (first + leaf_count t) in
       ap group_in (found_in name (leaves_from t first) rest) ∙ either_in (group_at name (leaves_from t first)) (group_at name rest)
-      ∙ ap (λ o. option_or o (group_in (group_at name rest))) (found t first name p.0) ∙ ap (option_or (find (is_named name) (groups t))) (all_found ts (first + leaf_count t) name p.1)
+      ∙ ap (λ o. option_or o (group_in (group_at name rest))) (group_found t first name p.0) ∙ ap (option_or (find (is_named name) (groups t))) (all_found ts (first + leaf_count t) name p.1)
       ∙ sym (find_in name (groups t) (all_groups ts))
 
 plane_there : (plane : ℕ) (o : Option Group) → has_plane plane o ≡ true → (g : Group) × (o ≡ Some g) × (plane < plane_count g.space)
@@ -102,7 +106,7 @@ pub drawings_have_groups : PassesEachPhase → ReadsSoundModels → DrawingsHave
 drawings_have_groups passes sound bytes files classes d t e =
     let a = passes bytes files classes (Some d) t e in
     let p = plane_there d.plane (group_named d.group t) (right (has_plane d.plane (group_named d.group t)) a.drawn) in
-    let q = map_there (λ (p : ℕ × Group). p.1) (group_at d.group (leaves t)) p.0 (found t 0 d.group (sound_is t (sound bytes files classes (Some d) t e)).parts ∙ p.1) in
+    let q = map_there (λ (p : ℕ × Group). p.1) (group_at d.group (leaves t)) p.0 (group_found t 0 d.group (sound_is t (sound bytes files classes (Some d) t e)).parts ∙ p.1) in
     (q.0, q.1, subst (λ (g : Group). d.plane < plane_count g.space) (sym q.2) p.2)
   where
     right : (b : Bool) → cond b None (Some (refusal 0 NoSuchPlane)) ≡ None → b ≡ true

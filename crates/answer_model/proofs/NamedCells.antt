@@ -18,12 +18,14 @@ use Rattle.cell_grid.specs.Space.{Space, cell_count, dims_of, place_of}
 use Rattle.model_tree.specs.Tree.{Word, Group, Tree, Trees, coupled, cells, atomic, nil, cons, Leaf, atomic_leaf, cell_leaf, leaf_count, leaf_counts, leaves_from, all_leaves_from, leaves}
 use Rattle.model_tree.specs.Sound.{totals, all_totals}
 use Rattle.model_text.specs.Accepted.{ReadsSoundModels}
+use Rattle.text_forms.specs.declared.letter.Letter.TheVariants.{Y}
 use Rattle.text_forms.specs.LogLine.{given}
 use Rattle.text_forms.specs.Lines.{leaf_name}
 use Rattle.text_forms.specs.Frames.{Shown, shown_by, shown_at, shown_of, cell_of}
 use Rattle.answer_model.specs.RunFiles.{group_at}
 use Rattle.answer_model.specs.AcceptedRuns.{GroupsAreNamed}
-use Rattle.answer_model.proofs.Basics.{true_false, none_some, some_same, both_false, same_bytes, both_hold}
+use Rattle.model_text.proofs.Keys.{same_bytes}
+use Rattle.answer_model.proofs.Basics.{true_false, none_some, some_same, both_false, both_hold}
 use Rattle.answer_model.proofs.SoundParts.{sound_is}
 
 -- ---- names that differ
@@ -107,7 +109,7 @@ cell_back s c h = go s.rows s.columns s.planes s.border h
 abbrev Shows : Space → Word → ℕ → ℕ → Leaf → Type 0
 Shows s name f k l =
     (time port : ℕ) (w : Word) (v : Value)
-    → shown_of s name (given 89 time (leaf_name l) w v) ≡ Some (option_to_list (shown_by s f time (record { leaf = k; port = port; value = v })))
+    → shown_of s name (given Y time (leaf_name l) w v) ≡ Some (option_to_list (shown_by s f time (record { leaf = k; port = port; value = v })))
 
 -- the leaves that are numbered from here on
 abbrev AllShow : Space → Word → ℕ → ℕ → List Leaf → Type 0

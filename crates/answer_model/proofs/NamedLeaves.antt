@@ -47,7 +47,9 @@ use Rattle.text_forms.specs.LogLine.{is_leaf}
 use Rattle.text_forms.specs.Lines.{leaf_name}
 use Rattle.answer_model.specs.AcceptedRuns.{IsNamed, ModelsAreBounded, ModelsAreNamed}
 use Rattle.answer_model.proofs.LowerCase.{is_lower, IsFolded, EntriesFold, read_sections_fold, found_holds, words_lower}
-use Rattle.answer_model.proofs.Basics.{true_false, none_some, some_none, cons_nil, some_same, then_there, map_there, on_there, both_none, both_are, both_false, same_bytes, both_empty, both_hold}
+use Rattle.model_text.proofs.Keys.{same_bytes}
+use Rattle.model_text.proofs.Parts.{find_is}
+use Rattle.answer_model.proofs.Basics.{true_false, none_some, some_none, cons_nil, some_same, then_there, map_there, on_there, both_none, both_are, both_false, both_empty, both_hold}
 
 -- ---- names of links' ends
 
@@ -276,14 +278,6 @@ abbrev mutual
 trees_named : (ts : List Tree) → AllByRecursion Named ts → AllNamed (trees ts)
 trees_named [] h = tt
 trees_named (t ∷ ts) h = (h.0, trees_named ts h.1)
-
-find_is : (name : Bytes) (ss : List Section) (t : Section) → section_named ss name ≡ Some t → t.name ≡ name
-find_is name [] t e = absurd (none_some e)
-find_is name (s ∷ ss) t e = go (λ f. find_is name ss t f) (bytes_eq s.name name) refl e
-  where
-    go : (section_named ss name ≡ Some t → t.name ≡ name) → (b : Bool) → bytes_eq s.name name ≡ b → cond b (Some s) (section_named ss name) ≡ Some t → t.name ≡ name
-    go later true same f = subst (λ (u : Section). u.name ≡ name) (some_same s t f) (same_bytes s.name name same)
-    go later false same f = later f
 
 atomic_named : (ss : List Section) (i : Item) (o : Option Class) → is_name (name_of i) ≡ true → AllByRecursion Named (atomic_of ss i o)
 atomic_named ss i None h = tt

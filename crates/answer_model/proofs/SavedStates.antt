@@ -13,9 +13,10 @@ use Rattle.quantity.specs.Written.{if_written, for_some}
 use Rattle.quantity.proofs.DigitLemmas.{both}
 use Rattle.atomic_face.specs.declared.class.Class.{Class}
 use Rattle.atomic_face.specs.declared.class.Class.TheVariants.{Queue, Generator, Cpu, Counter, Table}
-use Rattle.atomic_face.specs.Words.{milliseconds}
-use Rattle.atomic_face.specs.Classes.{next_of, cpu_pairs}
-use Rattle.atomic_face.specs.BoxStates.{is_time_word, is_value_word, are_pairs, is_box_state}
+use Rattle.atomic_face.specs.Words.{milliseconds, is_time_word, is_value_word}
+use Rattle.atomic_face.specs.Cpu.{cpu_pairs, are_pairs}
+use Rattle.atomic_face.specs.Classes.{next_of}
+use Rattle.atomic_face.specs.BoxStates.{is_box_state}
 use Rattle.model_tree.specs.Tree.{Tree, Leaf, atomic_leaf, cell_leaf, leaves}
 use Rattle.run_model.specs.CellStep.{PortState}
 use Rattle.run_model.specs.Cycle.{LeafState, box_state, cell_state}

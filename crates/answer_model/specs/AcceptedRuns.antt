@@ -1,6 +1,7 @@
--- The runs of accepted models: their values are bounded, their leaves and ports have names, and what their logs say is drawn.
-use Rattle.std.specs.Prelude.{◌≡◌, ℕ, ◌<◌, ◌==◌, true, Option, Some, None, List, [], ◌∷◌, length}
-use Rattle.std.specs.List.{All, list_all, list_any}
+-- The runs of accepted models: their values are bounded, their leaves and ports have names, and
+-- what their logs say is drawn.
+use Rattle.std.specs.Prelude.{◌≡◌, ℕ, ◌<◌, true, Option, Some, None, List, [], ◌∷◌, length}
+use Rattle.std.specs.List.{All, list_all}
 use Rattle.std.specs.declared.result.Result.TheVariants.{Ok}
 use Rattle.quantity.specs.Bytes.{Bytes}
 use Rattle.quantity.specs.Names.{is_name}
@@ -14,6 +15,8 @@ use Rattle.quantity.specs.Times.{IsDelay}
 use Rattle.run_model.specs.Bounds.{IsBoundedEvent, HasBoundedValues}
 use Rattle.model_text.specs.Drawings.{Drawing}
 use Rattle.model_text.specs.ModelOf.{model, model_of}
+use Rattle.text_forms.specs.declared.letter.Letter.TheVariants.{Y}
+use Rattle.text_forms.specs.Letters.{has_letter}
 use Rattle.text_forms.specs.LogLine.{is_leaf}
 use Rattle.text_forms.specs.Lines.{leaf_name, further_ports, log_bytes}
 use Rattle.text_forms.specs.Frames.{Picture, frames_of, drawn}
@@ -32,17 +35,21 @@ ModelsAreBounded =
 abbrev pub IsEarly : Event → Type 0
 IsEarly e = IsDelay e.time
 
+-- an accepted event file has bounded values, and no event later than a run may end
 abbrev pub EventsAreBounded : Type 0
 EventsAreBounded =
-    (bytes : Bytes) (ports : List Bytes) (events : List Event) → events_of bytes ports ≡ Ok events → All IsBoundedEvent events × All IsEarly events
+    (bytes : Bytes) (ports : List Bytes) (events : List Event) → events_of bytes ports ≡ Ok events
+    → All IsBoundedEvent events × All IsEarly events
 
 -- each event is at one of these ports, by number
 abbrev pub EventsAreAtPorts : Type 0
 EventsAreAtPorts =
-    (bytes : Bytes) (ports : List Bytes) (events : List Event) → events_of bytes ports ≡ Ok events → All (λ (e : Event). e.port < length ports) events
+    (bytes : Bytes) (ports : List Bytes) (events : List Event) → events_of bytes ports ≡ Ok events
+    → All (λ (e : Event). e.port < length ports) events
 
 -- ---- names
 
+-- the names of a leaf's input ports
 abbrev pub in_ports : Leaf → List Word
 in_ports (atomic_leaf name class settings) = class_ports class
 in_ports (cell_leaf g first cell) = cell_ports g cell
@@ -53,6 +60,7 @@ pub record IsNamed (l : Leaf) : Type 0 where
   pub further : list_all is_name (further_ports l) ≡ true
   pub ins : list_all is_name (in_ports l) ≡ true
 
+-- each leaf of an accepted model has a name
 abbrev pub ModelsAreNamed : Type 0
 ModelsAreNamed =
     (bytes : Bytes) (files : Files) (classes : List Class) (drawing : Option Drawing) (t : Tree)
@@ -69,37 +77,49 @@ GroupsAreNamed =
 abbrev pub DrawingsHaveGroups : Type 0
 DrawingsHaveGroups =
     (bytes : Bytes) (files : Files) (classes : List Class) (d : Drawing) (t : Tree)
-    → (model_of bytes files classes (Some d)).found ≡ model t → (g : ℕ × Group) × (group_at d.group (leaves t) ≡ Some g) × (d.plane < plane_count g.1.space)
+    → (model_of bytes files classes (Some d)).found ≡ model t
+    → (g : ℕ × Group) × (group_at d.group (leaves t) ≡ Some g) × (d.plane < plane_count g.1.space)
 
 -- ---- drawn runs
 
--- the frames drawn from the log of a run are those of the run: of a model, events, an end and limit, letters with Y, and a group
+-- the frames drawn from the log of a run are those of the run: of a model, events, an end and
+-- limit, letters with Y, and a group
 abbrev pub IsDrawn : Tree → List Event → ℕ → Type 0
 IsDrawn t events end =
-    (limit : ℕ) (letters : List ℕ) → list_any (λ c. c == 89) letters ≡ true → (name : Word) (g : ℕ × Group) → group_at name (leaves t) ≡ Some g → (p : Picture)
-    → p.space ≡ g.1.space → drawn p name (log_bytes t letters (run_on t events end limit None).cycles) ≡ Ok (frames_of p g.0 (emitted_before None g) (run_on t events end limit None).cycles)
+    (limit : ℕ) (letters : List ℕ) → has_letter letters Y ≡ true → (name : Word) (g : ℕ × Group)
+    → group_at name (leaves t) ≡ Some g → (p : Picture)
+    → p.space ≡ g.1.space
+    → drawn p name (log_bytes t letters (run_on t events end limit None).cycles)
+    ≡ Ok (frames_of p g.0 (emitted_before None g) (run_on t events end limit None).cycles)
 
+-- the frames of a run of an accepted model are those that its log draws
 abbrev pub RunsAreDrawn : Type 0
 RunsAreDrawn =
     (bytes : Bytes) (files : Files) (classes : List Class) (drawing : Option Drawing) (t : Tree)
-    → (model_of bytes files classes drawing).found ≡ model t → (events : List Event) → All IsBoundedEvent events → (end : ℕ) → IsDelay end → IsDrawn t events end
+    → (model_of bytes files classes drawing).found ≡ model t → (events : List Event)
+    → All IsBoundedEvent events → (end : ℕ) → IsDelay end → IsDrawn t events end
 
 -- the same of an accepted file of events
 abbrev pub FilesAreDrawn : Type 0
 FilesAreDrawn =
     (bytes : Bytes) (files : Files) (classes : List Class) (drawing : Option Drawing) (t : Tree)
-    → (model_of bytes files classes drawing).found ≡ model t → (event_bytes : Bytes) (events : List Event) → events_of event_bytes (ins_of t) ≡ Ok events
+    → (model_of bytes files classes drawing).found ≡ model t
+    → (event_bytes : Bytes) (events : List Event) → events_of event_bytes (ins_of t) ≡ Ok events
     → (end : ℕ) → IsDelay end → IsDrawn t events end
 
 -- how the frames that are asked are drawn
 abbrev pub picture_of : FramesFile → Group → Picture
-picture_of f g = record { space = g.space; plane = f.drawing.plane; width = f.width; decimals = f.decimals }
+picture_of f g =
+    record { space = g.space; plane = f.drawing.plane; width = f.width; decimals = f.decimals }
 
 -- the file of frames that a run makes is what is drawn from its log
 abbrev pub FramesAreDrawn : Type 0
 FramesAreDrawn =
     (bytes : Bytes) (files : Files) (classes : List Class) (f : FramesFile) (t : Tree)
-    → (model_of bytes files classes (Some f.drawing)).found ≡ model t → (events : List Event) → All IsBoundedEvent events → (end : ℕ) → IsDelay end
-    → (limit : ℕ) (letters : List ℕ) → list_any (λ c. c == 89) letters ≡ true
-    → (g : Group) × (text : Bytes) × (drawn (picture_of f g) f.drawing.group (log_bytes t letters (run_on t events end limit None).cycles) ≡ Ok text)
+    → (model_of bytes files classes (Some f.drawing)).found ≡ model t → (events : List Event)
+    → All IsBoundedEvent events → (end : ℕ) → IsDelay end
+    → (limit : ℕ) (letters : List ℕ) → has_letter letters Y ≡ true
+    → (g : Group) × (text : Bytes)
+    × (drawn (picture_of f g) f.drawing.group
+    (log_bytes t letters (run_on t events end limit None).cycles) ≡ Ok text)
     × (frames_file t None (run_on t events end limit None).cycles f ≡ (f.name, text) ∷ [])

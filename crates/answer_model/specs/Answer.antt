@@ -1,4 +1,5 @@
--- What a program answers: the files that it makes, what it shows and complains, its status, and the files that it looks for.
+-- What a program answers: the files that it makes, what it shows and complains, its status, and the
+-- files that it looks for.
 use Rattle.std.specs.Prelude.{ℕ, Option, Some, None, List, [], ◌∷◌, ◌++◌, map, codes, decimal, Result, Ok, Err}
 use Rattle.model_tree.specs.Tree.{Word}
 use Rattle.quantity.specs.Bytes.{Bytes}
@@ -9,9 +10,11 @@ use Rattle.text_forms.specs.Lines.{ended}
 abbrev pub Files : Type 0
 Files = List (Word × Bytes)
 
+-- the names of some files
 abbrev pub names : Files → List Word
 names files = map (λ (f : Word × Bytes). f.0) files
 
+-- what a call leaves: the files it made, what it showed and complained of, its status, and the files that it looked for
 pub record Answer : Type 0 where
   pub made : Files
   pub shown : Bytes
@@ -21,11 +24,13 @@ pub record Answer : Type 0 where
 
 -- nothing is made or shown
 abbrev pub only_complains : ℕ → Bytes → List Word → Answer
-only_complains status line inputs = record { made = []; shown = []; complained = ended line; status = status; inputs = inputs }
+only_complains status line inputs =
+    record { made = []; shown = []; complained = ended line; status = status; inputs = inputs }
 
 -- nothing is made or complained
 abbrev pub only_shows : Bytes → List Word → Answer
-only_shows bytes inputs = record { made = []; shown = bytes; complained = []; status = 0; inputs = inputs }
+only_shows bytes inputs =
+    record { made = []; shown = bytes; complained = []; status = 0; inputs = inputs }
 
 -- ---- one stage after another: the first that ends decides
 
@@ -34,27 +39,32 @@ abbrev pub if_asked : {A : Type 0} → Bytes → Option A → (A → Answer) →
 if_asked form None go = only_complains 2 (codes "usage: " ++ form) []
 if_asked form (Some a) go = go a
 
+-- a file that isn't there ends the call with status 3
 abbrev pub missing : Word → List Word → Answer
 missing name inputs = only_complains 3 (codes "missing: " ++ name) inputs
 
 -- goes on with the bytes of a file and the files looked for, or ends with the file missing
 abbrev pub with_file : Folder → Word → List Word → (Bytes → List Word → Answer) → Answer
 with_file files name inputs go =
-    elim (files name) [ None ↦ missing name (inputs ++ name ∷ []) | Some bytes ↦ go bytes (inputs ++ name ∷ []) ]
+    elim (files name)
+    [ None ↦ missing name (inputs ++ name ∷ []) | Some bytes ↦ go bytes (inputs ++ name ∷ []) ]
 
 -- what is refused, at which line and why
 abbrev pub refused_text : Bytes → ℕ → Bytes → Bytes
 refused_text what line why = what ++ codes " refused: line " ++ decimal line ++ codes ": " ++ why
 
 -- goes on with what was read, or ends refused
-abbrev pub unless_refused : {A E : Type 0} → ℕ → (E → Bytes) → List Word → Result A E → (A → Answer) → Answer
+abbrev pub unless_refused : {A E : Type 0} → ℕ → (E → Bytes) → List Word → Result A E → (A → Answer)
+    → Answer
 unless_refused status text inputs (Err e) go = only_complains status (text e) inputs
 unless_refused status text inputs (Ok x) go = go x
 
 -- ---- lines of faults, which no answer has
 
+-- the complaint of a file that could not be read
 abbrev pub read_fault_line : Word → Bytes
 read_fault_line name = ended (codes "read fault: " ++ name)
 
+-- the complaint of a file that could not be written
 abbrev pub write_fault_line : Word → Bytes
 write_fault_line name = ended (codes "write fault: " ++ name)

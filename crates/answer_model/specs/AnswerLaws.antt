@@ -10,14 +10,19 @@ use Rattle.answer_model.specs.Outcome.{IsOwn}
 
 -- the statuses of refused words and files, and of missing files
 abbrev pub is_refusal : ℕ → Bool
-is_refusal status = (status == 2) || (status == 3) || (status == 6) || (status == 7) || (status == 13) || (status == 14)
+is_refusal status =
+    (status == 2) || (status == 3) || (status == 6) || (status == 7) || (status == 13)
+    || (status == 14)
 
+-- what every answer keeps to
 pub record IsAnswer (a : Answer) : Type 0 where
   -- the status is never that of a fault or of want of memory
   pub own : IsOwn a.status
   -- where words or files are refused, nothing is made or shown
   pub nothing : is_refusal a.status ≡ true → (a.made ≡ []) × (a.shown ≡ [])
 
+-- the answers of both programs keep to it
 pub record AllAreAnswers : Type 0 where
-  pub cdpp : (words : List Word) (files : Folder) (classes : List Class) → IsAnswer (answer words files classes)
+  pub cdpp : (words : List Word) (files : Folder) (classes : List Class)
+      → IsAnswer (answer words files classes)
   pub drawlog : (words : List Word) (files : Folder) → IsAnswer (drawing_answer words files)

@@ -14,11 +14,13 @@ use Rattle.answer_model.specs.Asked.{with_options, is_taken, value_of, or_else, 
 unfoldable pub drawlog_app : App
 drawlog_app = with_options (new_app (codes "drawlog")) (codes "lgswpf")
 
+-- what the words of drawlog ask for
 pub record AskedDrawing : Type 0 where
   pub log : Word
   pub group : Word
   pub picture : Picture
 
+-- a space with cells, and not too many
 abbrev pub space_if : Space → Option Space
 space_if s =
     if nat_lt 0 s.rows && nat_lt 0 s.columns && nat_lt 0 (plane_count s) && nat_le (cell_count s) 1048576 then Some s else None
@@ -33,9 +35,11 @@ space_of (r ∷ c ∷ p ∷ []) =
     space_if (record { rows = r; columns = c; planes = Some p; border = NoWrapped }))))
 space_of parts = None
 
+-- the space that numbers between commas give
 abbrev pub space_in : Word → Option Space
 space_in text = space_of (slice_split (λ c. c == 44) text)
 
+-- what the values of options ask to be drawn
 abbrev pub drawing_in : List Row → Option AskedDrawing
 drawing_in rows =
     for_some (value_of rows (codes "l")) (λ log.
@@ -51,5 +55,6 @@ drawing_in rows =
 unfoldable pub asked_drawing : List Word → Option AskedDrawing
 asked_drawing words = if is_taken drawlog_app words then drawing_in (matches_of drawlog_app words) else None
 
+-- the usage line of drawlog
 abbrev pub drawing_usage : Bytes
 drawing_usage = codes "drawlog -l LOG -g GROUP -s SIZE [-w WIDTH] [-p DECIMALS] [-f PLANE]"

@@ -14,19 +14,24 @@ output line = holding (codes "out.txt") (line ∷ []) ∷ []
 
 abbrev pub counted : List Bytes
 counted =
-    codes "[top]" ∷ codes "components : g@generator c@counter" ∷ codes "out : o" ∷ codes "link : out@g in@c" ∷ codes "link : out@c o"
+    codes "[top]" ∷ codes "components : g@generator c@counter" ∷ codes "out : o"
+    ∷ codes "link : out@g in@c" ∷ codes "link : out@c o"
     ∷ codes "[g]" ∷ codes "period : 00:00:00:010" ∷ codes "[c]" ∷ codes "step : 6000000000" ∷ []
 
 -- ---- lights whose states stand in the file
 
 abbrev pub lights : List Bytes
 lights =
-    codes "[top]" ∷ codes "components : l@table" ∷ codes "in : p" ∷ codes "out : o" ∷ codes "link : p a@l" ∷ codes "link : out@l o"
-    ∷ codes "[l]" ∷ codes "states : red green" ∷ codes "hold : red 00:00:00:030 1 green" ∷ codes "hold : green 00:00:00:050 2 red"
+    codes "[top]" ∷ codes "components : l@table" ∷ codes "in : p" ∷ codes "out : o"
+    ∷ codes "link : p a@l" ∷ codes "link : out@l o"
+    ∷ codes "[l]" ∷ codes "states : red green" ∷ codes "hold : red 00:00:00:030 1 green"
+    ∷ codes "hold : green 00:00:00:050 2 red"
     ∷ codes "take : green a 9 red" ∷ []
 
 abbrev pub lit : Bytes → Answer
-lit event = to (codes "cdpp -m m.ma -t 00:00:00:100 -e e -o out.txt") (model_and lights (holding (codes "e") (event ∷ [])))
+lit event =
+    to (codes "cdpp -m m.ma -t 00:00:00:100 -e e -o out.txt")
+    (model_and lights (holding (codes "e") (event ∷ [])))
 
 abbrev pub two_lights : Bytes → Files
 two_lights second = holding (codes "out.txt") (codes "00:00:00:030 o 1.00000" ∷ second ∷ []) ∷ []
@@ -35,9 +40,24 @@ abbrev pub model_and_events : List Word
 model_and_events = codes "m.ma" ∷ codes "e" ∷ []
 
 pub record BoxesRun : Type 0 where
-  pub queue : to (codes "cdpp -m m.ma -t 00:00:00:000 -l log.txt -o out.txt -L YXS") (model queue_model) ≡ shows (codes "end 00:00:00:000 cycles 2") ((codes "log.txt", queue_log) ∷ output (codes "00:00:00:000 o 8.00000")) just_model
-  pub overflow : to (codes "cdpp -m m.ma -t 00:00:01:000 -l log.txt -o out.txt") (model counted) ≡ complains 9 (codes "overflow: c at 00:00:00:010") (log (y (codes "000") (codes "g") (codes "1") ∷ y (codes "000") (codes "c") (codes "6000000000") ∷ []) ++ output (codes "00:00:00:000 o 6000000000.00000")) just_model
-  pub quiet : to (codes "cdpp -m m.ma -t 00:00:00:100") (model (codes "[top]" ∷ codes "components : q@queue" ∷ [])) ≡ shows (codes "end 00:00:00:100 cycles 0") [] just_model
-  pub taken : lit (codes "00:00:00:040 p 9") ≡ shows (codes "end 00:00:00:100 cycles 3") (two_lights (codes "00:00:00:070 o 1.00000")) model_and_events
-  pub taken_when_due : lit (codes "00:00:00:030 p 9") ≡ shows (codes "end 00:00:00:100 cycles 2") (two_lights (codes "00:00:00:060 o 1.00000")) model_and_events
-  pub no_state : to (codes "cdpp -m m.ma -t 00:00:00:100 -o out.txt") (model (with_line 9 (codes "hold : blue 00:00:00:030 1 red") lights)) ≡ complains 6 (codes "model refused: line 9: 13 BadParameter") [] just_model
+  pub queue : to (codes "cdpp -m m.ma -t 00:00:00:000 -l log.txt -o out.txt -L YXS")
+      (model queue_model)
+      ≡ shows (codes "end 00:00:00:000 cycles 2")
+      ((codes "log.txt", queue_log) ∷ output (codes "00:00:00:000 o 8.00000")) just_model
+  pub overflow : to (codes "cdpp -m m.ma -t 00:00:01:000 -l log.txt -o out.txt") (model counted)
+      ≡ complains 9 (codes "overflow: c at 00:00:00:010")
+      (log (y (codes "000") (codes "g") (codes "1")
+      ∷ y (codes "000") (codes "c") (codes "6000000000") ∷ [])
+      ++ output (codes "00:00:00:000 o 6000000000.00000")) just_model
+  pub quiet : to (codes "cdpp -m m.ma -t 00:00:00:100")
+      (model (codes "[top]" ∷ codes "components : q@queue" ∷ []))
+      ≡ shows (codes "end 00:00:00:100 cycles 0") [] just_model
+  pub taken : lit (codes "00:00:00:040 p 9")
+      ≡ shows (codes "end 00:00:00:100 cycles 3")
+      (two_lights (codes "00:00:00:070 o 1.00000")) model_and_events
+  pub taken_when_due : lit (codes "00:00:00:030 p 9")
+      ≡ shows (codes "end 00:00:00:100 cycles 2")
+      (two_lights (codes "00:00:00:060 o 1.00000")) model_and_events
+  pub no_state : to (codes "cdpp -m m.ma -t 00:00:00:100 -o out.txt")
+      (model (with_line 9 (codes "hold : blue 00:00:00:030 1 red") lights))
+      ≡ complains 6 (codes "model refused: line 9: 13 BadParameter") [] just_model

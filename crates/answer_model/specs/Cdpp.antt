@@ -29,10 +29,12 @@ run_on tree events end limit from = run_to tree end limit (begins tree events fr
 
 -- ---- the stages
 
+-- over the bytes of the model, from its file or made
 abbrev pub with_source : Source → Folder → (Bytes → List Word → Answer) → Answer
 with_source (file name) files go = with_file files name [] go
 with_source (made size) files go = go (made_text size) []
 
+-- over the tree of a model that is accepted; else its refusal
 abbrev pub if_model : ModelRead → List Word → (Tree → List Word → Answer) → Answer
 if_model read inputs go =
     elim read.found [
@@ -41,43 +43,61 @@ if_model read inputs go =
       | model_file.refused r ↦ only_complains 6 (model_refused r) (inputs ++ read.looked)
     ]
 
+-- what a file of frames draws
 abbrev pub drawing_of : Option FramesFile → Option Drawing
 drawing_of f = option_map (λ (f : FramesFile). f.drawing) f
 
+-- over the tree of the model that is asked for
 abbrev pub with_model : Asked → Folder → List Class → (Tree → List Word → Answer) → Answer
 with_model a files classes go =
-    with_source a.source files (λ bytes inputs. if_model (model_of bytes files classes (drawing_of a.frames)) inputs go)
+    with_source a.source files
+    (λ bytes inputs. if_model (model_of bytes files classes (drawing_of a.frames)) inputs go)
 
-abbrev pub with_events : Asked → Folder → Tree → List Word → (List Event → List Word → Answer) → Answer
+-- over the events that are asked for; none without a file
+abbrev pub with_events : Asked → Folder → Tree → List Word → (List Event → List Word → Answer)
+    → Answer
 with_events a files tree inputs go =
     elim a.events [
       | None ↦ go [] inputs
-      | Some name ↦ with_file files name inputs (λ bytes looked. unless_refused 7 events_refused looked (events_of bytes (ins_of tree)) (λ events. go events looked))
+      | Some name ↦ with_file files name inputs
+          (λ bytes looked.
+          unless_refused 7 events_refused looked (events_of bytes (ins_of tree))
+          (λ events. go events looked))
     ]
 
-abbrev pub with_state : Asked → Folder → Tree → List Word → (Option Saved → List Word → Answer) → Answer
+-- over the state that the run goes on from, where one is asked for
+abbrev pub with_state : Asked → Folder → Tree → List Word → (Option Saved → List Word → Answer)
+    → Answer
 with_state a files tree inputs go =
     elim a.state [
       | None ↦ go None inputs
-      | Some name ↦ with_file files name inputs (λ bytes looked. unless_refused 14 state_refused looked (state_of bytes tree a.end) (λ saved. go (Some saved) looked))
+      | Some name ↦ with_file files name inputs
+          (λ bytes looked.
+          unless_refused 14 state_refused looked (state_of bytes tree a.end)
+          (λ saved. go (Some saved) looked))
     ]
 
 -- what is answered once a run can begin
 abbrev pub answer_from : Asked → Tree → List Event → List Word → Option Saved → Answer
-answer_from a tree events inputs from = answer_of_run a tree events from inputs (run_on tree events a.end a.limit from)
+answer_from a tree events inputs from =
+    answer_of_run a tree events from inputs (run_on tree events a.end a.limit from)
 
 -- once there is a model, and these files were looked for
 abbrev pub answer_with : Asked → Folder → Tree → List Word → Answer
 answer_with a files tree inputs =
-    with_events a files tree inputs (λ events inputs. with_state a files tree inputs (λ from inputs. answer_from a tree events inputs from))
+    with_events a files tree inputs
+    (λ events inputs.
+    with_state a files tree inputs (λ from inputs. answer_from a tree events inputs from))
 
 -- to what is asked for: model, events, state, run, of which the first that ends decides
 abbrev pub answer_to : Asked → Folder → List Class → Answer
-answer_to a files classes = with_model a files classes (λ tree inputs. answer_with a files tree inputs)
+answer_to a files classes =
+    with_model a files classes (λ tree inputs. answer_with a files tree inputs)
 
 -- to the words of a command whose options have these letters
 unfoldable pub answer_by : List ℕ → List Word → Folder → List Class → Answer
-answer_by has words files classes = if_asked (usage_of has) (asked_by has words) (λ a. answer_to a files classes)
+answer_by has words files classes =
+    if_asked (usage_of has) (asked_by has words) (λ a. answer_to a files classes)
 
 -- the answer of the program, with the options that it has by now
 abbrev pub answer : List Word → Folder → List Class → Answer

@@ -14,7 +14,11 @@ abbrev pub drawn_answer : AskedDrawing → Bytes → List Word → Answer
 drawn_answer a log inputs =
     if nat_lt 268435456 (length log) then only_complains 13 (log_refused 0) inputs
     else
-    elim (drawn a.picture a.group log) [ Err line ↦ only_complains 13 (log_refused line) inputs | Ok frames ↦ only_shows frames inputs ]
+    elim (drawn a.picture a.group log) [
+      | Err line ↦ only_complains 13 (log_refused line) inputs
+      | Ok frames ↦ only_shows frames inputs
+    ]
 
 unfoldable pub drawing_answer : List Word → Folder → Answer
-drawing_answer words files = if_asked drawing_usage (asked_drawing words) (λ a. with_file files a.log [] (drawn_answer a))
+drawing_answer words files =
+    if_asked drawing_usage (asked_drawing words) (λ a. with_file files a.log [] (drawn_answer a))

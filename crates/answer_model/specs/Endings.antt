@@ -11,22 +11,29 @@ use Rattle.answer_model.specs.Steps.{is_made, did_nothing, and_tried, and_create
 
 -- ---- a line, and what it came to
 
--- a line was complained: all of it, with a status of its own; or a part, since a complaint failed or memory ran out
+-- a line was complained: all of it, with a status of its own; or a part, since a complaint failed
+-- or memory ran out
 pub data Says (line : Bytes) (own : ℕ) (old new : Outside) : ℕ → Type 0 where
   whole : Complained line old new → KeepsWriteFaults old new → Says line own old new own
-  cut : (part : Bytes) → FallsShort part line → Complained part old new → WriteFaultCounted old new → ComplaintFaultCounted old new → Says line own old new 5
+  cut : (part : Bytes) → FallsShort part line → Complained part old new → WriteFaultCounted old new
+      → ComplaintFaultCounted old new → Says line own old new 5
   unsaid : (part : Bytes) → Begins part line → Complained part old new → Says line own old new 12
 
--- bytes were shown: all of them, with a status of its own; or a part, since a write failed, which a line tells, or memory ran out
+-- bytes were shown: all of them, with a status of its own; or a part, since a write failed, which a
+-- line tells, or memory ran out
 pub data ShowsEnd (bytes : Bytes) (own : ℕ) (old new : Outside) : ℕ → Type 0 where
   all_shown : Showed bytes old new → KeepsWriteFaults old new → ShowsEnd bytes own old new own
-  stopped : {status : ℕ} (part : Bytes) (mid : Outside) → FallsShort part bytes → Showed part old mid → KeepsWriteFaults old mid → WriteFaultCounted old mid
-      → Says (write_fault_line (codes "standard output")) 5 mid new status → ShowsEnd bytes own old new status
-  unshown : (part : Bytes) → Begins part bytes → Showed part old new → KeepsWriteFaults old new → ShowsEnd bytes own old new 12
+  stopped : {status : ℕ} (part : Bytes) (mid : Outside) → FallsShort part bytes
+      → Showed part old mid → KeepsWriteFaults old mid → WriteFaultCounted old mid
+      → Says (write_fault_line (codes "standard output")) 5 mid new status
+      → ShowsEnd bytes own old new status
+  unshown : (part : Bytes) → Begins part bytes → Showed part old new → KeepsWriteFaults old new
+      → ShowsEnd bytes own old new 12
 
 -- ---- stages
 
--- on the way to an answer just this was done; nothing was complained yet, and the answer's files were looked for in their order
+-- on the way to an answer just this was done; nothing was complained yet, and the answer's files
+-- were looked for in their order
 pub record IsOnWay (a : Answer) (did : Did) (old now : Outside) : Type 0 where
   pub more : HasMore did old now
   pub quiet : did.complained ≡ []
@@ -49,31 +56,50 @@ LeadsTo a did more old new = (start : Outside) → IsOnWay a did start old → I
 
 -- a stage that ends: whoever had done this on the way to the answer has an outcome of it
 abbrev pub EndsWith : Answer → Did → Outside → Outside → ℕ → Type 0
-EndsWith a did old new status = (start : Outside) → IsOnWay a did start old → Outcome a start new status
+EndsWith a did old new status =
+    (start : Outside) → IsOnWay a did start old → Outcome a start new status
 
 -- ---- laws
 
 -- the steps of a program on the way to an answer
 pub record StepsLead : Type 0 where
   pub start : (a : Answer) (now : Outside) → IsOnWay a did_nothing now now
-  pub trying : (a : Answer) (did : Did) (now new : Outside) (name : Word) → Begins (did.tried ++ name ∷ []) a.inputs → Tried name now new → KeepsReadFaults now new → LeadsTo a did (and_tried name did) now new
-  pub creating : (a : Answer) (did : Did) (now new : Outside) (name : Word) → Created name now new → KeepsWriteFaults now new → LeadsTo a did (and_created name did) now new
-  pub appending : (a : Answer) (did : Did) (now new : Outside) (name : Word) (bytes : Bytes) → is_made name did.made ≡ true → Appended name bytes now new → KeepsWriteFaults now new → LeadsTo a did (and_appended name bytes did) now new
-  pub showing : (a : Answer) (did : Did) (now new : Outside) (bytes : Bytes) → Showed bytes now new → KeepsWriteFaults now new → LeadsTo a did (and_showed bytes did) now new
+  pub trying : (a : Answer) (did : Did) (now new : Outside) (name : Word)
+      → Begins (did.tried ++ name ∷ []) a.inputs → Tried name now new → KeepsReadFaults now new
+      → LeadsTo a did (and_tried name did) now new
+  pub creating : (a : Answer) (did : Did) (now new : Outside) (name : Word) → Created name now new
+      → KeepsWriteFaults now new → LeadsTo a did (and_created name did) now new
+  pub appending : (a : Answer) (did : Did) (now new : Outside) (name : Word) (bytes : Bytes)
+      → is_made name did.made ≡ true → Appended name bytes now new → KeepsWriteFaults now new
+      → LeadsTo a did (and_appended name bytes did) now new
+  pub showing : (a : Answer) (did : Did) (now new : Outside) (bytes : Bytes) → Showed bytes now new
+      → KeepsWriteFaults now new → LeadsTo a did (and_showed bytes did) now new
 
 -- from the last step to the outcome
 pub record EndingsFollow : Type 0 where
   -- all is made and shown, and the answer has no line to complain
-  pub shown : (a : Answer) (did : Did) (old now : Outside) → IsOnWay a did old now → did.made ≡ a.made → did.shown ≡ a.shown → a.complained ≡ [] → Outcome a old now a.status
+  pub shown : (a : Answer) (did : Did) (old now : Outside) → IsOnWay a did old now
+      → did.made ≡ a.made → did.shown ≡ a.shown → a.complained ≡ [] → Outcome a old now a.status
   -- all is made, what is left to show is shown, and the answer has no line to complain
-  pub ended : (a : Answer) (did : Did) (now new : Outside) (bytes : Bytes) (status : ℕ) → did.made ≡ a.made → a.shown ≡ did.shown ++ bytes → a.complained ≡ [] → ShowsEnd bytes a.status now new status → EndsWith a did now new status
+  pub ended : (a : Answer) (did : Did) (now new : Outside) (bytes : Bytes) (status : ℕ)
+      → did.made ≡ a.made → a.shown ≡ did.shown ++ bytes → a.complained ≡ []
+      → ShowsEnd bytes a.status now new status → EndsWith a did now new status
   -- all is made and shown, and the answer's line is complained
-  pub said : (a : Answer) (did : Did) (now new : Outside) (status : ℕ) → did.made ≡ a.made → did.shown ≡ a.shown → Says a.complained a.status now new status → EndsWith a did now new status
+  pub said : (a : Answer) (did : Did) (now new : Outside) (status : ℕ) → did.made ≡ a.made
+      → did.shown ≡ a.shown → Says a.complained a.status now new status
+      → EndsWith a did now new status
   -- a read failed before anything was made or shown, and a line tells of the last name
-  pub reading : (a : Answer) (did : Did) (old now new : Outside) (name : Word) (status : ℕ) → IsOnWay a did old now → did.made ≡ [] → did.shown ≡ [] → IsLast name did.tried → ReadFaultCounted old now → Says (read_fault_line name) 4 now new status → Outcome a old new status
+  pub reading : (a : Answer) (did : Did) (old now new : Outside) (name : Word) (status : ℕ)
+      → IsOnWay a did old now → did.made ≡ [] → did.shown ≡ [] → IsLast name did.tried
+      → ReadFaultCounted old now → Says (read_fault_line name) 4 now new status
+      → Outcome a old new status
   -- a write failed, and a line tells of what lacks bytes
-  pub writing : (a : Answer) (did : Did) (old now new : Outside) (name : Word) (status : ℕ) → IsOnWay a did old now → IsBegun a did → Lacks a did name → WriteFaultCounted old now → Says (write_fault_line name) 5 now new status → Outcome a old new status
+  pub writing : (a : Answer) (did : Did) (old now new : Outside) (name : Word) (status : ℕ)
+      → IsOnWay a did old now → IsBegun a did → Lacks a did name → WriteFaultCounted old now
+      → Says (write_fault_line name) 5 now new status → Outcome a old new status
   -- memory ran out, and nothing is complained
   pub memory : (a : Answer) (did : Did) (now : Outside) → IsBegun a did → EndsWith a did now now 12
   -- where no fault of reading or writing was counted, all is as answered, or memory ran out
-  pub surely : (a : Answer) (old new : Outside) (status : ℕ) → Outcome a old new status → ¬ ReadFaultCounted old new → ¬ WriteFaultCounted old new → (status ≡ 12) ⊎ Writes a old new status
+  pub surely : (a : Answer) (old new : Outside) (status : ℕ) → Outcome a old new status
+      → ¬ ReadFaultCounted old new → ¬ WriteFaultCounted old new
+      → (status ≡ 12) ⊎ Writes a old new status

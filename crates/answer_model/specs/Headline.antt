@@ -22,7 +22,8 @@ Begins {A} part whole = (rest : List A) × (whole ≡ part ++ rest)
 abbrev pub BeginFiles : Files → Files → Type 0
 BeginFiles [] files = ⊤
 BeginFiles (part ∷ parts) [] = ⊥
-BeginFiles (part ∷ parts) (file ∷ files) = (part.0 ≡ file.0) × Begins part.1 file.1 × BeginFiles parts files
+BeginFiles (part ∷ parts) (file ∷ files) =
+    (part.0 ≡ file.0) × Begins part.1 file.1 × BeginFiles parts files
 
 -- the status and the output are just the answer's
 pub record Writes (a : Answer) (old new : Outside) (given : ℕ) : Type 0 where
@@ -34,7 +35,8 @@ pub record Writes (a : Answer) (old new : Outside) (given : ℕ) : Type 0 where
 
 -- what was made and shown is a beginning of the answer's
 pub record WritesPart (a : Answer) (old new : Outside) : Type 0 where
-  pub files : (parts : Files) × BeginFiles parts a.made × (new.made ≡ puts_all old.made parts) × (new.created ≡ old.created ++ names parts)
+  pub files : (parts : Files) × BeginFiles parts a.made × (new.made ≡ puts_all old.made parts)
+      × (new.created ≡ old.created ++ names parts)
   pub shown : (part : Bytes) × Begins part a.shown × (new.shown ≡ streams old.shown part)
 
 -- the names looked for are a beginning of the answer's

@@ -1,4 +1,5 @@
--- What a call of a program does outside, step by step: it ends as answered, or by a fault or want of memory with a beginning of the answer.
+-- What a call of a program does outside, step by step: it ends as answered, or by a fault or want
+-- of memory with a beginning of the answer.
 use Rattle.std.specs.Prelude.{◌≡◌, ◌≢◌, ◌⊎◌, ℕ, Option, Some, None, List, [], ◌∷◌, ◌++◌, codes, Contains}
 use Rattle.std.specs.List.{last_or}
 use Rattle.std.specs.Bool.{OnFalse}
@@ -36,7 +37,8 @@ IsBegun a did = BeginFiles did.made a.made × Begins did.shown a.shown
 
 -- what lacks bytes of the answer: a file, or, where all files have theirs, the standard output
 pub data Lacks (a : Answer) (did : Did) : Word → Type 0 where
-  a_file : {name : Word} {bytes : Bytes} → Contains a.made (name, bytes) → ¬ Contains did.made (name, bytes) → Lacks a did name
+  a_file : {name : Word} {bytes : Bytes} → Contains a.made (name, bytes)
+      → ¬ Contains did.made (name, bytes) → Lacks a did name
   the_output : did.made ≡ a.made → did.shown ≢ a.shown → Lacks a did (codes "standard output")
 
 abbrev pub IsLast : Word → List Word → Type 0
@@ -51,11 +53,18 @@ pub data Complaint (a : Answer) (did : Did) : Bytes → Type 0 where
 -- ---- the five endings
 
 pub data Ending (a : Answer) (old new : Outside) (did : Did) : ℕ → Type 0 where
-  as_answered : did.made ≡ a.made → did.shown ≡ a.shown → did.complained ≡ a.complained → Ending a old new did a.status
-  reading_failed : {name : Word} → Rose old.read_faults new.read_faults → did.made ≡ [] → did.shown ≡ [] → IsLast name did.tried → did.complained ≡ read_fault_line name → Ending a old new did 4
-  writing_failed : {name : Word} → Rose old.write_faults new.write_faults → IsBegun a did → Lacks a did name → did.complained ≡ write_fault_line name → Ending a old new did 5
-  complaining_failed : {line : Bytes} → Rose old.write_faults new.write_faults → Rose old.complain_faults new.complain_faults → IsBegun a did → Complaint a did line → FallsShort did.complained line → Ending a old new did 5
-  memory_failed : {line : Bytes} → IsBegun a did → Complaint a did line → Begins did.complained line → Ending a old new did 12
+  as_answered : did.made ≡ a.made → did.shown ≡ a.shown → did.complained ≡ a.complained
+      → Ending a old new did a.status
+  reading_failed : {name : Word} → Rose old.read_faults new.read_faults → did.made ≡ []
+      → did.shown ≡ [] → IsLast name did.tried → did.complained ≡ read_fault_line name
+      → Ending a old new did 4
+  writing_failed : {name : Word} → Rose old.write_faults new.write_faults → IsBegun a did
+      → Lacks a did name → did.complained ≡ write_fault_line name → Ending a old new did 5
+  complaining_failed : {line : Bytes} → Rose old.write_faults new.write_faults
+      → Rose old.complain_faults new.complain_faults → IsBegun a did → Complaint a did line
+      → FallsShort did.complained line → Ending a old new did 5
+  memory_failed : {line : Bytes} → IsBegun a did → Complaint a did line → Begins did.complained line
+      → Ending a old new did 12
 
 -- the call did something, looked for the answer's files in their order, and ended so
 pub record Outcome (a : Answer) (old new : Outside) (status : ℕ) : Type 0 where
@@ -66,7 +75,8 @@ pub record Outcome (a : Answer) (old new : Outside) (status : ℕ) : Type 0 wher
 
 -- ---- causes, also where nothing is told
 
-pub record Causes {A : Type 0} (statuses : List ℕ) (words : Option A) (old new : Outside) (status : ℕ) : Type 0 where
+pub record Causes {A : Type 0} (statuses : List ℕ) (words : Option A) (old new : Outside)
+    (status : ℕ) : Type 0 where
   pub known : Contains statuses status
   pub missing : status ≡ 3 → Rose old.misses new.misses
   pub read_fault : status ≡ 4 → Rose old.read_faults new.read_faults
@@ -79,8 +89,12 @@ pub record Causes {A : Type 0} (statuses : List ℕ) (words : Option A) (old new
 -- what was complained at a fault or for want of memory
 pub record Complains (a : Answer) (old new : Outside) (did : Did) (status : ℕ) : Type 0 where
   pub more : HasMore did old new
-  pub at_4 : status ≡ 4 → (name : Word) × IsLast name did.tried × (did.complained ≡ read_fault_line name)
-  pub at_5 : status ≡ 5 → ((name : Word) × Lacks a did name × (did.complained ≡ write_fault_line name)) ⊎ (Rose old.complain_faults new.complain_faults × ((line : Bytes) × Complaint a did line × FallsShort did.complained line))
+  pub at_4 : status ≡ 4
+      → (name : Word) × IsLast name did.tried × (did.complained ≡ read_fault_line name)
+  pub at_5 : status ≡ 5
+      → ((name : Word) × Lacks a did name × (did.complained ≡ write_fault_line name)) ⊎
+      (Rose old.complain_faults new.complain_faults
+      × ((line : Bytes) × Complaint a did line × FallsShort did.complained line))
   pub at_12 : status ≡ 12 → (line : Bytes) × Complaint a did line × Begins did.complained line
 
 -- an answer's own status is not free
@@ -99,18 +113,21 @@ pub record FollowsAnswer (a : Answer) (old new : Outside) (status : ℕ) : Type 
 
 abbrev pub OutcomesFollow : Type 0
 OutcomesFollow =
-    (a : Answer) (old new : Outside) (status : ℕ) → IsOwn a.status → Outcome a old new status → FollowsAnswer a old new status
+    (a : Answer) (old new : Outside) (status : ℕ) → IsOwn a.status → Outcome a old new status
+    → FollowsAnswer a old new status
 
 -- without a fault the status is the answer's, or 12
 abbrev pub IsComplete : Type 0
 IsComplete =
     (a : Answer) (old new : Outside) (status : ℕ) → Outcome a old new status
-    → ¬ Rose old.read_faults new.read_faults → ¬ Rose old.write_faults new.write_faults → (status ≡ a.status) ⊎ (status ≡ 12)
+    → ¬ Rose old.read_faults new.read_faults → ¬ Rose old.write_faults new.write_faults
+    → (status ≡ a.status) ⊎ (status ≡ 12)
 
 -- where the status is none of a fault or want of memory, all is as answered
 abbrev pub IsExact : Type 0
 IsExact =
-    (a : Answer) (old new : Outside) (status : ℕ) → Outcome a old new status → status ≢ 4 → status ≢ 5 → status ≢ 12 → Writes a old new status
+    (a : Answer) (old new : Outside) (status : ℕ) → Outcome a old new status → status ≢ 4
+    → status ≢ 5 → status ≢ 12 → Writes a old new status
 
 pub record OutcomeLaws : Type 0 where
   pub follow : OutcomesFollow

@@ -1,4 +1,5 @@
--- Rooms in which a run of three cells was whole, was cut at each of its appends, was not created, not shown and not read; and in which a complaint failed.
+-- Rooms in which a run of three cells was whole, was cut at each of its appends, was not created,
+-- not shown and not read; and in which a complaint failed.
 use Rattle.std.specs.Prelude.{ℕ, Some, None, [], ◌∷◌, take, codes, true}
 use Rattle.quantity.specs.Bytes.{Bytes}
 use Rattle.room_edge.specs.Outside.{Outside}
@@ -37,9 +38,13 @@ with_log made shown complained =
       created = names made;
     }
 
+-- the log with so many of its first bytes
+abbrev pub start_of_log : ℕ → Files
+start_of_log n = (codes "log.txt", take n line_log) ∷ []
+
 -- the log holds so many of its first bytes, and one line says that it lacks some
 abbrev pub cut : ℕ → Outside
-cut n = record (with_log ((codes "log.txt", take n line_log) ∷ []) [] (codes "write fault: log.txt\n")) { write_faults = 1 }
+cut n = record (with_log (start_of_log n) [] (codes "write fault: log.txt\n")) { write_faults = 1 }
 
 -- no log could be made
 abbrev pub not_made : Outside
@@ -50,7 +55,9 @@ whole = with_log ((codes "log.txt", line_log) ∷ []) (codes "end 00:00:00:100 c
 
 -- the log is whole, and its end could not be shown
 abbrev pub not_shown : Outside
-not_shown = record (with_log ((codes "log.txt", line_log) ∷ []) [] (codes "write fault: standard output\n")) { write_faults = 1 }
+not_shown =
+    record (with_log ((codes "log.txt", line_log) ∷ []) []
+    (codes "write fault: standard output\n")) { write_faults = 1 }
 
 -- the first read failed
 abbrev pub unread : Outside

@@ -8,6 +8,7 @@ use Rattle.text_forms.specs.declared.refusal.StateRefusal.{StateRefusal}
 use Rattle.text_forms.specs.declared.refusal.StateRefusal.TheVariants as S
 use Rattle.answer_model.specs.Answer.{refused_text}
 
+-- the complaint of a refused model
 abbrev pub model_refused : Refusal → Bytes
 model_refused r = refused_text (codes "model") r.line (kind_text r.kind)
 
@@ -18,6 +19,7 @@ events_refused (E.UnknownPort line) = refused_text (codes "events") line (codes 
 events_refused (E.TooLarge line) = refused_text (codes "events") line (codes "3 TooLarge")
 events_refused E.Memory = []
 
+-- the complaint of a refused state
 abbrev pub state_refused : StateRefusal → Bytes
 state_refused (S.BadStateLine line) = refused_text (codes "state") line (codes "1 BadStateLine")
 state_refused (S.EndBefore line) = refused_text (codes "state") line (codes "2 EndBefore")

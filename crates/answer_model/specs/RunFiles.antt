@@ -16,6 +16,7 @@ use Rattle.answer_model.specs.Asked.{Asked, FramesFile}
 use Rattle.answer_model.specs.Answer.{Files, Answer}
 use Rattle.answer_model.specs.RunEnd.{said}
 
+-- a file where one is asked for
 abbrev pub file_if : Option Word → Bytes → Files
 file_if None bytes = []
 file_if (Some name) bytes = (name, bytes) ∷ []
@@ -28,6 +29,7 @@ group_at name [] = None
 group_at name (atomic_leaf n class settings ∷ ls) = group_at name ls
 group_at name (cell_leaf g first cell ∷ ls) = if bytes_eq g.name name then Some (first, g) else group_at name ls
 
+-- the value that a leaf gave last at its port out; undefined for a box
 abbrev pub emitted_of : Option LeafState → Value
 emitted_of None = Undefined
 emitted_of (Some (box_state b)) = Undefined
@@ -38,6 +40,7 @@ abbrev pub emitted_before : Option Saved → ℕ × Group → ℕ → Value
 emitted_before None g cell = Undefined
 emitted_before (Some s) g cell = if nat_lt cell (cell_count g.1.space) then emitted_of (slice_get s.states (g.0 + cell)) else Undefined
 
+-- the file of frames, where the model has the group
 abbrev pub frames_file : Tree → Option Saved → List Cycle → FramesFile → Files
 frames_file tree from cycles f =
     elim (group_at f.drawing.group (leaves tree)) [
@@ -45,6 +48,7 @@ frames_file tree from cycles f =
       | Some g ↦ (f.name, frames_of (record { space = g.1.space; plane = f.drawing.plane; width = f.width; decimals = f.decimals }) g.0 (emitted_before from g) cycles) ∷ []
     ]
 
+-- the same, where one is asked for
 abbrev pub frames_if : Tree → Option Saved → List Cycle → Option FramesFile → Files
 frames_if tree from cycles None = []
 frames_if tree from cycles (Some f) = frames_file tree from cycles f
@@ -55,6 +59,7 @@ frames_if tree from cycles (Some f) = frames_file tree from cycles f
 abbrev pub saved_text : Asked → Tree → Run → Bytes
 saved_text a tree r = elim r.verdict [ done ↦ text_of_state tree a.end r.left.leaf_states | _ ↦ [] ]
 
+-- the files that a run makes: log, output, frames, state
 abbrev pub made_files : Asked → Tree → Option Saved → Run → Files
 made_files a tree from r =
     file_if a.log (log_bytes tree a.letters r.cycles) ++ file_if a.out (out_bytes tree r.cycles) ++ frames_if tree from r.cycles a.frames

@@ -8,6 +8,7 @@ use Rattle.room_edge.specs.Outside.{Outside, OnlyInput, OnlyMade, OnlyShown, Onl
 use Rattle.answer_model.specs.Answer.{Files}
 use Rattle.answer_model.specs.Outcome.{Did, HasMore}
 
+-- a file of this name is among these
 abbrev pub is_made : Word → Files → Bool
 is_made name files = list_any (λ (f : Word × Bytes). bytes_eq f.0 name) files
 
@@ -15,51 +16,74 @@ is_made name files = list_any (λ (f : Word × Bytes). bytes_eq f.0 name) files
 abbrev pub grown : Word → Bytes → Files → Files
 grown name bytes [] = []
 grown name bytes (f ∷ fs) =
-    if is_made name fs then f ∷ grown name bytes fs else if bytes_eq f.0 name then (f.0, f.1 ++ bytes) ∷ fs else f ∷ fs
+    if is_made name fs then f ∷ grown name bytes fs
+    else if bytes_eq f.0 name then (f.0, f.1 ++ bytes) ∷ fs else f ∷ fs
 
+-- a call that did nothing outside
 abbrev pub did_nothing : Did
 did_nothing = record { tried = []; made = []; shown = []; complained = [] }
 
+-- and then looked for a file
 abbrev pub and_tried : Word → Did → Did
 and_tried name d = record d { tried = d.tried ++ name ∷ [] }
 
+-- and then made a file
 abbrev pub and_created : Word → Did → Did
 and_created name d = record d { made = d.made ++ (name, []) ∷ [] }
 
+-- and then wrote bytes to the end of a file
 abbrev pub and_appended : Word → Bytes → Did → Did
 and_appended name bytes d = record d { made = grown name bytes d.made }
 
+-- and then wrote to standard output
 abbrev pub and_showed : Bytes → Did → Did
 and_showed bytes d = record d { shown = d.shown ++ bytes }
 
+-- and then wrote to standard error
 abbrev pub and_complained : Bytes → Did → Did
 and_complained bytes d = record d { complained = d.complained ++ bytes }
 
 -- ---- each call, as a room says what it does
 
+-- one step looks for a file
 abbrev pub Tried : Word → Outside → Outside → Type 0
 Tried name old new = (new.tried ≡ old.tried ++ name ∷ []) × OnlyInput old new
 
+-- one step reads
 abbrev pub Read : Outside → Outside → Type 0
 Read old new = (new.tried ≡ old.tried) × OnlyInput old new
 
+-- one step makes a file
 abbrev pub Created : Word → Outside → Outside → Type 0
-Created name old new = (new.made ≡ puts old.made name []) × (new.created ≡ old.created ++ name ∷ []) × OnlyMade old new
+Created name old new =
+    (new.made ≡ puts old.made name []) × (new.created ≡ old.created ++ name ∷ []) × OnlyMade old new
 
+-- one step writes bytes to the end of a file
 abbrev pub Appended : Word → Bytes → Outside → Outside → Type 0
-Appended name bytes old new = (new.made ≡ adds old.made name bytes) × (new.created ≡ old.created) × OnlyMade old new
+Appended name bytes old new =
+    (new.made ≡ adds old.made name bytes) × (new.created ≡ old.created) × OnlyMade old new
 
+-- one step writes to standard output
 abbrev pub Showed : Bytes → Outside → Outside → Type 0
 Showed bytes old new = (new.shown ≡ streams old.shown bytes) × OnlyShown old new
 
+-- one step writes to standard error
 abbrev pub Complained : Bytes → Outside → Outside → Type 0
 Complained bytes old new = (new.complained ≡ streams old.complained bytes) × OnlyComplained old new
 
+-- what is done after one step more
 pub record StepsAdd : Type 0 where
   pub nothing : (now : Outside) → HasMore did_nothing now now
-  pub trying : (d : Did) (old now new : Outside) (name : Word) → HasMore d old now → Tried name now new → HasMore (and_tried name d) old new
-  pub reading : (d : Did) (old now new : Outside) → HasMore d old now → Read now new → HasMore d old new
-  pub creating : (d : Did) (old now new : Outside) (name : Word) → HasMore d old now → Created name now new → HasMore (and_created name d) old new
-  pub appending : (d : Did) (old now new : Outside) (name : Word) (bytes : Bytes) → is_made name d.made ≡ true → HasMore d old now → Appended name bytes now new → HasMore (and_appended name bytes d) old new
-  pub showing : (d : Did) (old now new : Outside) (bytes : Bytes) → HasMore d old now → Showed bytes now new → HasMore (and_showed bytes d) old new
-  pub complaining : (d : Did) (old now new : Outside) (bytes : Bytes) → HasMore d old now → Complained bytes now new → HasMore (and_complained bytes d) old new
+  pub trying : (d : Did) (old now new : Outside) (name : Word) → HasMore d old now
+      → Tried name now new → HasMore (and_tried name d) old new
+  pub reading : (d : Did) (old now new : Outside) → HasMore d old now → Read now new
+      → HasMore d old new
+  pub creating : (d : Did) (old now new : Outside) (name : Word) → HasMore d old now
+      → Created name now new → HasMore (and_created name d) old new
+  pub appending : (d : Did) (old now new : Outside) (name : Word) (bytes : Bytes)
+      → is_made name d.made ≡ true → HasMore d old now → Appended name bytes now new
+      → HasMore (and_appended name bytes d) old new
+  pub showing : (d : Did) (old now new : Outside) (bytes : Bytes) → HasMore d old now
+      → Showed bytes now new → HasMore (and_showed bytes d) old new
+  pub complaining : (d : Did) (old now new : Outside) (bytes : Bytes) → HasMore d old now
+      → Complained bytes now new → HasMore (and_complained bytes d) old new

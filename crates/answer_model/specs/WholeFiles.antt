@@ -17,7 +17,9 @@ use Rattle.answer_model.specs.Cdpp.{answer, answer_by}
 
 -- files by their names
 abbrev pub folder : Files → Folder
-folder files = λ name. option_map (λ (f : Word × Bytes). f.1) (find (λ (f : Word × Bytes). bytes_eq f.0 name) files)
+folder files =
+    λ name. option_map (λ (f : Word × Bytes). f.1)
+    (find (λ (f : Word × Bytes). bytes_eq f.0 name) files)
 
 -- two boxes of each class
 abbrev pub boxes : List Class
@@ -48,19 +50,31 @@ log ls = holding (codes "log.txt") ls ∷ []
 
 -- one line is shown
 abbrev pub shows : Bytes → Files → List Word → Answer
-shows line made inputs = record { made = made; shown = lines (line ∷ []); complained = []; status = 0; inputs = inputs }
+shows line made inputs =
+    record { made = made; shown = lines (line ∷ []); complained = []; status = 0; inputs = inputs }
 
 -- one line is complained
 abbrev pub complains : ℕ → Bytes → Files → List Word → Answer
-complains status line made inputs = record { made = made; shown = []; complained = lines (line ∷ []); status = status; inputs = inputs }
+complains status line made inputs =
+    record {
+      made = made;
+      shown = [];
+      complained = lines (line ∷ []);
+      status = status;
+      inputs = inputs;
+    }
 
 -- ---- lines of a cell
 
 abbrev pub y : Bytes → Bytes → Bytes → Bytes
-y time leaf value = codes "Y / 00:00:00:" ++ time ++ codes " / " ++ leaf ++ codes " / out / " ++ value ++ codes ".00000"
+y time leaf value =
+    codes "Y / 00:00:00:" ++ time ++ codes " / " ++ leaf ++ codes " / out / " ++ value
+    ++ codes ".00000"
 
 abbrev pub x : Bytes → Bytes → Bytes
 x time value = codes "X / 00:00:00:" ++ time ++ codes " / g(0,0) / v / " ++ value ++ codes ".00000"
 
 abbrev pub s : Bytes → Bytes → Bytes → Bytes → Bytes
-s time leaf value next = codes "S / 00:00:00:" ++ time ++ codes " / " ++ leaf ++ codes " / " ++ value ++ codes ".00000 / " ++ next
+s time leaf value next =
+    codes "S / 00:00:00:" ++ time ++ codes " / " ++ leaf ++ codes " / " ++ value
+    ++ codes ".00000 / " ++ next

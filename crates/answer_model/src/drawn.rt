@@ -48,8 +48,9 @@ pub fn accepted_drawings_have_groups()
     accepted_models_are_sound();
 }
 
-/// The frames drawn from the log of a run are those of the run, for each accepted model, its groups, and an end of at most 99:59:59:999:
-/// with any bounded events, and with those of an accepted file. So the file of frames that a run makes is what is drawn from its log.
+/// The frames drawn from the log of a run are those of the run, for each accepted model, its
+/// groups, and an end of at most 99:59:59:999: with any bounded events, and with those of an
+/// accepted file. So the file of frames that a run makes is what is drawn from its log.
 pub fn drawn_agrees_for_accepted_models()
     ensures runs { RunsAreDrawn }
     ensures files { FilesAreDrawn }

@@ -14,9 +14,11 @@ pub record Looks : Type 0 where
   pub decimals : ℕ
   pub plane : ℕ
 
+-- how values look, in code as in the definitions
 abbrev pub looks_of : code.Looks → Looks
 looks_of l = record { width = l.width; decimals = l.decimals; plane = l.plane }
 
+-- how values look, by the options
 abbrev pub looks_asked : List Row → Option Looks
 looks_asked rows =
     for_some (or_else 3 (number 1 20) (value_of rows (codes "w"))) (λ width.

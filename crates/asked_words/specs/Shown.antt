@@ -1,11 +1,11 @@
 -- What is asked for, without where it lies.
 use Rattle.std.specs.Prelude.{◌≤◌, Option, Some, None, List, [], ◌∷◌, IfSome, IsTrue, ⊤, codes}
-use Rattle.std.specs.List.{list_all, filter_map}
+use Rattle.std.specs.List.{filter_map}
 use Rattle.std.specs.Option.{option_map}
 use Rattle.std.specs.Borrow.{Bor}
 use Rattle.model_tree.specs.Tree.{Word}
 use Rattle.answer_model.specs.Asked as A
-use Rattle.answer_model.specs.Asked.{is_among}
+use Rattle.answer_model.specs.Asked.{are_letters}
 use Rattle.answer_model.specs.AskedDrawing as D
 use Rattle.asked_words.specs.declared.asked.Source.{Source}
 use Rattle.asked_words.specs.declared.asked.Source.TheVariants.{File, Made}
@@ -17,12 +17,20 @@ use Rattle.asked_words.specs.declared.asked.AskedDrawing.{AskedDrawing}
 abbrev pub name_of : Option (Bor Word) → Option Word
 name_of name = option_map (λ (n : Bor Word). n.now) name
 
+-- the model's source in code as in the definitions
 abbrev pub source_of : Source → A.Source
 source_of (File name) = A.file name.now
 source_of (Made size) = A.made size
 
+-- the file of frames in code as in the definitions
 abbrev pub frames_of : FramesFile → A.FramesFile
-frames_of f = record { name = f.name.now; drawing = record { group = f.group; plane = f.plane }; width = f.width; decimals = f.decimals }
+frames_of f =
+    record {
+      name = f.name.now;
+      drawing = record { group = f.group; plane = f.plane };
+      width = f.width;
+      decimals = f.decimals;
+    }
 
 -- an order of service and saved states are still to come
 abbrev pub asked_of : Asked → A.Asked
@@ -41,6 +49,7 @@ asked_of a =
       state = None;
     }
 
+-- what is asked to be drawn, in code as in the definitions
 abbrev pub drawing_of : AskedDrawing → D.AskedDrawing
 drawing_of a =
     record {
@@ -68,7 +77,9 @@ given_names a b c = filter_map (λ (o : Option Word). o) (a ∷ b ∷ c ∷ [])
 
 -- the names of the files that are made
 abbrev pub made_names : Asked → List Word
-made_names a = given_names (name_of a.log) (name_of a.out) (option_map (λ (f : FramesFile). f.name.now) a.frames)
+made_names a =
+    given_names (name_of a.log) (name_of a.out)
+    (option_map (λ (f : FramesFile). f.name.now) a.frames)
 
 -- the end is a time, letters are those of the log, and no two made files have one name
 pub record IsInBounds (a : Asked) : Type 0 where
@@ -77,5 +88,5 @@ pub record IsInBounds (a : Asked) : Type 0 where
   pub some : 1 ≤ a.limit
   pub few : a.limit ≤ 1000000
   pub frames : IfSome a.frames CanBeShown
-  pub letters : IsTrue (list_all (λ c. is_among c (codes "YNXS")) a.letters.now)
+  pub letters : IsTrue (are_letters a.letters.now)
   pub names : IsTrue (A.differ_all (made_names a))

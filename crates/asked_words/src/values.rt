@@ -1,14 +1,17 @@
 // The values of options.
 ghost use Rattle.std.specs.Prelude.{◌≡◌, ◌≤◌, ◌++◌, ◌∷◌, [], IfOk, IfSome, IsTrue, map, codes};
 ghost use Rattle.std.specs.Str.{bytes_eq};
-ghost use Rattle.std.specs.List.{list_all, list_any, filter_map};
+ghost use Rattle.std.specs.List.{list_any, filter_map};
 ghost use Rattle.quantity.specs.Times.{time_in};
-ghost use Rattle.answer_model.specs.Asked.{lower, group_in, is_among, all_differ, letters_in, number, or_else, needed, differ_all};
+ghost use Rattle.answer_model.specs.Asked.{lower, group_in, is_among, all_differ, are_letters};
+ghost use Rattle.answer_model.specs.Asked.{letters_in, number, or_else, needed, differ_all};
+ghost use Rattle.text_forms.specs.Letters.{letter_bytes};
 ghost use Rattle.asked_words.specs.Shown.{name_of};
 
 use quantity::digits::whole_number;
 use quantity::{Name, NameRefusal, OutOfMemory, Time};
 use std::alloc::{AllocError, Global};
+use text_forms::Letter;
 
 /// The number of up to seven digits, where it lies in these bounds.
 pub(crate) fn number(low: u32, high: u32, text: &str) -> Option<u32>
@@ -45,9 +48,9 @@ pub(crate) fn end_in(text: Option<&str>) -> Option<Time>
 }
 
 fn is_letter(c: u8) -> bool
-    ensures { result ≡ is_among c (codes "YNXS") }
+    ensures { result ≡ is_among c letter_bytes }
 {
-    matches!(c, b'Y' | b'N' | b'X' | b'S')
+    Letter::ALL.iter().any(|letter| letter.byte() == c)
 }
 
 fn is_among(c: u8, cs: &[u8]) -> bool
@@ -66,15 +69,15 @@ fn all_differ(cs: &[u8]) -> bool
 }
 
 fn are_letters(cs: &[u8]) -> bool
-    ensures { result ≡ list_all (λ c. is_among c (codes "YNXS")) cs.now }
+    ensures { result ≡ are_letters cs.now }
 {
     cs.iter().all(|c| is_letter(*c))
 }
 
-/// One to four different letters of the log's lines; Y where none are given.
+/// Different letters of the log's lines, at least one; Y where none are given.
 pub(crate) fn letters_or_y<'a>(text: Option<&'a str>) -> Option<&'a str>
     ensures value { name_of result ≡ or_else (codes "Y") letters_in (name_of text.entry) }
-    ensures letters { IfSome result (λ t. IsTrue (list_all (λ c. is_among c (codes "YNXS")) t.now)) }
+    ensures letters { IfSome result (λ t. IsTrue (are_letters t.now)) }
 {
     let Some(text) = text else {
         return Some("Y");

@@ -1,20 +1,16 @@
 -- The group of a name, among the leaves of a sound model and among its groups.
-use Rattle.std.proofs.Common.{◌≡◌, ℕ, zero, suc, ◌+◌, ◌<◌, ◌≤◌, Bool, true, false, cond, Option, Some, None, List, [], ◌∷◌, ◌++◌, length, map, refl, sym, ap, ◌∙◌, arith}
-use Rattle.std.specs.Prelude.{◌&&◌, ◌==◌, not, nat_le, nat_lt}
-use Rattle.std.specs.List.{find, list_all, range_with_len}
-use Rattle.std.specs.Option.{option_map, option_or}
-use Rattle.std.specs.Str.{bytes_eq}
+use Rattle.std.proofs.Common.{◌≡◌, ℕ, ◌<◌, ◌≤◌, Bool, true, false, cond, Option, Some, None, length, refl, sym, ap, ◌∙◌, arith}
+use Rattle.std.specs.Prelude.{◌&&◌, nat_le, nat_lt}
 use Rattle.std.proofs.lemmas.Bool.{and_parts}
 use Rattle.std.proofs.lemmas.Bool.Decides.{nat_tests}
-use Rattle.quantity.specs.Bytes.{has_repeat}
-use Rattle.cell_grid.specs.Space.{cell_count, plane_count}
-use Rattle.model_tree.specs.Tree.{Word, Group, Tree, Trees, coupled, cells, atomic, nil, cons, Leaf, atomic_leaf, cell_leaf, leaf_count, leaves_from, all_leaves_from, leaves, groups, all_groups, ins_of, outs_of}
-use Rattle.model_tree.specs.Faces.{face_of_coupled, face_of_group}
-use Rattle.model_tree.specs.Sound.{is_near_offset, offsets_differ, has_right_names, has_right_rules, is_sound_group, are_accepted, has_child, is_sound_part, are_sound_parts, totals, is_within_limits, path_count, is_sound_model}
+use Rattle.cell_grid.specs.Space.{plane_count}
+use Rattle.model_tree.specs.Tree.{Group, Tree, leaves, ins_of, outs_of}
+use Rattle.model_tree.specs.Sound.{is_sound_part, totals, is_within_limits, path_count, is_sound_model}
 use Rattle.model_text.specs.declared.kind.Kind.TheVariants.{NoSuchPlane}
 use Rattle.model_text.specs.Refusals.{refusal}
 use Rattle.model_text.specs.Drawings.{Drawing, group_named, has_plane, drawing_refused}
 use Rattle.answer_model.specs.RunFiles.{group_at}
+use Rattle.answer_model.proofs.DrawnGroups.{group_in, group_found}
 
 -- ---- what a sound model has
 
@@ -34,94 +30,6 @@ sound_is t h =
     let r = and_parts (is_sound_part t && is_within_limits n) (nat_le (length (ins_of t)) 65536) q.0 in
     record { parts = (and_parts (is_sound_part t) (is_within_limits n) r.0).0; ins = at_most (length (ins_of t)) 65536 r.1 }
 
-has_cells : (g : Group) → is_sound_group g ≡ true → 0 < cell_count g.space
-has_cells g sound =
-    let a = nat_lt 0 (cell_count g.space) in
-    let b = length g.initial == cell_count g.space in
-    let c = nat_le g.default_delay 359999999 in
-    let d = nat_le (length g.offsets) 128 in
-    let e = list_all is_near_offset g.offsets in
-    let p = and_parts (a && b && c && d && e && offsets_differ g.offsets && has_right_names g) (has_right_rules g) sound in
-    let q = and_parts (a && b && c && d && e && offsets_differ g.offsets) (has_right_names g) p.0 in
-    let r = and_parts (a && b && c && d && e) (offsets_differ g.offsets) q.0 in
-    let t = and_parts (a && b && c && d) e r.0 in
-    let u = and_parts (a && b && c) d t.0 in
-    let v = and_parts (a && b) c u.0 in
-    above (cell_count g.space) (and_parts a b v.0).0
-  where
-    above : (n : ℕ) → nat_lt 0 n ≡ true → 0 < n
-    above n h = grind (arith, nat_tests)
-
--- ---- groups and leaves one after another
-
-abbrev group_in : Option (ℕ × Group) → Option Group
-group_in o = option_map (λ (p : ℕ × Group). p.1) o
-
-abbrev is_named : Word → Group → Bool
-is_named name g = bytes_eq g.name name
-
-find_in : (name : Word) (xs ys : List Group) → find (is_named name) (xs ++ ys) ≡ option_or (find (is_named name) xs) (find (is_named name) ys)
-find_in name [] ys = refl
-find_in name (g ∷ gs) ys = go (bytes_eq g.name name) (find_in name gs ys)
-  where
-    go : (b : Bool) → find (is_named name) (gs ++ ys) ≡ option_or (find (is_named name) gs) (find (is_named name) ys)
-        → cond b (Some g) (find (is_named name) (gs ++ ys)) ≡ option_or (cond b (Some g) (find (is_named name) gs)) (find (is_named name) ys)
-    go true later = refl
-    go false later = later
-
-found_in : (name : Word) (xs ys : List Leaf) → group_at name (xs ++ ys) ≡ option_or (group_at name xs) (group_at name ys)
-found_in name [] ys = refl
-found_in name (atomic_leaf n class settings ∷ xs) ys = found_in name xs ys
-found_in name (cell_leaf g f c ∷ xs) ys = go (bytes_eq g.name name) (found_in name xs ys)
-  where
-    go : (b : Bool) → group_at name (xs ++ ys) ≡ option_or (group_at name xs) (group_at name ys) → cond b (Some (f, g)) (group_at name (xs ++ ys)) ≡ option_or (cond b (Some (f, g)) (group_at name xs)) (group_at name ys)
-    go true later = refl
-    go false later = later
-
-either_in : (o p : Option (ℕ × Group)) → group_in (option_or o p) ≡ option_or (group_in o) (group_in p)
-either_in None p = refl
-either_in (Some x) p = refl
-
--- ---- the group of a name
-
-none_found : (name : Word) (g : Group) (first a n : ℕ) → bytes_eq g.name name ≡ false → group_at name (map (cell_leaf g first) (range_with_len a n)) ≡ None
-none_found name g first a zero other = refl
-none_found name g first a (suc n) other =
-    ap (λ b. cond b (Some (first, g)) (group_at name (map (cell_leaf g first) (range_with_len (a + 1) n)))) other ∙ none_found name g first (a + 1) n other
-
-cells_found : (name : Word) (g : Group) (first a n : ℕ) → 0 < n → group_in (group_at name (map (cell_leaf g first) (range_with_len a n))) ≡ find (is_named name) (g ∷ [])
-cells_found name g first a zero h = absurd (never h)
-  where
-    never : 0 < 0 → ⊥
-    never h = omega arith
-cells_found name g first a (suc n) h = go (bytes_eq g.name name) refl
-  where
-    rest : List Leaf
-    rest = map (cell_leaf g first) (range_with_len (a + 1) n)
-
-    go : (b : Bool) → bytes_eq g.name name ≡ b → group_in (cond b (Some (first, g)) (group_at name rest)) ≡ cond b (Some g) None
-    go true same = refl
-    go false same = ap group_in (none_found name g first (a + 1) n same)
-
-mutual
-  found : (t : Tree) (first : ℕ) (name : Word) → is_sound_part t ≡ true → group_in (group_at name (leaves_from t first)) ≡ find (is_named name) (groups t)
-  found (coupled n ins outs children links) first name sound =
-      all_found children first name (and_parts (has_child children && not (has_repeat ins) && not (has_repeat outs) && are_accepted (face_of_coupled ins outs children) [] links) (are_sound_parts children) sound).1
-  found (cells g) first name sound =
-      let p = and_parts (is_sound_group g && not (has_repeat g.ins) && not (has_repeat g.outs)) (are_accepted (face_of_group g) [] g.links) sound in
-      let q = and_parts (is_sound_group g && not (has_repeat g.ins)) (not (has_repeat g.outs)) p.0 in
-      cells_found name g first 0 (cell_count g.space) (has_cells g (and_parts (is_sound_group g) (not (has_repeat g.ins)) q.0).0)
-  found (atomic n class settings) first name sound = refl
-
-  all_found : (ts : Trees) (first : ℕ) (name : Word) → are_sound_parts ts ≡ true → group_in (group_at name (all_leaves_from ts first)) ≡ find (is_named name) (all_groups ts)
-  all_found nil first name sound = refl
-  all_found (cons t ts) first name sound =
-      let p = and_parts (is_sound_part t) (are_sound_parts ts) sound in
-      let rest = all_leaves_from ts (first + leaf_count t) in
-      ap group_in (found_in name (leaves_from t first) rest) ∙ either_in (group_at name (leaves_from t first)) (group_at name rest)
-      ∙ ap (λ o. option_or o (group_in (group_at name rest))) (found t first name p.0) ∙ ap (option_or (find (is_named name) (groups t))) (all_found ts (first + leaf_count t) name p.1)
-      ∙ sym (find_in name (groups t) (all_groups ts))
-
 -- ---- the plane of a group
 
 below : (k n : ℕ) → nat_lt k n ≡ true → k < n
@@ -134,5 +42,5 @@ accepted false h = cc
 -- a drawing that is accepted is of a plane of its group
 pub plane_inside : (t : Tree) (d : Drawing) (p : ℕ × Group) → is_sound_model t ≡ true → drawing_refused (Some d) t ≡ None → group_at d.group (leaves t) ≡ Some p → d.plane < plane_count p.1.space
 plane_inside t d p sound drawn there =
-    let named : group_named d.group t ≡ Some p.1 = sym (found t 0 d.group (sound_is t sound).parts) ∙ ap group_in there in
+    let named : group_named d.group t ≡ Some p.1 = sym (group_found t 0 d.group (sound_is t sound).parts) ∙ ap group_in there in
     below d.plane (plane_count p.1.space) (sym (ap (has_plane d.plane) named) ∙ accepted (has_plane d.plane (group_named d.group t)) drawn)

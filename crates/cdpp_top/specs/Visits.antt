@@ -34,6 +34,7 @@ abbrev pub visits_by_name : Asked → Folder → Tree → Option Word → ℕ
 visits_by_name a files tree None = run_visits a tree []
 visits_by_name a files tree (Some name) = visits_by_file a tree (files name)
 
+-- the visits that the run asked for may cost
 abbrev pub visits_with : Asked → Folder → Tree → ℕ
 visits_with a files tree = visits_by_name a files tree a.events
 

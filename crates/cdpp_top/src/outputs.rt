@@ -1,8 +1,8 @@
 // What a run is asked to write.
-ghost use Rattle.std.specs.Prelude.{◌≡◌, ℕ, IsTrue, codes};
-ghost use Rattle.std.specs.List.{list_all};
+ghost use Rattle.std.specs.Prelude.{◌≡◌, ℕ, IsTrue};
 ghost use Rattle.std.specs.Option.{option_map};
-ghost use Rattle.answer_model.specs.Asked.{is_among};
+ghost use Rattle.text_forms.specs.Letters as forms;
+ghost use Rattle.answer_model.specs.Asked.{are_letters, is_among};
 ghost use Rattle.asked_words.specs.Shown as shown;
 ghost use Rattle.record_text.specs.Chosen.{letters_of};
 ghost use Rattle.run_loop.specs.Asks.{IsSource, AreOutputsOf, frames_file_of};
@@ -12,10 +12,11 @@ use quantity::Name;
 use record_text::Letters;
 use run_loop::{FramesFile as FramesOutput, Outputs};
 use std::str;
+use text_forms::Letter;
 
 /// The outputs that are asked for.
 pub(crate) fn outputs_of<'a>(asked: &'a Asked<'_>) -> Outputs<'a>
-    requires { IsTrue (list_all (λ c. is_among c (codes "YNXS")) asked.now.letters.now) }
+    requires { IsTrue (are_letters asked.now.letters.now) }
     ensures { AreOutputsOf (shown.asked_of asked.now) result }
 {
     Outputs {
@@ -67,20 +68,21 @@ fn text_of(name: &Name) -> &str
 
 /// The letters of the log's lines.
 fn letters_in(letters: &str) -> Letters
-    requires { IsTrue (list_all (λ c. is_among c (codes "YNXS")) letters.now) }
+    requires { IsTrue (are_letters letters.now) }
     ensures { (c : ℕ) → is_among c letters.now ≡ is_among c (letters_of result) }
 {
     Letters {
-        y: has_letter(letters, b'Y'),
-        n: has_letter(letters, b'N'),
-        x: has_letter(letters, b'X'),
-        s: has_letter(letters, b'S'),
+        y: has_letter(letters, Letter::Y),
+        n: has_letter(letters, Letter::N),
+        x: has_letter(letters, Letter::X),
+        s: has_letter(letters, Letter::S),
     }
 }
 
 /// Whether a letter is among these.
-fn has_letter(letters: &str, letter: u8) -> bool
-    ensures { result ≡ is_among letter letters.now }
+fn has_letter(letters: &str, letter: Letter) -> bool
+    ensures { result ≡ forms.has_letter letters.now letter }
 {
-    letters.as_bytes().iter().any(|c| *c == letter)
+    let byte = letter.byte();
+    letters.as_bytes().iter().any(|c| *c == byte)
 }

@@ -15,13 +15,13 @@ use asked_words::Asked;
 use atomic_face::{AtomicModel, Stock};
 use event_list::Events;
 use flat_run::{FlatRun, Steps};
+use linked_queue::LinkedQueue;
 use model_tree::Model;
 use room_edge::Room;
 use route_flat::Routes;
 use run_loop::run_and_tell;
 use std::alloc::Global;
 use std::sync::ledger::Ledger;
-use time_queue::LinkedQueue;
 use told_lines::status::NO_MEMORY;
 
 /// Runs a model with these events, and tells how that went.

@@ -12,7 +12,8 @@ use Rattle.cell_grid.specs.Space.{Space, cell_at, cell_count, dims_of}
 use Rattle.cell_grid.proofs.Places.{inside-from_cell_at, number-inside}
 use Rattle.model_tree.specs.Tree.{Word}
 use Rattle.text_forms.specs.LogLine.{LogLine, given, moved, read_line}
-use Rattle.text_forms.specs.Frames.{Shown, cell_of, shown_at, shown_of, line_time, not_before, and_shown, only_end, lines_from}
+use Rattle.text_forms.specs.Frames.{Shown, cell_of, is_drawn, shown_at, shown_of, line_time, not_before}
+use Rattle.text_forms.specs.Frames.{and_shown, only_end, lines_from}
 use Rattle.frame_draw.specs.Instants.{IsShownAt}
 use Rattle.frame_draw.specs.Turns.{NeverFall}
 use Rattle.draw_log.specs.Seen.{Seen, seen, seen_at, seen_line}
@@ -86,7 +87,8 @@ value_here s t v here (Some cell) inside is =
 
 line_here : (s : Space) (group : Word) (l : LogLine) (here : List Shown) → shown_of s group l ≡ Some here → Here s (line_time l) here
 line_here s group (moved time leaf state next) here is = nothing_here s time here (Some []) refl is
-line_here s group (given letter time leaf port v) here is = by ((letter == 89) && bytes_eq leaf.name group) is
+line_here s group (given letter time leaf port v) here is =
+    by (is_drawn letter && bytes_eq leaf.name group) is
   where
     by : (b : Bool) → cond b (shown_at time v (cell_of s leaf.at)) (Some []) ≡ Some here → Here s time here
     by true is = value_here s time v here (cell_of s leaf.at) (cell_inside s leaf.at) is

@@ -16,6 +16,7 @@ pub record Seen : Type 0 where
   pub time : ℕ
   pub shown : List Shown
 
+-- values that are seen at a time
 abbrev pub seen_at : ℕ → List Shown → Seen
 seen_at time shown = record { time = time; shown = shown }
 
@@ -26,6 +27,7 @@ abbrev pub listed : ℕ → Option CellValue → List Shown
 listed time None = []
 listed time (Some g) = record { time = time; cell = g.cell; value = g.value } ∷ []
 
+-- what a line shows
 abbrev pub seen_as : SeenLine → Seen
 seen_as l = seen_at l.time (listed l.time l.given)
 
@@ -35,6 +37,7 @@ seen_as l = seen_at l.time (listed l.time l.given)
 abbrev pub shows : Space → Word → ℕ → LeafName → Value → Option (List Shown)
 shows s group time leaf v = if bytes_eq leaf.name group then shown_at time v (cell_of s leaf.at) else Some []
 
+-- what a line shows of a group
 abbrev pub seen_line : Space → Word → Option LogLine → Option Seen
 seen_line s group None = None
 seen_line s group (Some l) = option_map (seen_at (line_time l)) (shown_of s group l)

@@ -11,6 +11,7 @@ pub record SoFar : Type 0 where
   pub text : Bytes
   pub drawing : Drawing
 
+-- a drawing before the first line
 abbrev pub nothing_drawn : Picture → SoFar
 nothing_drawn p = record { text = []; drawing = blank p }
 

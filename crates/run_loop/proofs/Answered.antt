@@ -22,8 +22,9 @@ use Rattle.run_model.specs.Fitting.{NamesItsParts}
 use Rattle.text_forms.specs.Frames.{frames_of}
 use Rattle.record_text.specs.CycleNames.{HasPortValues}
 use Rattle.record_text.specs.Chosen.{letters_of}
-use Rattle.text_forms.specs.LogLine.{LogLine, line_text}
-use Rattle.text_forms.specs.Lines.{ended, cycle_lines, letter_of, log_bytes, out_bytes}
+use Rattle.text_forms.specs.LogLine.{letter_of, LogLine, line_text}
+use Rattle.text_forms.specs.Letters.{letter_byte}
+use Rattle.text_forms.specs.Lines.{ended, cycle_lines, log_bytes, out_bytes}
 use Rattle.answer_model.specs.Asked.{Source, file, made, Asked, is_among, differ_all}
 use Rattle.answer_model.specs.Answer.{Files, Answer}
 use Rattle.answer_model.specs.Cdpp.{run_on}
@@ -69,7 +70,8 @@ said_same a o tree events cycles (stop leaf t why) are = refl
 
 same_letters : (tree : Tree) (xs ys : List ℕ) (cycles : List Cycle) → ((c : ℕ) → is_among c xs ≡ is_among c ys) → log_bytes tree xs cycles ≡ log_bytes tree ys cycles
 same_letters tree xs ys cycles same =
-    λ i. flat_map (λ l. ended (line_text l)) (filter (λ l. same (letter_of l) i) (flat_map (cycle_lines (leaves tree)) cycles))
+    λ i. flat_map (λ l. ended (line_text l))
+    (filter (λ l. same (letter_byte (letter_of l)) i) (flat_map (cycle_lines (leaves tree)) cycles))
 
 -- the file of frames of a group
 abbrev group_frames : FramesFile → List Cycle → Option (ℕ × Group) → Files

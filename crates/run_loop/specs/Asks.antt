@@ -16,6 +16,7 @@ IsSource (Some size) (file name) = ⊥
 IsSource None (made n) = ⊥
 IsSource (Some size) (made n) = n ≡ size
 
+-- the file of frames in code as one of the definitions
 abbrev pub frames_file_of : FramesFile → asked.FramesFile
 frames_file_of f =
     record {

@@ -11,9 +11,11 @@ use Rattle.run_files.specs.Counts.{Counts, no_counts}
 use Rattle.run_loop.specs.declared.going.Going.{Going}
 use Rattle.run_loop.specs.Asks.{frames_name}
 
+-- the counts before a run, where a model is made
 abbrev pub counts_at_start : Tree → Option ℕ → Option Counts
 counts_at_start tree made = option_map (λ (size : ℕ). no_counts (leaf_count tree)) made
 
+-- how a run begins
 pub record BeginsWith (o : Outputs) (tree : Tree) (going : Going) : Type 0 where
   pub drawn : going.drawn ≡ showing_at_start tree o.frames
   pub counted : going.counted ≡ counts_at_start tree o.made
@@ -23,6 +25,7 @@ pub record BeginsWith (o : Outputs) (tree : Tree) (going : Going) : Type 0 where
 abbrev pub frames_with : Outputs → Bool → Option Word
 frames_with o has_frames = if has_frames then frames_name o.frames else None
 
+-- the names of the files, with frames where the model has the group
 abbrev pub names_with : Outputs → Bool → Names
 names_with o has_frames =
     record { log = name_of o.log; out = name_of o.out; frames = frames_with o has_frames }

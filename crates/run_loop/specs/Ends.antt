@@ -30,9 +30,11 @@ IsVerdict (Stopped Memory) v = ⊥
 
 -- ---- lines, by what was counted
 
+-- the last line of a run that came to its end
 abbrev pub end_text : ℕ → ℕ → Bytes
 end_text end cycles = codes "end " ++ time_text end ++ codes " cycles " ++ decimal cycles
 
+-- the last line of a run of a made model
 abbrev pub made_text : ℕ → ℕ → ℕ → Counts → Bytes
 made_text size cells cycles k =
     codes "made " ++ decimal size ++ codes " cells " ++ decimal cells ++ codes " cycles "

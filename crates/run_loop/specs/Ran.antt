@@ -27,6 +27,7 @@ pub record IsWritten (n : Names) (tree : Tree) (letters : List ℕ) (r : Run) (o
   pub whole : both texts (left_texts tree letters new.drawn []) ≡ left_texts tree letters old.drawn
       r.cycles
 
+-- the run goes to its end, or what a failure leaves
 abbrev pub RunsTo : Names → Tree → List ℕ → Run → Going → Going → Outside → Outside
     → Result Ending Unwritten → Type 0
 RunsTo n tree letters r old new outside later (Ok ending) =

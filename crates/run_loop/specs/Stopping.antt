@@ -7,6 +7,7 @@ use Rattle.run_files.specs.declared.outputs.Unwritten.TheVariants.{Fault, Memory
 use Rattle.run_loop.specs.declared.ending.Ending.{Ending}
 use Rattle.run_loop.specs.declared.ending.Ending.TheVariants.{Done, Stopped}
 
+-- the answer for a stop
 abbrev pub StopsAs : Stop → Result Ending Unwritten → Type 0
 StopsAs stop (Ok Done) = ⊥
 StopsAs stop (Ok (Stopped s)) = (s ≡ stop) × ¬ (stop ≡ stops.Memory)

@@ -4,6 +4,7 @@ use Rattle.answer_model.specs.Answer.{Answer}
 use Rattle.answer_model.specs.RunEnd.{Said}
 use Rattle.run_files.specs.Texts.{Names, Texts, files}
 
+-- the answer of a run with these texts
 pub record IsAnswerOf (n : Names) (texts : Texts) (s : Said) (a : Answer) : Type 0 where
   pub made : a.made ≡ files n texts
   pub shown : a.shown ≡ s.shown

@@ -1,5 +1,8 @@
 -- Frames: a search in the list of the values that cells showed. And frames drawn from a log.
-use Rattle.std.specs.Prelude.{ℕ, ◌+◌, ◌-◌, ◌*◌, not, ◌&&◌, ◌==◌, nat_lt, nat_le, Option, Some, None, List, [], ◌∷◌, ◌++◌, replicate, if◌then◌else◌, codes, unwrap_or, Result, Ok, Err}
+use Rattle.std.specs.Prelude.{ℕ, ◌+◌, ◌-◌, ◌*◌, Bool, true, false, not, ◌&&◌, ◌==◌, nat_lt, nat_le}
+use Rattle.std.specs.Prelude.{unwrap_or}
+use Rattle.std.specs.Prelude.{Option, Some, None, List, [], ◌∷◌, ◌++◌, replicate, Result, Ok, Err}
+use Rattle.std.specs.Prelude.{if◌then◌else◌, codes}
 use Rattle.std.specs.List.{slice_split, filter, filter_map, flat_map, last_or, range_with_len}
 use Rattle.std.specs.Str.{bytes_eq}
 use Rattle.quantity.specs.declared.value.Value.{Value}
@@ -10,6 +13,8 @@ use Rattle.run_model.specs.Run.{Cycle, PortRecord}
 use Rattle.quantity.specs.Bytes.{Bytes}
 use Rattle.quantity.specs.ValueTexts.{value_text}
 use Rattle.quantity.specs.Times.{time_text}
+use Rattle.text_forms.specs.declared.letter.Letter.{Letter}
+use Rattle.text_forms.specs.declared.letter.Letter.TheVariants.{Y}
 use Rattle.text_forms.specs.LogLine.{LogLine, given, moved, read_line}
 use Rattle.text_forms.specs.Lines.{ended}
 
@@ -39,7 +44,8 @@ value_until t cell s = if nat_le s.time t && (s.cell == cell) then Some s.value 
 
 -- the last value of the cell up to the end of the instant, or else its value at the start
 abbrev pub value_at : (ℕ → Value) → List Shown → ℕ → ℕ → Value
-value_at start shown t cell = unwrap_or (last_or None (filter_map (value_until t cell) shown)) (start cell)
+value_at start shown t cell =
+    unwrap_or (last_or None (filter_map (value_until t cell) shown)) (start cell)
 
 -- the line above and below
 abbrev pub edge : Picture → Bytes
@@ -50,13 +56,15 @@ abbrev pub row_text : Picture → (ℕ → Value) → ℕ → Bytes
 row_text p value row =
     ended
     (codes "|"
-    ++ flat_map (λ column. value_text p.decimals p.width (value (number_of p.space row column p.plane))) (range_with_len 0 p.space.columns)
+    ++ flat_map (λ column. value_text p.decimals p.width
+    (value (number_of p.space row column p.plane))) (range_with_len 0 p.space.columns)
     ++ codes "|")
 
 -- the time, the rows between two edges, and an empty line
 abbrev pub frame_text : Picture → ℕ → (ℕ → Value) → Bytes
 frame_text p t value =
-    ended (codes "Time: " ++ time_text t) ++ edge p ++ flat_map (row_text p value) (range_with_len 0 p.space.rows) ++ edge p ++ ended []
+    ended (codes "Time: " ++ time_text t) ++ edge p
+    ++ flat_map (row_text p value) (range_with_len 0 p.space.rows) ++ edge p ++ ended []
 
 -- a frame for each instant
 abbrev pub frames : Picture → (ℕ → Value) → List Shown → Bytes
@@ -83,8 +91,10 @@ frames_of p first start cycles = frames p start (shown_in p.space first cycles)
 
 -- the cell with these coordinates, where their number is the space's and they lie in it
 abbrev pub cell_of : Space → List ℕ → Option ℕ
-cell_of s (i ∷ j ∷ []) = if dims_of s == 2 then cell_at s (record { row = i; column = j; plane = 0 }) else None
-cell_of s (i ∷ j ∷ k ∷ []) = if dims_of s == 3 then cell_at s (record { row = i; column = j; plane = k }) else None
+cell_of s (i ∷ j ∷ []) =
+    if dims_of s == 2 then cell_at s (record { row = i; column = j; plane = 0 }) else None
+cell_of s (i ∷ j ∷ k ∷ []) =
+    if dims_of s == 3 then cell_at s (record { row = i; column = j; plane = k }) else None
 cell_of s at = None
 
 -- what a line shows: nothing, a value of a cell, or it is refused
@@ -92,11 +102,18 @@ abbrev pub shown_at : ℕ → Value → Option ℕ → Option (List Shown)
 shown_at time v None = None
 shown_at time v (Some cell) = Some (record { time = time; cell = cell; value = v } ∷ [])
 
--- what a line shows of a group: its Y lines alone
+-- the letter of the lines that are drawn
+abbrev pub is_drawn : Letter → Bool
+is_drawn Y = true
+is_drawn letter = false
+
+-- what a line shows of a group
 abbrev pub shown_of : Space → Word → LogLine → Option (List Shown)
 shown_of s group (moved time leaf state next) = Some []
 shown_of s group (given letter time leaf port v) =
-    if (letter == 89) && bytes_eq leaf.name group then shown_at time v (cell_of s leaf.at) else Some []
+    if is_drawn letter && bytes_eq leaf.name group
+    then shown_at time v (cell_of s leaf.at)
+    else Some []
 
 -- the time of a line
 abbrev pub line_time : LogLine → ℕ
@@ -126,7 +143,8 @@ lines_from s group line before (part ∷ []) = only_end line part
 lines_from s group line before (part ∷ next ∷ more) =
     elim (not_before before (read_line part)) [
       | None ↦ Err line
-      | Some l ↦ and_shown line (shown_of s group l) (lines_from s group (line + 1) (line_time l) (next ∷ more))
+      | Some l ↦ and_shown line (shown_of s group l)
+          (lines_from s group (line + 1) (line_time l) (next ∷ more))
     ]
 
 -- the frames of what is shown

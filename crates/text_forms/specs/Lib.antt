@@ -1,3 +1,4 @@
+pub mod Letters
 pub mod LogLine
 pub mod Lines
 pub mod Frames

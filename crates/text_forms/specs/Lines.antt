@@ -1,6 +1,6 @@
 -- The lines of a run's log and output.
-use Rattle.std.specs.Prelude.{ℕ, ◌==◌, Option, List, [], ◌∷◌, ◌++◌, take, slice_get}
-use Rattle.std.specs.List.{list_any, filter, filter_map, flat_map, join_with_byte}
+use Rattle.std.specs.Prelude.{ℕ, Option, List, [], ◌∷◌, ◌++◌, take, slice_get}
+use Rattle.std.specs.List.{filter, filter_map, flat_map, join_with_byte}
 use Rattle.std.specs.Option.{option_map}
 use Rattle.quantity.specs.Bytes.{Bytes}
 use Rattle.quantity.specs.ValueTexts.{text5}
@@ -11,55 +11,72 @@ use Rattle.model_tree.specs.Tree.{Word, Tree, Leaf, atomic_leaf, cell_leaf, leav
 pub use Rattle.model_tree.specs.LeafTexts.{name_at, further_ports}
 use Rattle.model_tree.specs.LeafTexts.{in_ports, out_ports}
 use Rattle.run_model.specs.Run.{Cycle, PortRecord, StateRecord, OutRecord}
-use Rattle.text_forms.specs.LogLine.{LeafName, LogLine, given, moved, line_text}
+use Rattle.text_forms.specs.declared.letter.Letter.{Letter}
+use Rattle.text_forms.specs.declared.letter.Letter.TheVariants.{Y, N, X, S}
+use Rattle.text_forms.specs.Letters.{all_letters, has_letter}
+use Rattle.text_forms.specs.LogLine.{LeafName, LogLine, given, moved, letter_of, line_text}
 
 -- ---- how leaves and ports are called, as lines have it
 
+-- a leaf's name, of a cell with as many coordinates as its space has
 abbrev pub leaf_name : Leaf → LeafName
 leaf_name (atomic_leaf name class settings) = record { name = name; at = [] }
 leaf_name (cell_leaf g first cell) =
     record { name = g.name; at = take (dims_of g.space) (coordinates (place_of g.space cell)) }
 
+-- the name of a leaf's output port
 abbrev pub out_port_name : Leaf → ℕ → Word
 out_port_name l k = name_at (out_ports l) k
 
+-- the name of a leaf's input port
 abbrev pub in_port_name : Leaf → ℕ → Word
 in_port_name l k = name_at (in_ports l) k
 
 -- ---- the log
 
-abbrev pub given_line : List Leaf → ℕ → ℕ → (Leaf → ℕ → Word) → PortRecord → Option LogLine
+-- the line of a value at a port
+abbrev pub given_line : List Leaf → ℕ → Letter → (Leaf → ℕ → Word) → PortRecord → Option LogLine
 given_line ls time letter port r =
     option_map (λ l. given letter time (leaf_name l) (port l r.port) r.value) (slice_get ls r.leaf)
 
+-- the line of a leaf that moved
 abbrev pub moved_line : List Leaf → ℕ → StateRecord → Option LogLine
-moved_line ls time r = option_map (λ l. moved time (leaf_name l) r.value r.next) (slice_get ls r.leaf)
+moved_line ls time r =
+    option_map (λ l. moved time (leaf_name l) r.value r.next) (slice_get ls r.leaf)
 
--- Y, then N, X and S lines
+-- which records of a cycle a letter is of, and their lines
+abbrev pub lines_of_letter : List Leaf → Cycle → Letter → List LogLine
+lines_of_letter ls c Y = filter_map (given_line ls c.time Y out_port_name) c.y
+lines_of_letter ls c N = filter_map (given_line ls c.time N out_port_name) c.n
+lines_of_letter ls c X = filter_map (given_line ls c.time X in_port_name) c.x
+lines_of_letter ls c S = filter_map (moved_line ls c.time) c.s
+
+-- letter by letter
 abbrev pub cycle_lines : List Leaf → Cycle → List LogLine
-cycle_lines ls c =
-    filter_map (given_line ls c.time 89 out_port_name) c.y ++ filter_map (given_line ls c.time 78 out_port_name) c.n
-    ++ filter_map (given_line ls c.time 88 in_port_name) c.x ++ filter_map (moved_line ls c.time) c.s
-
-abbrev pub letter_of : LogLine → ℕ
-letter_of (given letter time leaf port value) = letter
-letter_of (moved time leaf state next) = 83
+cycle_lines ls c = flat_map (lines_of_letter ls c) all_letters
 
 -- the lines of the chosen letters
 abbrev pub log_lines : List Leaf → List ℕ → List Cycle → List LogLine
 log_lines ls letters cycles =
-    filter (λ l. list_any (λ c. c == letter_of l) letters) (flat_map (cycle_lines ls) cycles)
+    filter (λ l. has_letter letters (letter_of l)) (flat_map (cycle_lines ls) cycles)
 
+-- a line with its end
 abbrev pub ended : Bytes → Bytes
 ended line = line ++ 10 ∷ []
 
+-- the log of some cycles, with the chosen letters
 abbrev pub log_bytes : Tree → List ℕ → List Cycle → Bytes
-log_bytes tree letters cycles = flat_map (λ l. ended (line_text l)) (log_lines (leaves tree) letters cycles)
+log_bytes tree letters cycles =
+    flat_map (λ l. ended (line_text l)) (log_lines (leaves tree) letters cycles)
 
 -- ---- the output
 
+-- a line of the output: time, port and value
 abbrev pub out_line : List Word → ℕ → OutRecord → Bytes
-out_line outs time r = ended (join_with_byte 32 (time_text time ∷ name_at outs r.port ∷ text5 r.value ∷ []))
+out_line outs time r =
+    ended (join_with_byte 32 (time_text time ∷ name_at outs r.port ∷ text5 r.value ∷ []))
 
+-- the output of some cycles
 abbrev pub out_bytes : Tree → List Cycle → Bytes
-out_bytes tree cycles = flat_map (λ (c : Cycle). flat_map (out_line (outs_of tree) c.time) c.out) cycles
+out_bytes tree cycles =
+    flat_map (λ (c : Cycle). flat_map (out_line (outs_of tree) c.time) c.out) cycles

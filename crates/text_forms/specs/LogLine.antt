@@ -1,5 +1,8 @@
 -- A log line: its form, which no model decides, its text and the text read back.
-use Rattle.std.specs.Prelude.{ℕ, Bool, true, not, ◌&&◌, ◌||◌, ◌==◌, nat_le, Option, Some, None, List, [], ◌∷◌, ◌++◌, length, map, unsigned_abs, ◌^◌, if◌then◌else◌, codes}
+use Rattle.std.specs.Prelude.{ℕ, Bool, true, false, not, ◌&&◌, ◌||◌, ◌==◌, nat_le, unsigned_abs}
+use Rattle.std.specs.Prelude.{◌^◌}
+use Rattle.std.specs.Prelude.{Option, Some, None, List, [], ◌∷◌, ◌++◌, length, map, if◌then◌else◌}
+use Rattle.std.specs.Prelude.{codes}
 use Rattle.std.specs.List.{slice_split, list_all, filter, join_with_byte}
 use Rattle.std.specs.Str.{bytes_eq}
 use Rattle.std.specs.Str.Parse.{digits_value}
@@ -12,19 +15,24 @@ use Rattle.quantity.specs.Times.{time_text, time_of}
 use Rattle.quantity.specs.Written.{if_written}
 use Rattle.model_tree.specs.Tree.{Word}
 pub use Rattle.model_tree.specs.LeafTexts.{at_text}
+use Rattle.text_forms.specs.declared.letter.Letter.{Letter}
+use Rattle.text_forms.specs.declared.letter.Letter.TheVariants.{Y, N, X, S}
+use Rattle.text_forms.specs.Letters.{letter_byte, letter_named}
 
--- a leaf's name; a cell's has the group's name and two or three coordinates, an atomic leaf's has none
+-- a leaf's name; a cell's has the group's name and two or three coordinates, an atomic leaf's has
+-- none
 pub record LeafName : Type 0 where
   pub name : Word
   pub at : List ℕ
 
 -- a value given at a port, by its letter, or a leaf that moved
 pub data LogLine : Type 0 where
-  given : (letter time : ℕ) (leaf : LeafName) (port : Word) (value : Value) → LogLine
+  given : (letter : Letter) (time : ℕ) (leaf : LeafName) (port : Word) (value : Value) → LogLine
   moved : (time : ℕ) (leaf : LeafName) (state : Option Value) (next : Option ℕ) → LogLine
 
 -- ---- what is written
 
+-- a leaf's name with its coordinates
 abbrev pub leaf_text : LeafName → Bytes
 leaf_text l = l.name ++ at_text l.at
 
@@ -38,12 +46,19 @@ abbrev pub next_text : Option ℕ → Bytes
 next_text None = codes "..."
 next_text (Some t) = time_text t
 
+abbrev pub letter_of : LogLine → Letter
+letter_of (given letter time leaf port value) = letter
+letter_of (moved time leaf state next) = S
+
+abbrev pub letter_text : Letter → Bytes
+letter_text letter = letter_byte letter ∷ []
+
 -- the five parts of a line
 abbrev pub parts_of : LogLine → List Bytes
 parts_of (given letter time leaf port value) =
-    (letter ∷ []) ∷ time_text time ∷ leaf_text leaf ∷ port ∷ text5 value ∷ []
+    letter_text letter ∷ time_text time ∷ leaf_text leaf ∷ port ∷ text5 value ∷ []
 parts_of (moved time leaf state next) =
-    codes "S" ∷ time_text time ∷ leaf_text leaf ∷ state_text state ∷ next_text next ∷ []
+    letter_text S ∷ time_text time ∷ leaf_text leaf ∷ state_text state ∷ next_text next ∷ []
 
 -- a stroke between each two
 abbrev pub with_strokes : List Bytes → List Bytes
@@ -76,9 +91,12 @@ is_value (Num x) = nat_le (unsigned_abs x) (10 ^ 15)
 abbrev pub is_time : ℕ → Bool
 is_time t = nat_le t 719999998
 
--- the letters are Y, X and N, and N is of cells alone
-abbrev pub is_letter : ℕ → LeafName → Bool
-is_letter letter l = (letter == 89) || (letter == 88) || ((letter == 78) && has_place l)
+-- whether lines of this letter say a value of the leaf: N of cells alone, and S of none
+abbrev pub is_letter : Letter → LeafName → Bool
+is_letter Y l = true
+is_letter N l = has_place l
+is_letter X l = true
+is_letter S l = false
 
 -- a cell has a value, and a box none
 abbrev pub is_state : LeafName → Option Value → Bool
@@ -94,7 +112,8 @@ is_next (Some t) = is_time t
 abbrev pub is_line : LogLine → Bool
 is_line (given letter time leaf port value) =
     is_letter letter leaf && is_time time && is_leaf leaf && is_name port && is_value value
-is_line (moved time leaf state next) = is_time time && is_leaf leaf && is_state leaf state && is_next next
+is_line (moved time leaf state next) =
+    is_time time && is_leaf leaf && is_state leaf state && is_next next
 
 -- ---- a line read back: its parts stand between the strokes
 
@@ -117,7 +136,7 @@ abbrev pub guessed_time : Bytes → Option ℕ
 guessed_time text = time_of (slice_split (λ c. c == 58) text)
 
 -- where its time and value are read
-abbrev pub given_in : ℕ → Option ℕ → LeafName → Word → Option Value → Option LogLine
+abbrev pub given_in : Letter → Option ℕ → LeafName → Word → Option Value → Option LogLine
 given_in letter (Some t) leaf port (Some v) = Some (given letter t leaf port v)
 given_in letter t leaf port v = None
 
@@ -126,10 +145,16 @@ abbrev pub moved_in : Option ℕ → LeafName → Bytes → Bytes → Option Log
 moved_in None leaf state next = None
 moved_in (Some t) leaf state next = Some (moved t leaf (guessed_value state) (guessed_time next))
 
+-- from its letter, and what its other parts say
+abbrev pub lettered_in : Option Letter → Option ℕ → LeafName → Bytes → Bytes → Option LogLine
+lettered_in None t leaf a b = None
+lettered_in (Some S) t leaf a b = moved_in t leaf a b
+lettered_in (Some letter) t leaf a b = given_in letter t leaf a (guessed_value b)
+
 -- from its five parts
 abbrev pub line_in : List Bytes → Option LogLine
 line_in ((c ∷ []) ∷ t ∷ leaf ∷ a ∷ b ∷ []) =
-    if c == 83 then moved_in (guessed_time t) (leaf_in leaf) a b else given_in c (guessed_time t) (leaf_in leaf) a (guessed_value b)
+    lettered_in (letter_named c) (guessed_time t) (leaf_in leaf) a b
 line_in parts = None
 
 -- where it may stand in a log

@@ -9,6 +9,7 @@ use Rattle.run_model.specs.Run.{run}
 use Rattle.run_model.specs.Examples.{with_port}
 use Rattle.run_model.specs.GroupRows.{feeding}
 use Rattle.quantity.specs.Bytes.{Bytes}
+use Rattle.text_forms.specs.declared.letter.Letter.TheVariants.{Y}
 use Rattle.text_forms.specs.LogLine.{given, moved, read_line}
 use Rattle.text_forms.specs.Lines.{log_bytes, out_bytes, ended}
 use Rattle.text_forms.specs.Frames.{Picture, frames_of, drawn}
@@ -23,40 +24,52 @@ y = codes "Y"
 abbrev pub line_log : Bytes
 line_log =
     lines
-    (codes "Y / 00:00:00:000 / line(0,0) / out / 0.00000" ∷ codes "Y / 00:00:00:000 / line(0,1) / out / 1.00000"
-    ∷ codes "Y / 00:00:00:000 / line(0,2) / out / 0.00000" ∷ codes "Y / 00:00:00:100 / line(0,0) / out / 1.00000"
+    (codes "Y / 00:00:00:000 / line(0,0) / out / 0.00000"
+    ∷ codes "Y / 00:00:00:000 / line(0,1) / out / 1.00000"
+    ∷ codes "Y / 00:00:00:000 / line(0,2) / out / 0.00000"
+    ∷ codes "Y / 00:00:00:100 / line(0,0) / out / 1.00000"
     ∷ codes "Y / 00:00:00:100 / line(0,2) / out / 1.00000" ∷ [])
 
 abbrev pub line_states : Bytes
 line_states =
     lines
-    (codes "S / 00:00:00:000 / line(0,0) / 1.00000 / 00:00:00:100" ∷ codes "S / 00:00:00:000 / line(0,1) / 1.00000 / ..."
-    ∷ codes "S / 00:00:00:000 / line(0,2) / 1.00000 / 00:00:00:100" ∷ codes "S / 00:00:00:100 / line(0,0) / 0.00000 / 00:00:00:200"
-    ∷ codes "S / 00:00:00:100 / line(0,1) / 0.00000 / 00:00:00:200" ∷ codes "S / 00:00:00:100 / line(0,2) / 0.00000 / 00:00:00:200" ∷ [])
+    (codes "S / 00:00:00:000 / line(0,0) / 1.00000 / 00:00:00:100"
+    ∷ codes "S / 00:00:00:000 / line(0,1) / 1.00000 / ..."
+    ∷ codes "S / 00:00:00:000 / line(0,2) / 1.00000 / 00:00:00:100"
+    ∷ codes "S / 00:00:00:100 / line(0,0) / 0.00000 / 00:00:00:200"
+    ∷ codes "S / 00:00:00:100 / line(0,1) / 0.00000 / 00:00:00:200"
+    ∷ codes "S / 00:00:00:100 / line(0,2) / 0.00000 / 00:00:00:200" ∷ [])
 
 abbrev pub queue_log : Bytes
 queue_log =
     lines
     (codes "Y / 00:00:00:000 / g / out / 7.00000" ∷ codes "Y / 00:00:00:000 / h / out / 8.00000"
     ∷ codes "X / 00:00:00:000 / q / in / 8.00000" ∷ codes "X / 00:00:00:000 / q / in / 7.00000"
-    ∷ codes "X / 00:00:00:000 / q / in / 7.00000" ∷ codes "S / 00:00:00:000 / g / - / ..." ∷ codes "S / 00:00:00:000 / h / - / ..."
+    ∷ codes "X / 00:00:00:000 / q / in / 7.00000" ∷ codes "S / 00:00:00:000 / g / - / ..."
+    ∷ codes "S / 00:00:00:000 / h / - / ..."
     ∷ codes "S / 00:00:00:000 / q / - / 00:00:00:000" ∷ codes "Y / 00:00:00:000 / q / out / 8.00000"
     ∷ codes "S / 00:00:00:000 / q / - / ..." ∷ [])
 
 abbrev pub port_log : Bytes
 port_log =
     lines
-    (codes "Y / 00:00:00:000 / g(0,0) / out / 0.00000" ∷ codes "N / 00:00:00:000 / g(0,0) / p / 0.00000"
-    ∷ codes "S / 00:00:00:000 / g(0,0) / 0.00000 / 00:00:00:100" ∷ codes "N / 00:00:00:100 / g(0,0) / p / 1.00000"
-    ∷ codes "S / 00:00:00:100 / g(0,0) / 1.00000 / 00:00:00:200" ∷ codes "Y / 00:00:00:200 / g(0,0) / out / 1.00000"
-    ∷ codes "N / 00:00:00:200 / g(0,0) / p / 2.00000" ∷ codes "S / 00:00:00:200 / g(0,0) / 1.00000 / ..." ∷ [])
+    (codes "Y / 00:00:00:000 / g(0,0) / out / 0.00000"
+    ∷ codes "N / 00:00:00:000 / g(0,0) / p / 0.00000"
+    ∷ codes "S / 00:00:00:000 / g(0,0) / 0.00000 / 00:00:00:100"
+    ∷ codes "N / 00:00:00:100 / g(0,0) / p / 1.00000"
+    ∷ codes "S / 00:00:00:100 / g(0,0) / 1.00000 / 00:00:00:200"
+    ∷ codes "Y / 00:00:00:200 / g(0,0) / out / 1.00000"
+    ∷ codes "N / 00:00:00:200 / g(0,0) / p / 2.00000"
+    ∷ codes "S / 00:00:00:200 / g(0,0) / 1.00000 / ..." ∷ [])
 
 -- in a cycle Y, N, X and S lines follow one another
 abbrev pub feeding_log : Bytes
 feeding_log =
     lines
-    (codes "Y / 00:00:00:000 / g(0,0) / out / 0.00000" ∷ codes "N / 00:00:00:000 / g(0,0) / p / 0.00000"
-    ∷ codes "X / 00:00:00:000 / q / in / 0.00000" ∷ codes "S / 00:00:00:000 / g(0,0) / 0.00000 / 00:00:00:100"
+    (codes "Y / 00:00:00:000 / g(0,0) / out / 0.00000"
+    ∷ codes "N / 00:00:00:000 / g(0,0) / p / 0.00000"
+    ∷ codes "X / 00:00:00:000 / q / in / 0.00000"
+    ∷ codes "S / 00:00:00:000 / g(0,0) / 0.00000 / 00:00:00:100"
     ∷ codes "S / 00:00:00:000 / q / - / 00:00:01:000" ∷ [])
 
 abbrev pub two_frames : Bytes
@@ -72,7 +85,9 @@ port_frames =
     ∷ codes "Time: 00:00:00:200" ∷ codes "+---+" ∷ codes "|  1|" ∷ codes "+---+" ∷ [] ∷ [])
 
 abbrev pub solid_frame : Bytes
-solid_frame = lines (codes "Time: 00:00:00:000" ∷ codes "+------+" ∷ codes "|  0 12|" ∷ codes "+------+" ∷ [] ∷ [])
+solid_frame =
+    lines (codes "Time: 00:00:00:000" ∷ codes "+------+" ∷ codes "|  0 12|" ∷ codes "+------+" ∷ []
+    ∷ [])
 
 abbrev pub picture : Space → ℕ → ℕ → Picture
 picture s plane width = record { space = s; plane = plane; width = width; decimals = 0 }
@@ -92,9 +107,12 @@ one_place = picture (record line_group.space { columns = 1 }) 0 3
 pub record RowsAsSaid : Type 0 where
   pub values : log_bytes line y (run line [] 100 10000).cycles ≡ line_log
   pub states : log_bytes line (codes "S") (run line [] 100 10000).cycles ≡ line_states
-  pub queue : log_bytes twice_and_once (codes "SXY") (run twice_and_once [] 0 10000).cycles ≡ queue_log
-  pub queue_out : out_bytes twice_and_once (run twice_and_once [] 0 10000).cycles ≡ lines (codes "00:00:00:000 o 8.00000" ∷ [])
-  pub further_port : log_bytes with_port (codes "YNS") (run with_port [] 1000 10000).cycles ≡ port_log
+  pub queue : log_bytes twice_and_once (codes "SXY") (run twice_and_once [] 0 10000).cycles
+      ≡ queue_log
+  pub queue_out : out_bytes twice_and_once (run twice_and_once [] 0 10000).cycles
+      ≡ lines (codes "00:00:00:000 o 8.00000" ∷ [])
+  pub further_port : log_bytes with_port (codes "YNS") (run with_port [] 1000 10000).cycles
+      ≡ port_log
   pub each_letter : log_bytes feeding (codes "XNSY") (run feeding [] 99 10000).cycles ≡ feeding_log
   pub drawn_line : drawn on_line (codes "line") line_log ≡ Ok two_frames
   pub same_frames : frames_of on_line 0 unknown (run line [] 100 10000).cycles ≡ two_frames
@@ -102,9 +120,12 @@ pub record RowsAsSaid : Type 0 where
   pub outside : drawn two_cells (codes "line") line_log ≡ Err 3
   pub nothing : drawn on_line (codes "line") [] ≡ Ok []
   pub first_port : drawn one_place (codes "g") port_log ≡ Ok port_frames
-  pub one_plane : frames_of (picture solid_group.space 1 3) 0 unknown (run solid [] 0 10000).cycles ≡ solid_frame
-  pub stands : read_line (codes "Y / 00:00:00:000 / g(0,10) / out / ?") ≡ Some (given 89 0 (record { name = codes "g"; at = 0 ∷ 10 ∷ [] }) (codes "out") Undefined)
-  pub atomic : read_line (codes "S / 00:00:00:000 / q / - / ...") ≡ Some (moved 0 (record { name = codes "q"; at = [] }) None None)
+  pub one_plane : frames_of (picture solid_group.space 1 3) 0 unknown (run solid [] 0 10000).cycles
+      ≡ solid_frame
+  pub stands : read_line (codes "Y / 00:00:00:000 / g(0,10) / out / ?")
+      ≡ Some (given Y 0 (record { name = codes "g"; at = 0 ∷ 10 ∷ [] }) (codes "out") Undefined)
+  pub atomic : read_line (codes "S / 00:00:00:000 / q / - / ...")
+      ≡ Some (moved 0 (record { name = codes "q"; at = [] }) None None)
   pub no_state : read_line (codes "S / 00:00:00:000 / q(0,0) / - / ...") ≡ None
   pub no_place : read_line (codes "N / 00:00:00:000 / q / p / 0.00000") ≡ None
   pub two_blanks : read_line (codes "Y /  00:00:00:000 / q / out / 0.00000") ≡ None

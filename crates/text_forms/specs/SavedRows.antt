@@ -8,7 +8,8 @@ use Rattle.run_model.specs.Examples.{with_port, with_variables}
 use Rattle.quantity.specs.Bytes.{Bytes}
 use Rattle.text_forms.specs.Rows.{lines}
 use Rattle.text_forms.specs.Models.{line}
-use Rattle.atomic_face.specs.BoxStates.{is_box_state, is_table}
+use Rattle.atomic_face.specs.StateTable.{is_table}
+use Rattle.atomic_face.specs.BoxStates.{is_box_state}
 use Rattle.text_forms.specs.declared.refusal.StateRefusal.TheVariants.{BadStateLine, EndBefore}
 use Rattle.text_forms.specs.StateText.{text_of_state}
 use Rattle.text_forms.specs.StateOf.{state_of}
