@@ -40,5 +40,6 @@ abbrev pub frame_at : Drawing → Option ℕ → Bytes
 frame_at d None = []
 frame_at d (Some t) = frame_text d.picture t (value_of d.values)
 
+-- the frame that is drawn so far
 abbrev pub frame_of : Drawing → Bytes
 frame_of d = frame_at d d.begun

@@ -8,5 +8,6 @@ use Rattle.frame_draw.specs.declared.known.KnownTexts.{KnownTexts}
 abbrev pub IsKnown : ℕ → ℕ → Option Known → Type 0
 IsKnown decimals width known = IfSome known (λ k. k.text ≡ value_text decimals width k.value)
 
+-- texts of values that are kept
 abbrev pub AreKnown : ℕ → ℕ → KnownTexts → Type 0
 AreKnown decimals width k = IsKnown decimals width k.first × IsKnown decimals width k.second

@@ -11,6 +11,7 @@ use Rattle.text_forms.specs.Frames.{Picture, row_text}
 use Rattle.frame_draw.specs.declared.plane.Plane.{Plane}
 use Rattle.frame_draw.specs.Drawing.{CanDraw, value_of}
 
+-- what is drawn, in code as in the definitions
 abbrev pub picture_of : Plane → Picture
 picture_of p = record { space = p.grid; plane = p.plane; width = p.width; decimals = p.decimals }
 

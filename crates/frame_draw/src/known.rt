@@ -50,13 +50,22 @@ impl KnownTexts {
             into.old.items ++ value_text plane.now.decimals plane.now.width value.now) }
         ensures kept { take (length into.old.items) into.new.items ≡ into.old.items }
     {
-        if let Some(text) = text_in(&self.first, value) {
-            return put(text, into);
+        match self.text_of(value) {
+            Some(text) => put_short(text, into),
+            None => self.put_new(value, plane, into),
         }
-        if let Some(text) = text_in(&self.second, value) {
-            return put(text, into);
+    }
+
+    /// The text of a value, where it is known.
+    #[inline(always)]
+    fn text_of(&self, value: &Value) -> Option<&[u8]>
+        ensures { (d w : ℕ) → AreKnown d w self.now
+            → IfSome result (λ text. text.now ≡ value_text d w value.now) }
+    {
+        match text_in(&self.first, value) {
+            Some(text) => Some(text),
+            None => text_in(&self.second, value),
         }
-        self.put_new(value, plane, into)
     }
 
     /// Appends the text of a value that isn't known, and knows it from now on, where there is room.
@@ -90,6 +99,18 @@ impl KnownTexts {
         } else if self.second.is_none() {
             self.second = with_text(value, text);
         }
+    }
+}
+
+/// Appends a text, most often of two bytes.
+#[inline(always)]
+fn put_short(text: &[u8], into: &mut Vec<u8>) -> Result<(), OutOfMemory>
+    ensures ok { OnOk result (into.new.items ≡ into.old.items ++ text.now) }
+    ensures kept { take (length into.old.items) into.new.items ≡ into.old.items }
+{
+    match text {
+        [first, second] => put(&[*first, *second], into),
+        _ => put(text, into),
     }
 }
 

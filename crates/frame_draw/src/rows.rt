@@ -66,8 +66,10 @@ fn put_cells(
         into.old.items ++ cells_text plane.now values.now row plane.now.grid.columns) }
     ensures kept { take (length into.old.items) into.new.items ≡ into.old.items }
 {
-    for column in 0..plane.grid.columns() {
-        put_cell(plane, values, row, column, texts, into)?;
+    // A copy, which no write of a text can change.
+    let drawn = *plane;
+    for column in 0..drawn.grid.columns() {
+        put_cell(&drawn, values, row, column, texts, into)?;
     }
     Ok(())
 }

@@ -13,6 +13,9 @@ use Rattle.model_tree.specs.LeafTexts.{leaf_text}
 use Rattle.model_tree.specs.Models.{tree_of}
 use Rattle.model_tree.specs.Leaves.{Settings, IsLeafOf, Appends, no_settings}
 use Rattle.model_tree.proofs.Read.{rows-length, leaves-length}
+use Rattle.text_forms.specs.declared.letter.Letter.{Letter}
+use Rattle.text_forms.specs.declared.letter.Letter.TheVariants.{S}
+use Rattle.text_forms.specs.Letters.{letter_byte}
 use Rattle.text_forms.specs.LogLine as log
 use Rattle.text_forms.specs.LogLine.{given, moved, state_text, next_text, with_strokes}
 use Rattle.text_forms.specs.Lines.{ended, leaf_name}
@@ -56,16 +59,17 @@ append_keeps a b more h = ap (take (length a)) h ∙ take-append_seam a more
 begun_joined : (old a b c : Bytes) → ((old ++ a) ++ b) ++ c ≡ old ++ (a ++ b ++ c)
 begun_joined old a b c = simp append_assoc
 
-pub begun_made : (old : Bytes) (letter t : ℕ) (new1 new2 new3 : Bytes) → new1 ≡ old ++ letter ∷ codes " / " → new2 ≡ new1 ++ time_text t → new3 ≡ new2 ++ codes " / " → new3 ≡ old ++ begun letter t
+pub begun_made : (old : Bytes) (letter : Letter) (t : ℕ) (new1 new2 new3 : Bytes)
+    → new1 ≡ old ++ letter_byte letter ∷ codes " / " → new2 ≡ new1 ++ time_text t → new3 ≡ new2 ++ codes " / " → new3 ≡ old ++ begun letter t
 begun_made old letter t new1 new2 new3 a b c =
-    c ∙ ap (λ x. x ++ codes " / ") (b ∙ ap (λ x. x ++ time_text t) a) ∙ begun_joined old (letter ∷ codes " / ") (time_text t) (codes " / ")
+    c ∙ ap (λ x. x ++ codes " / ") (b ∙ ap (λ x. x ++ time_text t) a) ∙ begun_joined old (letter_byte letter ∷ codes " / ") (time_text t) (codes " / ")
 
 head_joined : (old a t s l : Bytes) → ((old ++ (a ++ t ++ s)) ++ l) ++ codes " / " ≡ old ++ (a ++ t ++ s ++ l ++ codes " / ")
 head_joined old a t s l = simp append_assoc
 
-pub head_made : (old : Bytes) (letter t : ℕ) (l : Leaf) (new1 new2 new3 : Bytes) → new1 ≡ old ++ begun letter t → new2 ≡ new1 ++ leaf_text l → new3 ≡ new2 ++ codes " / " → new3 ≡ old ++ head_text letter t l
+pub head_made : (old : Bytes) (letter : Letter) (t : ℕ) (l : Leaf) (new1 new2 new3 : Bytes) → new1 ≡ old ++ begun letter t → new2 ≡ new1 ++ leaf_text l → new3 ≡ new2 ++ codes " / " → new3 ≡ old ++ head_text letter t l
 head_made old letter t l new1 new2 new3 a b c =
-    c ∙ ap (λ x. x ++ codes " / ") (b ∙ ap (λ x. x ++ leaf_text l) a) ∙ head_joined old (letter ∷ codes " / ") (time_text t) (codes " / ") (leaf_text l)
+    c ∙ ap (λ x. x ++ codes " / ") (b ∙ ap (λ x. x ++ leaf_text l) a) ∙ head_joined old (letter_byte letter ∷ codes " / ") (time_text t) (codes " / ") (leaf_text l)
 
 given_parts : (old : Bytes) (letter : ℕ) (t l p v : Bytes) → ((old ++ ((letter ∷ codes " / ") ++ t ++ codes " / " ++ l ++ codes " / ")) ++ (p ++ codes " / ")) ++ (v ++ codes "\n") ≡ old ++ ended (join_with_byte 32 (with_strokes ((letter ∷ []) ∷ t ∷ l ∷ p ∷ v ∷ [])))
 given_parts old letter t l p v = simp append_assoc
@@ -80,12 +84,12 @@ same_name : (l : Leaf) → log.leaf_text (leaf_name l) ≡ leaf_text l
 same_name (atomic_leaf name class settings) = append-nil name
 same_name (cell_leaf g first cell) = refl
 
-pub given_joined : (old : Bytes) (letter t : ℕ) (l : Leaf) (port : Bytes) (v : Value) (new1 new2 new3 : Bytes) → new1 ≡ old ++ head_text letter t l → new2 ≡ new1 ++ (port ++ codes " / ") → new3 ≡ new2 ++ (text5 v ++ codes "\n") → new3 ≡ old ++ ended (log.line_text (given letter t (leaf_name l) port v))
+pub given_joined : (old : Bytes) (letter : Letter) (t : ℕ) (l : Leaf) (port : Bytes) (v : Value) (new1 new2 new3 : Bytes) → new1 ≡ old ++ head_text letter t l → new2 ≡ new1 ++ (port ++ codes " / ") → new3 ≡ new2 ++ (text5 v ++ codes "\n") → new3 ≡ old ++ ended (log.line_text (given letter t (leaf_name l) port v))
 given_joined old letter t l port v new1 new2 new3 a b c =
-    c ∙ ap (λ x. x ++ (text5 v ++ codes "\n")) (b ∙ ap (λ x. x ++ (port ++ codes " / ")) a) ∙ given_parts old letter (time_text t) (leaf_text l) port (text5 v)
-    ∙ ap (λ x. old ++ ended (join_with_byte 32 (with_strokes ((letter ∷ []) ∷ time_text t ∷ x ∷ port ∷ text5 v ∷ [])))) (sym (same_name l))
+    c ∙ ap (λ x. x ++ (text5 v ++ codes "\n")) (b ∙ ap (λ x. x ++ (port ++ codes " / ")) a) ∙ given_parts old (letter_byte letter) (time_text t) (leaf_text l) port (text5 v)
+    ∙ ap (λ x. old ++ ended (join_with_byte 32 (with_strokes (log.letter_text letter ∷ time_text t ∷ x ∷ port ∷ text5 v ∷ [])))) (sym (same_name l))
 
-pub moved_joined : (old : Bytes) (t : ℕ) (l : Leaf) (state : Option Value) (next : Option ℕ) (new1 new2 new3 new4 new5 : Bytes) → new1 ≡ old ++ head_text 83 t l → new2 ≡ new1 ++ state_text state → new3 ≡ new2 ++ codes " / " → new4 ≡ new3 ++ next_text next → new5 ≡ new4 ++ codes "\n" → new5 ≡ old ++ ended (log.line_text (moved t (leaf_name l) state next))
+pub moved_joined : (old : Bytes) (t : ℕ) (l : Leaf) (state : Option Value) (next : Option ℕ) (new1 new2 new3 new4 new5 : Bytes) → new1 ≡ old ++ head_text S t l → new2 ≡ new1 ++ state_text state → new3 ≡ new2 ++ codes " / " → new4 ≡ new3 ++ next_text next → new5 ≡ new4 ++ codes "\n" → new5 ≡ old ++ ended (log.line_text (moved t (leaf_name l) state next))
 moved_joined old t l state next new1 new2 new3 new4 new5 a b c d e =
     e ∙ ap (λ x. x ++ codes "\n") (d ∙ ap (λ x. x ++ next_text next) (c ∙ ap (λ x. x ++ codes " / ") (b ∙ ap (λ x. x ++ state_text state) a)))
     ∙ moved_parts old (time_text t) (leaf_text l) (state_text state) (next_text next)

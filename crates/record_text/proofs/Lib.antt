@@ -6,3 +6,5 @@ pub mod StrictLines
 pub mod NamedLeaves
 pub mod Starts
 pub mod UsualForms
+pub mod TwelveBytes
+pub mod FrontPieces

@@ -27,6 +27,8 @@ use Rattle.model_tree.specs.Leaves.{Settings, IsCellIn, IsLeafOf, IsPlaceOf, no_
 use Rattle.model_tree.specs.Table.{seat_at}
 use Rattle.model_tree.specs.Told.{Told}
 use Rattle.model_tree.proofs.Read.{rows-length, row-parts}
+use Rattle.text_forms.specs.declared.letter.Letter.{Letter}
+use Rattle.text_forms.specs.Letters.{letter_byte}
 use Rattle.record_text.specs.RecordTexts.{head_text}
 use Rattle.record_text.specs.Begun.{begun, place_text, IsBeginning, IsOfGroup, IsStart, OfGroup}
 use Rattle.record_text.specs.declared.start.Begins.{Begins}
@@ -61,14 +63,15 @@ at_is s p = by s.planes
 parts_joined : (old a t s name places : Bytes) → old ++ ((a ++ t ++ s) ++ name ++ codes "(") ++ (places ++ codes ") / ") ≡ old ++ (a ++ t ++ s ++ (name ++ 40 ∷ (places ++ codes ")")) ++ codes " / ")
 parts_joined old a t s name places = simp append_assoc
 
-group_head : (old : Bytes) (letter time first cell : ℕ) (g : Group) → old ++ (begun letter time ++ g.name ++ codes "(") ++ place_text g.space cell ≡ old ++ head_text letter time (cell_leaf g first cell)
+group_head : (old : Bytes) (letter : Letter) (time first cell : ℕ) (g : Group)
+    → old ++ (begun letter time ++ g.name ++ codes "(") ++ place_text g.space cell ≡ old ++ head_text letter time (cell_leaf g first cell)
 group_head old letter time first cell g =
     let p = place_of g.space cell in
-    parts_joined old (letter ∷ codes " / ") (time_text time) (codes " / ") g.name (join_with_byte 44 (map decimal (take (dims_of g.space) (coordinates p))))
-    ∙ ap (λ (x : Bytes). old ++ ((letter ∷ codes " / ") ++ time_text time ++ codes " / " ++ (g.name ++ x) ++ codes " / ")) (sym (at_is g.space p))
+    parts_joined old (letter_byte letter ∷ codes " / ") (time_text time) (codes " / ") g.name (join_with_byte 44 (map decimal (take (dims_of g.space) (coordinates p))))
+    ∙ ap (λ (x : Bytes). old ++ ((letter_byte letter ∷ codes " / ") ++ time_text time ++ codes " / " ++ (g.name ++ x) ++ codes " / ")) (sym (at_is g.space p))
 
 -- letter, time and name of a cell
-pub cell_head : (old new : Bytes) (letter time number cell : ℕ) (gs : List Group) (l : Leaf) → IsCellIn (slice_get gs number) cell l → ((g : Group) → slice_get gs number ≡ Some g → new ≡ old ++ (begun letter time ++ g.name ++ codes "(") ++ place_text g.space cell) → new ≡ old ++ head_text letter time l
+pub cell_head : (old new : Bytes) (letter : Letter) (time number cell : ℕ) (gs : List Group) (l : Leaf) → IsCellIn (slice_get gs number) cell l → ((g : Group) → slice_get gs number ≡ Some g → new ≡ old ++ (begun letter time ++ g.name ++ codes "(") ++ place_text g.space cell) → new ≡ old ++ head_text letter time l
 cell_head old new letter time number cell gs l here is = by (slice_get gs number) refl l here
   where
     by : (o : Option Group) → slice_get gs number ≡ o → (l : Leaf) → IsCellIn o cell l → new ≡ old ++ head_text letter time l
@@ -123,7 +126,7 @@ begun_named old a name new1 new2 new3 p q r = r ∙ ap (λ x. x ++ codes "(") (q
     again : (old a name : Bytes) → ((old ++ a) ++ name) ++ codes "(" ≡ old ++ (a ++ name ++ codes "(")
     again old a name = simp append_assoc
 
-pub group_begun : (m : Model) (letter time number : ℕ) (found : CellGroup) (old new1 new2 new3 : Bytes) → ((settings : Settings) → slice_get (groups (tree_of m settings)) number ≡ Some (group_of found)) → new1 ≡ old ++ begun letter time → new2 ≡ new1 ++ found.name → new3 ≡ new2 ++ codes "("
+pub group_begun : (m : Model) (letter : Letter) (time number : ℕ) (found : CellGroup) (old new1 new2 new3 : Bytes) → ((settings : Settings) → slice_get (groups (tree_of m settings)) number ≡ Some (group_of found)) → new1 ≡ old ++ begun letter time → new2 ≡ new1 ++ found.name → new3 ≡ new2 ++ codes "("
     → OfGroup m number (λ g. (new3 ≡ old ++ (begun letter time ++ g.name ++ codes "(")) × (found.grid ≡ g.space))
 group_begun m letter time number found old new1 new2 new3 is a b c settings g e =
     let same : group_of found ≡ g = cc (is settings) in

@@ -1,5 +1,5 @@
 -- A line that is read from left to right is the line that the text is.
-use Rattle.std.proofs.Common.{◌≡◌, ℕ, ◌^◌, ◌≤◌, ◌==◌, ◌&&◌, Bool, true, false, cond, Option, Some, None, [], ◌∷◌, refl, sym, ap, ◌∙◌, subst, arith, codes, unsigned_abs}
+use Rattle.std.proofs.Common.{◌≡◌, ℕ, ◌^◌, ◌≤◌, ◌&&◌, Bool, true, false, cond, Option, Some, None, [], ◌∷◌, refl, sym, ap, ◌∙◌, subst, arith, codes, unsigned_abs}
 use Rattle.std.proofs.lemmas.Bool.Decides.{nat_tests}
 use Rattle.std.proofs.lemmas.Slice.Eq.{bytes_eq-Decides}
 use Rattle.std.specs.List.{list_all}
@@ -16,10 +16,16 @@ use Rattle.quantity.specs.Written.{for_some}
 use Rattle.quantity.proofs.DigitLemmas.{both}
 use Rattle.quantity.proofs.NothingElse as quantities
 use Rattle.quantity.proofs.Written.{has_no, and_true, time_read, value_read}
-use Rattle.text_forms.specs.LogLine.{LeafName, LogLine, given, moved, line_text, read_line, leaf_text, is_line, is_leaf, is_value, is_time, is_letter, is_state, is_next, has_place, state_text, next_text}
+use Rattle.text_forms.specs.declared.letter.Letter.{Letter}
+use Rattle.text_forms.specs.declared.letter.Letter.TheVariants.{Y, N, X, S}
+use Rattle.text_forms.specs.Letters.{all_letters, letter_named}
+use Rattle.text_forms.specs.LogLine.{LeafName, LogLine, given, moved, letter_text, line_text, read_line, leaf_text}
+use Rattle.text_forms.specs.LogLine.{is_line, is_leaf, is_value, is_time, is_letter, is_state, is_next, has_place}
+use Rattle.text_forms.specs.LogLine.{state_text, next_text}
 use Rattle.text_forms.proofs.NothingElse as forms
-use Rattle.text_forms.proofs.WrittenLines.{blank, given_fits, given_no, moved_fits, moved_no, line_read}
-use Rattle.record_text.specs.Strict.{Parts, cut_parts, read_leaf, read_state, read_next, given_line, moved_line, line_by, strict_line, given_as, agrees}
+use Rattle.text_forms.proofs.LetterBytes.{found}
+use Rattle.text_forms.proofs.WrittenLines.{blank, letter_back, given_fits, given_no, moved_fits, moved_no, line_read}
+use Rattle.record_text.specs.Strict.{Parts, cut_parts, read_leaf, read_state, read_next, given_line, moved_line, one_letter, line_by, strict_line, given_as, agrees}
 use Rattle.record_text.proofs.StrictLemmas.{some_from, same_some, if_some, if_then, parts_made, parts_cut, joined_parts, stroke}
 use Rattle.record_text.proofs.StrictLeaves.{leaf_is, leaf_read}
 
@@ -75,7 +81,7 @@ pub record IsLineText (text : Bytes) (l : LogLine) : Type 0 where
   pub text_is : text ≡ line_text l
   pub is : is_line l ≡ true
 
-given_is : (c : ℕ) (p : Parts) (l : LogLine) → p.letter ≡ c ∷ [] → given_line c p ≡ Some l → IsLineText (joined_parts p) l
+given_is : (c : Letter) (p : Parts) (l : LogLine) → p.letter ≡ letter_text c → given_line c p ≡ Some l → IsLineText (joined_parts p) l
 given_is c p l letter h =
     let t = some_from (read_time p.time) _ l h in
     let f = some_from (read_leaf p.leaf) _ l t.2 in
@@ -89,13 +95,13 @@ given_is c p l letter h =
     (record {
       text_is =
           ap (λ x. stroke x (stroke p.time (stroke p.leaf (stroke p.first p.second)))) letter
-          ∙ ap (λ x. stroke (c ∷ []) (stroke x (stroke p.leaf (stroke p.first p.second)))) time.0
-          ∙ ap (λ x. stroke (c ∷ []) (stroke (time_text t.0) (stroke x (stroke p.first p.second)))) leaf.text_is
-          ∙ ap (λ x. stroke (c ∷ []) (stroke (time_text t.0) (stroke (leaf_text f.0) (stroke p.first x)))) value.0;
+          ∙ ap (λ x. stroke (letter_text c) (stroke x (stroke p.leaf (stroke p.first p.second)))) time.0
+          ∙ ap (λ x. stroke (letter_text c) (stroke (time_text t.0) (stroke x (stroke p.first p.second)))) leaf.text_is
+          ∙ ap (λ x. stroke (letter_text c) (stroke (time_text t.0) (stroke (leaf_text f.0) (stroke p.first x)))) value.0;
       is = and_true _ _ (and_true _ _ (and_true _ _ (and_true _ _ last.0 time.1) leaf.is) port.0) value.1;
     })
 
-moved_is : (p : Parts) (l : LogLine) → p.letter ≡ 83 ∷ [] → moved_line p ≡ Some l → IsLineText (joined_parts p) l
+moved_is : (p : Parts) (l : LogLine) → p.letter ≡ letter_text S → moved_line p ≡ Some l → IsLineText (joined_parts p) l
 moved_is p l letter h =
     let t = some_from (read_time p.time) _ l h in
     let f = some_from (read_leaf p.leaf) _ l t.2 in
@@ -111,24 +117,26 @@ moved_is p l letter h =
     (record {
       text_is =
           ap (λ x. stroke x (stroke p.time (stroke p.leaf (stroke p.first p.second)))) letter
-          ∙ ap (λ x. stroke (83 ∷ []) (stroke x (stroke p.leaf (stroke p.first p.second)))) time.0
-          ∙ ap (λ x. stroke (83 ∷ []) (stroke (time_text t.0) (stroke x (stroke p.first p.second)))) leaf.text_is
-          ∙ ap (λ x. stroke (83 ∷ []) (stroke (time_text t.0) (stroke (leaf_text f.0) (stroke x p.second)))) state.0
-          ∙ ap (λ x. stroke (83 ∷ []) (stroke (time_text t.0) (stroke (leaf_text f.0) (stroke (state_text s.0) x)))) next.0;
+          ∙ ap (λ x. stroke (letter_text S) (stroke x (stroke p.leaf (stroke p.first p.second)))) time.0
+          ∙ ap (λ x. stroke (letter_text S) (stroke (time_text t.0) (stroke x (stroke p.first p.second)))) leaf.text_is
+          ∙ ap (λ x. stroke (letter_text S) (stroke (time_text t.0) (stroke (leaf_text f.0) (stroke x p.second)))) state.0
+          ∙ ap (λ x. stroke (letter_text S) (stroke (time_text t.0) (stroke (leaf_text f.0) (stroke (state_text s.0) x)))) next.0;
       is = and_true _ _ (and_true _ _ (and_true _ _ time.1 leaf.is) fits) next.1;
     })
+
+letter_is : (letter : Letter) (p : Parts) (l : LogLine) → p.letter ≡ letter_text letter
+    → one_letter letter p ≡ Some l → IsLineText (joined_parts p) l
+letter_is Y p l e h = given_is Y p l e h
+letter_is N p l e h = given_is N p l e h
+letter_is X p l e h = given_is X p l e h
+letter_is S p l e h = moved_is p l e h
 
 by_is : (w : Bytes) (p : Parts) (l : LogLine) → p.letter ≡ w → line_by w p ≡ Some l → IsLineText (joined_parts p) l
 by_is [] p l e h = absurd cc
 by_is (c ∷ d ∷ more) p l e h = absurd cc
-by_is (c ∷ []) p l e h = by (c == 83) refl h
-  where
-    is : (c == 83) ≡ true → c ≡ 83
-    is f = grind (arith, nat_tests)
-
-    by : (b : Bool) → (c == 83) ≡ b → cond b (moved_line p) (given_line c p) ≡ Some l → IsLineText (joined_parts p) l
-    by true f h = moved_is p l (e ∙ ap (λ (x : ℕ). x ∷ []) (is f)) h
-    by false f h = given_is c p l e h
+by_is (c ∷ []) p l e h =
+    let k = some_from (letter_named c) (λ letter. one_letter letter p) l h in
+    letter_is k.0 p l (e ∙ ap (λ (x : ℕ). x ∷ []) (sym (found c all_letters k.0 k.1))) k.2
 
 strict_is : (text : Bytes) (l : LogLine) → strict_line text ≡ Some l → IsLineText text l
 strict_is text l h =
@@ -160,8 +168,12 @@ next_read (Some t) h =
 in_time : (t : ℕ) → is_time t ≡ true → t ≤ 719999998
 in_time t h = grind (arith, nat_tests)
 
-not_moved : (letter : ℕ) (l : LeafName) → is_letter letter l ≡ true → (letter == 83) ≡ false
-not_moved letter l h = grind (arith, nat_tests)
+of_value : (letter : Letter) (l : LeafName) → is_letter letter l ≡ true
+    → (p : Parts) → one_letter letter p ≡ given_line letter p
+of_value Y l h p = refl
+of_value N l h p = refl
+of_value X l h p = refl
+of_value S l h p = absurd cc
 
 abbrev parts_as : Bytes → Bytes → Bytes → Bytes → Bytes → Parts
 parts_as a b c d e = record { letter = a; time = b; leaf = c; first = d; second = e }
@@ -172,14 +184,14 @@ four p a b c d e h =
     let j = both (p b) _ i.1 in
     let k = both (p c) _ j.1 in (i.0, j.0, k.0, (both (p d) _ k.1).0)
 
-given_read : (c t : ℕ) (l : LeafName) (port : Bytes) (v : Value) → is_line (given c t l port v) ≡ true → strict_line (line_text (given c t l port v)) ≡ Some (given c t l port v)
+given_read : (c : Letter) (t : ℕ) (l : LeafName) (port : Bytes) (v : Value) → is_line (given c t l port v) ≡ true → strict_line (line_text (given c t l port v)) ≡ Some (given c t l port v)
 given_read c t l port v h =
     let f = given_fits c t l port v h in
     let n = (both (is_letter c l && is_time t && is_leaf l) (is_name port) (both (is_letter c l && is_time t && is_leaf l && is_name port) (is_value v) h).0).1 in
-    let p = parts_as (c ∷ []) (time_text t) (leaf_text l) port (text5 v) in
-    let w = four (has_no 32) (c ∷ []) (time_text t) (leaf_text l) port (text5 v) (given_no 32 blank refl c t l port v f) in
+    let p = parts_as (letter_text c) (time_text t) (leaf_text l) port (text5 v) in
+    let w = four (has_no 32) (letter_text c) (time_text t) (leaf_text l) port (text5 v) (given_no 32 blank refl c t l port v f) in
     ap (λ o. for_some o (λ p. line_by p.letter p)) (parts_cut p (record { letter = w.0; time = w.1; leaf = w.2; first = w.3 }))
-    ∙ ap (λ b. cond b (moved_line p) (given_line c p)) (not_moved c l f.letter_is)
+    ∙ ap (λ o. for_some o (λ letter. one_letter letter p)) (letter_back c) ∙ of_value c l f.letter_is p
     ∙ ap (λ o. for_some o (λ t. for_some (read_leaf (leaf_text l)) (λ l. for_some (read_text5 (text5 v)) (λ v. cond (is_name port) (given_as c t l port v) None)))) (time_read t (in_time t f.time))
     ∙ ap (λ o. for_some o (λ l. for_some (read_text5 (text5 v)) (λ v. cond (is_name port) (given_as c t l port v) None))) (leaf_read l f.leaf)
     ∙ ap (λ o. for_some o (λ v. cond (is_name port) (given_as c t l port v) None)) (value_read v (value_bounded v f.value))
@@ -188,8 +200,8 @@ given_read c t l port v h =
 moved_read : (t : ℕ) (l : LeafName) (s : Option Value) (n : Option ℕ) → is_line (moved t l s n) ≡ true → strict_line (line_text (moved t l s n)) ≡ Some (moved t l s n)
 moved_read t l s n h =
     let f = moved_fits t l s n h in
-    let p = parts_as (83 ∷ []) (time_text t) (leaf_text l) (state_text s) (next_text n) in
-    let w = four (has_no 32) (83 ∷ []) (time_text t) (leaf_text l) (state_text s) (next_text n) (moved_no 32 blank refl t l s n f) in
+    let p = parts_as (letter_text S) (time_text t) (leaf_text l) (state_text s) (next_text n) in
+    let w = four (has_no 32) (letter_text S) (time_text t) (leaf_text l) (state_text s) (next_text n) (moved_no 32 blank refl t l s n f) in
     ap (λ o. for_some o (λ p. line_by p.letter p)) (parts_cut p (record { letter = w.0; time = w.1; leaf = w.2; first = w.3 }))
     ∙ ap (λ o. for_some o (λ t. for_some (read_leaf (leaf_text l)) (λ l. for_some (read_state (state_text s)) (λ s. for_some (read_next (next_text n)) (λ n. cond (agrees l s) (Some (moved t l s n)) None))))) (time_read t (in_time t f.time))
     ∙ ap (λ o. for_some o (λ l. for_some (read_state (state_text s)) (λ s. for_some (read_next (next_text n)) (λ n. cond (agrees l s) (Some (moved t l s n)) None)))) (leaf_read l f.leaf)

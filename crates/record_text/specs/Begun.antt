@@ -9,17 +9,20 @@ use Rattle.model_tree.specs.declared.table.Model.{Model}
 use Rattle.model_tree.specs.Tree.{Group, groups}
 use Rattle.model_tree.specs.Models.{tree_of}
 use Rattle.model_tree.specs.Leaves.{Settings}
+use Rattle.text_forms.specs.declared.letter.Letter.{Letter}
+use Rattle.text_forms.specs.Letters.{letter_byte}
 use Rattle.record_text.specs.declared.start.Begins.{Begins}
 use Rattle.record_text.specs.declared.start.Begins.TheVariants.{Nothing, Boxes, Cells}
 use Rattle.record_text.specs.declared.start.Start.{Start}
 
 -- letter and time
-abbrev pub begun : ℕ → ℕ → Bytes
-begun letter time = (letter ∷ codes " / ") ++ time_text time ++ codes " / "
+abbrev pub begun : Letter → ℕ → Bytes
+begun letter time = (letter_byte letter ∷ codes " / ") ++ time_text time ++ codes " / "
 
 -- the coordinates of a cell
 abbrev pub coordinates_text : Space → ℕ → Bytes
-coordinates_text s cell = join_with_byte 44 (map decimal (take (dims_of s) (coordinates (place_of s cell))))
+coordinates_text s cell =
+    join_with_byte 44 (map decimal (take (dims_of s) (coordinates (place_of s cell))))
 
 -- what stands behind a group's name and a parenthesis
 abbrev pub place_text : Space → ℕ → Bytes
@@ -27,17 +30,21 @@ place_text s cell = coordinates_text s cell ++ codes ") / "
 
 -- this holds of the group of this number, whatever the settings
 abbrev pub OfGroup : Model → ℕ → (Group → Type 0) → Type 0
-OfGroup m number P = (settings : Settings) → (g : Group) → slice_get (groups (tree_of m settings)) number ≡ Some g → P g
+OfGroup m number P =
+    (settings : Settings) → (g : Group)
+    → slice_get (groups (tree_of m settings)) number ≡ Some g → P g
 
 -- letter, time and the name of a group of this space
-abbrev pub IsOfGroup : ℕ → ℕ → Space → Bytes → Group → Type 0
-IsOfGroup letter time space text g = (text ≡ begun letter time ++ g.name ++ codes "(") × (space ≡ g.space)
+abbrev pub IsOfGroup : Letter → ℕ → Space → Bytes → Group → Type 0
+IsOfGroup letter time space text g =
+    (text ≡ begun letter time ++ g.name ++ codes "(") × (space ≡ g.space)
 
 -- the text is what such lines begin with
-abbrev pub IsBeginning : Model → ℕ → Begins → Bytes → Type 0
+abbrev pub IsBeginning : Model → Letter → Begins → Bytes → Type 0
 IsBeginning m letter Nothing text = ⊤
 IsBeginning m letter (Boxes time) text = text ≡ begun letter time
-IsBeginning m letter (Cells time group grid) text = OfGroup m group (IsOfGroup letter time grid text)
+IsBeginning m letter (Cells time group grid) text =
+    OfGroup m group (IsOfGroup letter time grid text)
 
 -- what is kept of the beginning is right
 abbrev pub IsStart : Model → Start → Type 0

@@ -1,11 +1,17 @@
 -- The letters of the lines that are written.
-use Rattle.std.specs.Prelude.{ℕ, Bool, List, [], ◌∷◌, ◌++◌, if◌then◌else◌}
+use Rattle.std.specs.Prelude.{ℕ, Bool, List}
+use Rattle.text_forms.specs.declared.letter.Letter.{Letter}
+use Rattle.text_forms.specs.declared.letter.Letter.TheVariants.{Y, N, X, S}
+use Rattle.text_forms.specs.Letters.{bytes_where}
 use Rattle.record_text.specs.declared.records.Letters.{Letters}
 
--- a letter, where it is chosen
-abbrev pub if_chosen : Bool → ℕ → List ℕ
-if_chosen b letter = if b then letter ∷ [] else []
+-- whether a letter is chosen
+abbrev pub is_chosen : Letters → Letter → Bool
+is_chosen l Y = l.y
+is_chosen l N = l.n
+is_chosen l X = l.x
+is_chosen l S = l.s
 
--- the chosen letters: Y, N, X and S
+-- the bytes of the chosen letters
 abbrev pub letters_of : Letters → List ℕ
-letters_of l = if_chosen l.y 89 ++ (if_chosen l.n 78 ++ (if_chosen l.x 88 ++ if_chosen l.s 83))
+letters_of l = bytes_where (is_chosen l)

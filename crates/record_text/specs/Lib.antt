@@ -8,3 +8,6 @@ pub mod PartsRead
 pub mod Strict
 pub mod CycleNames
 pub mod Begun
+pub mod UsualTimes
+pub mod Fronts
+pub mod LineExamples

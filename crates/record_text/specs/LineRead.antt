@@ -1,4 +1,5 @@
 -- The log line that a value of the program stands for.
+use Rattle.text_forms.specs.declared.letter.Letter.TheVariants as letter
 use Rattle.text_forms.specs.LogLine as forms
 use Rattle.text_forms.specs.LogLine.{given, moved}
 use Rattle.record_text.specs.LeafRead.{name_of}
@@ -7,7 +8,7 @@ use Rattle.record_text.specs.declared.line.LogLine.TheVariants.{Y, N, X, S}
 
 -- the line, by its letter
 abbrev pub line_of : LogLine → forms.LogLine
-line_of (Y time leaf port value) = given 89 time (name_of leaf) port.now value
-line_of (N time leaf port value) = given 78 time (name_of leaf) port.now value
-line_of (X time leaf port value) = given 88 time (name_of leaf) port.now value
+line_of (Y time leaf port value) = given letter.Y time (name_of leaf) port.now value
+line_of (N time leaf port value) = given letter.N time (name_of leaf) port.now value
+line_of (X time leaf port value) = given letter.X time (name_of leaf) port.now value
 line_of (S time leaf value next) = moved time (name_of leaf) value next

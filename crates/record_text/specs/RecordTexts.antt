@@ -1,10 +1,14 @@
 -- The lines of records, as private clauses have them: of a leaf, and of a list of leaves.
-use Rattle.std.specs.Prelude.{ℕ, Bool, Option, Some, None, List, [], ◌∷◌, ◌++◌, slice_get, codes, if◌then◌else◌}
+use Rattle.std.specs.Prelude.{ℕ, Bool, Option, Some, None, List, [], ◌∷◌, ◌++◌, slice_get, codes}
+use Rattle.std.specs.Prelude.{if◌then◌else◌}
 use Rattle.std.specs.List.{flat_map}
 use Rattle.quantity.specs.Bytes.{Bytes}
 use Rattle.quantity.specs.Times.{time_text}
 use Rattle.model_tree.specs.Tree.{Word, Leaf}
 use Rattle.model_tree.specs.LeafTexts.{leaf_text}
+use Rattle.text_forms.specs.declared.letter.Letter.{Letter}
+use Rattle.text_forms.specs.declared.letter.Letter.TheVariants.{Y, N, X}
+use Rattle.text_forms.specs.Letters.{letter_byte}
 use Rattle.text_forms.specs.LogLine.{given, moved, line_text}
 use Rattle.text_forms.specs.Lines as forms
 use Rattle.text_forms.specs.Lines.{ended, leaf_name, in_port_name, out_port_name}
@@ -16,16 +20,19 @@ use Rattle.record_text.specs.declared.records.OutRecord.{OutRecord}
 use Rattle.record_text.specs.declared.records.Records.{Records}
 
 -- letter, time and leaf of a line
-abbrev pub head_text : ℕ → ℕ → Leaf → Bytes
-head_text letter time l = (letter ∷ codes " / ") ++ time_text time ++ codes " / " ++ leaf_text l ++ codes " / "
+abbrev pub head_text : Letter → ℕ → Leaf → Bytes
+head_text letter time l =
+    (letter_byte letter ∷ codes " / ") ++ time_text time ++ codes " / " ++ leaf_text l
+    ++ codes " / "
 
 -- the line of a value given at an output port
-abbrev pub y_text : ℕ → YRecord → Leaf → Bytes
-y_text letter r l = ended (line_text (given letter r.time (leaf_name l) (out_port_name l r.port.0) r.value))
+abbrev pub y_text : Letter → YRecord → Leaf → Bytes
+y_text letter r l =
+    ended (line_text (given letter r.time (leaf_name l) (out_port_name l r.port.0) r.value))
 
 -- the line of a value that reached an input port
 abbrev pub x_text : XRecord → Leaf → Bytes
-x_text r l = ended (line_text (given 88 r.time (leaf_name l) (in_port_name l r.port.0) r.value))
+x_text r l = ended (line_text (given X r.time (leaf_name l) (in_port_name l r.port.0) r.value))
 
 -- the line of a leaf that moved
 abbrev pub s_text : SRecord → Leaf → Bytes
@@ -37,12 +44,15 @@ text_at text None = []
 text_at text (Some l) = text l
 
 -- the lines of records
-abbrev pub y_texts : ℕ → List Leaf → List YRecord → Bytes
-y_texts letter ls rs = flat_map (λ (r : YRecord). text_at (y_text letter r) (slice_get ls r.leaf)) rs
+abbrev pub y_texts : Letter → List Leaf → List YRecord → Bytes
+y_texts letter ls rs =
+    flat_map (λ (r : YRecord). text_at (y_text letter r) (slice_get ls r.leaf)) rs
 
+-- the X lines
 abbrev pub x_texts : List Leaf → List XRecord → Bytes
 x_texts ls rs = flat_map (λ (r : XRecord). text_at (x_text r) (slice_get ls r.leaf)) rs
 
+-- the S lines
 abbrev pub s_texts : List Leaf → List SRecord → Bytes
 s_texts ls rs = flat_map (λ (r : SRecord). text_at (s_text r) (slice_get ls r.leaf)) rs
 
@@ -53,9 +63,11 @@ all_if chosen xs = if chosen then xs else []
 -- the lines of the chosen letters
 abbrev pub log_text : List Leaf → Letters → Records → Bytes
 log_text ls letters r =
-    y_texts 89 ls (all_if letters.y r.y.items) ++ y_texts 78 ls (all_if letters.n r.n.items)
+    y_texts Y ls (all_if letters.y r.y.items) ++ y_texts N ls (all_if letters.n r.n.items)
     ++ x_texts ls (all_if letters.x r.x.items) ++ s_texts ls (all_if letters.s r.s.items)
 
 -- the lines of outputs of top
 abbrev pub out_texts : List Word → List OutRecord → Bytes
-out_texts outs rs = flat_map (λ (r : OutRecord). forms.out_line outs r.time (record { port = r.port; value = r.value })) rs
+out_texts outs rs =
+    flat_map
+    (λ (r : OutRecord). forms.out_line outs r.time (record { port = r.port; value = r.value })) rs

@@ -10,6 +10,9 @@ use Rattle.quantity.specs.Names.{is_name}
 use Rattle.quantity.specs.Times.{read_time}
 use Rattle.quantity.specs.ValueTexts.{read_text5}
 use Rattle.quantity.specs.Written.{for_some, if_written, number_at_most}
+use Rattle.text_forms.specs.declared.letter.Letter.{Letter}
+use Rattle.text_forms.specs.declared.letter.Letter.TheVariants.{S}
+use Rattle.text_forms.specs.Letters.{letter_named}
 use Rattle.text_forms.specs.LogLine.{LeafName, LogLine, given, moved, has_place, is_letter}
 
 -- ---- the parts
@@ -24,6 +27,7 @@ behind_stroke (a ∷ b ∷ rest) = if (a == 47) && (b == 32) then Some rest else
 abbrev pub first_word : Bytes → Bytes
 first_word text = before_first (is_byte 32) text
 
+-- what follows the next stroke
 abbrev pub next_part : Bytes → Option Bytes
 next_part text = behind_stroke (after_first (is_byte 32) text)
 
@@ -35,6 +39,7 @@ pub record Parts : Type 0 where
   pub first : Bytes
   pub second : Bytes
 
+-- the five parts of a line
 abbrev pub cut_parts : Bytes → Option Parts
 cut_parts text =
     for_some (next_part text) (λ a. for_some (next_part a) (λ b. for_some (next_part b) (λ c. for_some (next_part c) (λ d.
@@ -50,6 +55,7 @@ coordinate text = if_written decimal text (option_and_then (number_at_most 10485
 abbrev pub with_plane : ℕ → ℕ → Bool → Bytes → Option (List ℕ)
 with_plane row column ends plane = if ends then Some (row ∷ column ∷ []) else option_map (λ k. row ∷ column ∷ k ∷ []) (coordinate plane)
 
+-- two or three coordinates between commas
 abbrev pub place_in : Bytes → Option (List ℕ)
 place_in text =
     let rest = after_first (is_byte 44) text in
@@ -61,12 +67,15 @@ abbrev pub before_end : Bytes → Option Bytes
 before_end text =
     let inner = before_first (is_byte 41) text in if length inner + 1 == length text then Some inner else None
 
+-- a leaf's name with its coordinates
 abbrev pub with_place : Bytes → Option (List ℕ) → Option LeafName
 with_place name at = option_map (λ ns. record { name = name; at = ns }) at
 
+-- the coordinates behind a name, where it has any
 abbrev pub at_in : Bool → Bytes → Option (List ℕ)
 at_in ends rest = if ends then Some [] else option_and_then place_in (before_end rest)
 
+-- the leaf of a name and what follows it
 abbrev pub named_leaf : Bytes → Bool → Bytes → Option LeafName
 named_leaf name ends rest = with_place name (at_in ends rest)
 
@@ -78,13 +87,16 @@ read_leaf text =
 
 -- ---- the line
 
+-- a value, or none
 abbrev pub read_state : Bytes → Option (Option Value)
 read_state text = if bytes_eq text (codes "-") then Some None else option_map Some (read_text5 text)
 
+-- a time, or none
 abbrev pub read_next : Bytes → Option (Option ℕ)
 read_next text = if bytes_eq text (codes "...") then Some None else option_map Some (read_time text)
 
-abbrev pub given_as : ℕ → ℕ → LeafName → Bytes → Value → Option LogLine
+-- the line of a letter that values have
+abbrev pub given_as : Letter → ℕ → LeafName → Bytes → Value → Option LogLine
 given_as letter t l port v = if is_letter letter l then Some (given letter t l port v) else None
 
 -- a cell has a value, and an atomic component none
@@ -92,23 +104,29 @@ abbrev pub agrees : LeafName → Option Value → Bool
 agrees l None = not (has_place l)
 agrees l (Some v) = has_place l
 
-abbrev pub given_line : ℕ → Parts → Option LogLine
+-- the line of a value at a port
+abbrev pub given_line : Letter → Parts → Option LogLine
 given_line letter p =
     for_some (read_time p.time) (λ t. for_some (read_leaf p.leaf) (λ l. for_some (read_text5 p.second) (λ v.
     if is_name p.first then given_as letter t l p.first v else None)))
 
+-- the line of a leaf that moved
 abbrev pub moved_line : Parts → Option LogLine
 moved_line p =
     for_some (read_time p.time) (λ t. for_some (read_leaf p.leaf) (λ l. for_some (read_state p.first) (λ s. for_some (read_next p.second) (λ n.
     if agrees l s then Some (moved t l s n) else None))))
 
-abbrev pub one_letter : ℕ → Parts → Option LogLine
-one_letter c p = if c == 83 then moved_line p else given_line c p
+-- the line of a letter
+abbrev pub one_letter : Letter → Parts → Option LogLine
+one_letter S p = moved_line p
+one_letter letter p = given_line letter p
 
+-- the line of what stands in the letter's place
 abbrev pub line_by : Bytes → Parts → Option LogLine
 line_by [] p = None
-line_by (c ∷ []) p = one_letter c p
+line_by (c ∷ []) p = for_some (letter_named c) (λ letter. one_letter letter p)
 line_by (c ∷ d ∷ more) p = None
 
+-- the line that a text is, read from left to right
 abbrev pub strict_line : Bytes → Option LogLine
 strict_line text = for_some (cut_parts text) (λ p. line_by p.letter p)

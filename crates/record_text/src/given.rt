@@ -1,9 +1,11 @@
-// The lines of values that leaves gave and that reached leaves. A refusal may leave more behind what was there.
+// The lines of values that leaves gave and that reached leaves. A refusal may leave more behind what
+// was there.
 ghost use Rattle.std.specs.Prelude.{◌≡◌, ◌++◌, codes, length, take, OnOk};
 ghost use Rattle.std.specs.List.{All};
 ghost use Rattle.model_tree.specs.Tree.{leaves};
 ghost use Rattle.model_tree.specs.LeafTexts.{in_ports, name_at, out_ports};
 ghost use Rattle.model_tree.specs.Leaves.{Appends, OfTree};
+ghost use Rattle.text_forms.specs.declared.letter.Letter.TheVariants.{X};
 ghost use Rattle.record_text.specs.declared.records.YRecord as y;
 ghost use Rattle.record_text.specs.declared.records.XRecord as x;
 ghost use Rattle.record_text.specs.Begun.{IsStart};
@@ -16,11 +18,12 @@ use crate::start::Start;
 use atomic_face::PortNo;
 use model_tree::Model;
 use quantity::OutOfMemory;
+use text_forms::Letter;
 
 /// Appends the lines of values that were given.
 pub(crate) fn put_given(
     records: &[YRecord],
-    letter: u8,
+    letter: Letter,
     model: &Model,
     into: &mut Vec<u8>,
 ) -> Result<(), OutOfMemory>
@@ -88,7 +91,7 @@ pub(crate) fn put_reached(
         into.new.items ≡ into.old.items ++ x_texts (leaves tree) records.now)) }
     ensures kept { take (length into.old.items) into.new.items ≡ into.old.items }
 {
-    let mut start = Start::new(b'X');
+    let mut start = Start::new(Letter::X);
     for reached in records {
         put_reached_line(reached, &mut start, model, into)?;
     }
@@ -103,9 +106,9 @@ fn put_reached_line(
 ) -> Result<(), OutOfMemory>
     requires there { HasPort model.now in_ports reached.now.leaf reached.now.port.0 }
     requires right { IsStart model.now start.old }
-    requires letter { start.old.letter ≡ 88 }
+    requires letter { start.old.letter ≡ X }
     ensures right { IsStart model.now start.new }
-    ensures letter { start.new.letter ≡ 88 }
+    ensures letter { start.new.letter ≡ X }
     ensures ok { OnOk result
         (Appends model.now reached.now.leaf (x_text reached.now) into.old.items into.new.items) }
     ensures kept { take (length into.old.items) into.new.items ≡ into.old.items }

@@ -5,6 +5,7 @@ ghost use Rattle.text_forms.specs.LogLine.{has_place};
 ghost use Rattle.record_text.specs.LeafRead.{at_of, name_of};
 ghost use Rattle.record_text.specs.Strict as strict;
 
+use crate::front::usual_cell;
 use crate::usual::plain_number;
 use itoa::Buffer;
 use quantity::Place;
@@ -29,6 +30,16 @@ pub(crate) struct At {
 
 /// The leaf's name that a text is.
 pub(crate) fn read_leaf(text: &[u8]) -> Option<LeafName<'_>>
+    ensures { option_map name_of result ≡ strict.read_leaf text.now }
+{
+    match usual_cell(text) {
+        Some(leaf) => Some(leaf),
+        None => written_leaf(text),
+    }
+}
+
+/// The same of any text.
+fn written_leaf(text: &[u8]) -> Option<LeafName<'_>>
     ensures { option_map name_of result ≡ strict.read_leaf text.now }
 {
     let (name, rest) = cut_at(b'(', text);

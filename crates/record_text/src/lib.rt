@@ -1,6 +1,7 @@
 //! The texts of a run's records: its log and its output, and log lines read back.
 #![tactic(auto)]
 
+mod front;
 mod given;
 mod kept;
 pub mod laws;
@@ -15,6 +16,7 @@ pub mod records;
 mod start;
 mod text;
 mod usual;
+mod usual_time;
 
 pub use leaf_name::LeafName;
 pub use line::{LogLine, read_line};

@@ -10,11 +10,13 @@ ghost use Rattle.record_text.specs.Strict as strict;
 use crate::leaf_name::{LeafName, has_place, read_leaf};
 use crate::parts::{Parts, cut_parts};
 use crate::usual::read_value;
+use crate::usual_time::read_time;
 use quantity::name::is_name;
 use quantity::{Time, Value};
+use text_forms::Letter;
 
-/// A line of a log: a value given at the port `out` or at a further port, a value that reached a leaf,
-/// or a leaf that moved.
+/// A line of a log: a value given at the port `out` or at a further port, a value that reached a
+/// leaf, or a leaf that moved.
 #[derive(Clone, Copy)]
 pub enum LogLine<'a> {
     Y {
@@ -64,25 +66,24 @@ fn line_by<'a>(parts: &Parts<'a>) -> Option<LogLine<'a>>
     ensures { option_map line_of result ≡ strict.line_by parts.now.letter.now (parts_of parts.now) }
 {
     match parts.letter {
-        [letter] => one_letter(*letter, parts),
+        [byte] => one_letter(Letter::of_byte(*byte)?, parts),
         _ => None,
     }
 }
 
-fn one_letter<'a>(letter: u8, parts: &Parts<'a>) -> Option<LogLine<'a>>
+fn one_letter<'a>(letter: Letter, parts: &Parts<'a>) -> Option<LogLine<'a>>
     ensures { option_map line_of result ≡ strict.one_letter letter (parts_of parts.now) }
 {
-    if letter == b'S' {
-        moved_line(parts)
-    } else {
-        given_line(letter, parts)
+    match letter {
+        Letter::Y | Letter::N | Letter::X => given_line(letter, parts),
+        Letter::S => moved_line(parts),
     }
 }
 
-fn given_line<'a>(letter: u8, parts: &Parts<'a>) -> Option<LogLine<'a>>
+fn given_line<'a>(letter: Letter, parts: &Parts<'a>) -> Option<LogLine<'a>>
     ensures { option_map line_of result ≡ strict.given_line letter (parts_of parts.now) }
 {
-    let time = Time::read_text(parts.time)?;
+    let time = read_time(parts.time)?;
     let leaf = read_leaf(parts.leaf)?;
     let value = read_value(parts.second)?;
     if is_name(parts.first) {
@@ -93,29 +94,30 @@ fn given_line<'a>(letter: u8, parts: &Parts<'a>) -> Option<LogLine<'a>>
 }
 
 fn given<'a>(
-    letter: u8,
+    letter: Letter,
     time: Time,
     leaf: &LeafName<'a>,
     port: &'a [u8],
     value: Value,
 ) -> Option<LogLine<'a>>
-    ensures { option_map line_of result ≡ strict.given_as letter time (name_of leaf.now) port.now value }
+    ensures { option_map line_of result
+        ≡ strict.given_as letter time (name_of leaf.now) port.now value }
 {
     let leaf_here = *leaf;
     match letter {
-        b'Y' => Some(LogLine::Y {
+        Letter::Y => Some(LogLine::Y {
             time,
             leaf: leaf_here,
             port,
             value,
         }),
-        b'X' => Some(LogLine::X {
+        Letter::X => Some(LogLine::X {
             time,
             leaf: leaf_here,
             port,
             value,
         }),
-        b'N' => {
+        Letter::N => {
             if has_place(leaf) {
                 Some(LogLine::N {
                     time,
@@ -127,14 +129,14 @@ fn given<'a>(
                 None
             }
         }
-        _ => None,
+        Letter::S => None,
     }
 }
 
 fn moved_line<'a>(parts: &Parts<'a>) -> Option<LogLine<'a>>
     ensures { option_map line_of result ≡ strict.moved_line (parts_of parts.now) }
 {
-    let time = Time::read_text(parts.time)?;
+    let time = read_time(parts.time)?;
     let leaf = read_leaf(parts.leaf)?;
     let value = read_state(parts.first)?;
     let next = read_next(parts.second)?;
@@ -178,6 +180,6 @@ fn read_next(text: &[u8]) -> Option<Option<Time>>
     if text == b"...".as_slice() {
         return Some(None);
     }
-    let time = Time::read_text(text)?;
+    let time = read_time(text)?;
     Some(Some(time))
 }

@@ -3,6 +3,7 @@ ghost use Rattle.std.specs.Prelude.{◌≡◌, ◌++◌, length, take, OnOk};
 ghost use Rattle.std.specs.List.{All};
 ghost use Rattle.model_tree.specs.Tree.{leaves};
 ghost use Rattle.model_tree.specs.Leaves.{Appends, IsLeafOf, OfTree};
+ghost use Rattle.text_forms.specs.declared.letter.Letter.TheVariants.{S};
 ghost use Rattle.text_forms.specs.LogLine.{state_text, next_text};
 ghost use Rattle.record_text.specs.declared.records.SRecord as s;
 ghost use Rattle.record_text.specs.Begun.{IsStart};
@@ -13,6 +14,7 @@ use crate::records::SRecord;
 use crate::start::Start;
 use model_tree::Model;
 use quantity::{OutOfMemory, Time, Value};
+use text_forms::Letter;
 
 /// Appends the lines of leaves that moved.
 pub(crate) fn put_moved(
@@ -25,7 +27,7 @@ pub(crate) fn put_moved(
         into.new.items ≡ into.old.items ++ s_texts (leaves tree) records.now)) }
     ensures kept { take (length into.old.items) into.new.items ≡ into.old.items }
 {
-    let mut start = Start::new(b'S');
+    let mut start = Start::new(Letter::S);
     for moved in records {
         put_moved_line(moved, &mut start, model, into)?;
     }
@@ -40,9 +42,9 @@ fn put_moved_line(
 ) -> Result<(), OutOfMemory>
     requires there { IsLeafOf model.now moved.now.leaf }
     requires right { IsStart model.now start.old }
-    requires letter { start.old.letter ≡ 83 }
+    requires letter { start.old.letter ≡ S }
     ensures right { IsStart model.now start.new }
-    ensures letter { start.new.letter ≡ 83 }
+    ensures letter { start.new.letter ≡ S }
     ensures ok { OnOk result
         (Appends model.now moved.now.leaf (s_text moved.now) into.old.items into.new.items) }
     ensures kept { take (length into.old.items) into.new.items ≡ into.old.items }

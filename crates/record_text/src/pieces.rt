@@ -8,13 +8,14 @@ ghost use Rattle.record_text.specs.Begun.{begun};
 
 use model_tree::Model;
 use quantity::{OutOfMemory, Time, Value};
+use text_forms::Letter;
 
 /// Appends letter and time of a line, and a stroke.
-pub(crate) fn put_begun(letter: u8, time: Time, into: &mut Vec<u8>) -> Result<(), OutOfMemory>
+pub(crate) fn put_begun(letter: Letter, time: Time, into: &mut Vec<u8>) -> Result<(), OutOfMemory>
     ensures ok { OnOk result (into.new.items ≡ into.old.items ++ begun letter time) }
     ensures kept { take (length into.old.items) into.new.items ≡ into.old.items }
 {
-    put(&[letter, b' ', b'/', b' '], into)?;
+    put(&[letter.byte(), b' ', b'/', b' '], into)?;
     time.text(into)?;
     put(b" / ", into)?;
     Ok(())

@@ -5,7 +5,8 @@ ghost use Rattle.model_tree.specs.Tree.{Group, groups};
 ghost use Rattle.model_tree.specs.LeafTexts.{leaf_text};
 ghost use Rattle.model_tree.specs.Models.{tree_of};
 ghost use Rattle.model_tree.specs.Leaves.{no_settings, Appends, IsLeafOf};
-ghost use Rattle.record_text.specs.declared.start.Begins.TheVariants.{Nothing, Boxes, Cells as cells};
+ghost use Rattle.record_text.specs.declared.start.Begins.TheVariants.{Nothing, Boxes};
+ghost use Rattle.record_text.specs.declared.start.Begins.TheVariants.{Cells as cells};
 ghost use Rattle.model_tree.specs.declared.table.Model.{Model};
 ghost use Rattle.record_text.specs.Begun.{begun, place_text, IsBeginning, IsStart, OfGroup};
 ghost use Rattle.record_text.specs.RecordTexts.{head_text};
@@ -16,8 +17,10 @@ use crate::place_text::put_place;
 use cell_grid::Grid;
 use model_tree::{LeafAt, Model};
 use quantity::{OutOfMemory, Time};
+use text_forms::Letter;
 
-/// Which lines begin with a text: none, those of boxes at an instant, or those of the cells of a group.
+/// Which lines begin with a text: none, those of boxes at an instant, or those of the cells of a
+/// group.
 #[derive(Clone, Copy)]
 pub(crate) enum Begins {
     Nothing,
@@ -25,18 +28,18 @@ pub(crate) enum Begins {
     Cells(u32, u32, Grid),
 }
 
-/// What lines of a letter begin with: letter and time, and of cells the name of their group. It is kept
-/// from line to line, since most lines begin as the one before.
+/// What lines of a letter begin with: letter and time, and of cells the name of their group. It is
+/// kept from line to line, since most lines begin as the one before.
 #[derive(Drop)]
 pub(crate) struct Start {
-    letter: u8,
+    letter: Letter,
     of: Begins,
     text: Kept,
 }
 
 impl Start {
     /// Nothing is known of lines of this letter.
-    pub(crate) fn new(letter: u8) -> Start
+    pub(crate) fn new(letter: Letter) -> Start
         ensures letter { result.letter ≡ letter }
         ensures of { result.of ≡ Nothing }
     {
@@ -100,7 +103,8 @@ impl Start {
         Ok(())
     }
 
-    /// Appends letter and time of a line of a cell, and its group's name. The answer is the group's space.
+    /// Appends letter and time of a line of a cell, and its group's name. The answer is the group's
+    /// space.
     fn begin_cell(
         &mut self,
         time: Time,
@@ -126,7 +130,8 @@ impl Start {
         }
     }
 
-    /// The space of this group, where the text is what lines of its cells at this instant begin with.
+    /// The space of this group, where the text is what lines of its cells at this instant begin
+    /// with.
     #[inline(always)]
     fn grid_of(&self, time: u32, group: u32) -> Option<Grid>
         ensures { IfSome result (λ grid. self.now.of ≡ cells time group grid) }
@@ -198,7 +203,8 @@ impl Start {
     /// Keeps what such lines begin with.
     fn keep(&mut self, of: Begins, text: &[u8])
         ensures letter { self.new.letter ≡ self.old.letter }
-        ensures right { (m : Model) → IsBeginning m self.old.letter of text.now → IsStart m self.new }
+        ensures right { (m : Model)
+            → IsBeginning m self.old.letter of text.now → IsStart m self.new }
     {
         self.of = of;
         if !self.text.keep(text) {

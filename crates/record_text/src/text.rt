@@ -15,9 +15,10 @@ use crate::output::put_outputs;
 use crate::records::{Letters, Records};
 use model_tree::Model;
 use quantity::OutOfMemory;
+use text_forms::Letter;
 
-/// Appends the lines of the chosen letters: Y, then N, X and S. The records are those of one cycle, and
-/// name leaves and ports of the model. Where memory is refused, `into` stays as it was.
+/// Appends the lines of the chosen letters: Y, then N, X and S. The records are those of one cycle,
+/// and name leaves and ports of the model. Where memory is refused, `into` stays as it was.
 pub fn log_bytes(
     records: &Records,
     letters: &Letters,
@@ -50,8 +51,8 @@ fn put_lines(
         into.new.items ≡ into.old.items ++ log_text (leaves tree) letters.now records.now)) }
     ensures kept { take (length into.old.items) into.new.items ≡ into.old.items }
 {
-    put_given(chosen(letters.y, &records.y), b'Y', model, into)?;
-    put_given(chosen(letters.n, &records.n), b'N', model, into)?;
+    put_given(chosen(letters.y, &records.y), Letter::Y, model, into)?;
+    put_given(chosen(letters.n, &records.n), Letter::N, model, into)?;
     put_reached(chosen(letters.x, &records.x), model, into)?;
     put_moved(chosen(letters.s, &records.s), model, into)?;
     Ok(())
@@ -64,8 +65,8 @@ fn chosen<T>(is_chosen: bool, records: &[T]) -> &[T]
     if is_chosen { records } else { &[] }
 }
 
-/// Appends the lines of the outputs of top. The records are those of one cycle. Where memory is refused,
-/// `into` stays as it was.
+/// Appends the lines of the outputs of top. The records are those of one cycle. Where memory is
+/// refused, `into` stays as it was.
 pub fn out_bytes(records: &Records, model: &Model, into: &mut Vec<u8>) -> Result<(), OutOfMemory>
     // For the cycle whose records these are.
     ensures ok { OnOk result ((c : Cycle) → Holds records.now c → OfTree model.now (λ tree.

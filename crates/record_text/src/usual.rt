@@ -8,7 +8,7 @@ use quantity::{Raw, Value};
 
 /// The number of a digit.
 #[inline(always)]
-fn digit(c: u8) -> Option<u32>
+pub(crate) fn digit(c: u8) -> Option<u32>
     ensures { IfSome result (λ d. (d < 10) × (c ≡ 48 + d)) }
 {
     if b'0' <= c && c <= b'9' {

@@ -1,4 +1,5 @@
-use Rattle.std.proofs.Common.{ℕ, slice_get, subst, sym, ◌∙◌}
+use Rattle.std.proofs.Common.{slice_get, subst, sym, ◌∙◌}
+use Rattle.text_forms.specs.declared.letter.Letter.{Letter}
 use Rattle.model_tree.specs.Tree.{leaves}
 use Rattle.model_tree.specs.Models.{tree_of}
 use Rattle.model_tree.specs.Leaves.{Appends, IsLeafOf}
@@ -12,9 +13,21 @@ loop-given-preserved c = record {
   right = c.in_ok-put_given_line.ensures.right;
   letter = c.in_ok-put_given_line.ensures.letter ∙ c.loop-given.invariant.letter;
   appended = λ settings.
-      texts_more (λ (r : YRecord). text_at (y_text c.args.letter r) (slice_get (leaves (tree_of c.args.model.now settings)) r.leaf))
-      c.args.into.now.items c.loop-given.into.items c.put_given_line.new.into.items c.args.records.now c.loop-given.given-index c.given-item.result c.loop-given-test.true c.given-item.is
-      (c.loop-given.invariant.appended settings)
-      (appended_at c.args.model.now c.given-item.result.leaf settings (y_text c.args.letter c.given-item.result) c.loop-given.into.items c.put_given_line.new.into.items (subst (λ (r : YRecord). IsLeafOf c.args.model.now r.leaf) (sym c.given-item.is) (c.requires c.loop-given.given-index c.given-item.result c.loop-given-test.true).leaf_there) (subst (λ (n : ℕ). Appends c.args.model.now c.given-item.result.leaf (y_text n c.given-item.result) c.loop-given.into.items c.put_given_line.new.into.items) c.loop-given.invariant.letter c.in_ok-put_given_line.ensures.ok));
-  kept = kept_on c.args.into.now.items c.loop-given.into.items c.put_given_line.new.into.items c.loop-given.invariant.kept c.in_ok-put_given_line.ensures.kept;
+      let model = c.args.model.now in
+      let record_here = c.given-item.result in
+      let before = c.loop-given.into.items in
+      let after = c.put_given_line.new.into.items in
+      let there = c.requires c.loop-given.given-index record_here c.loop-given-test.true in
+      texts_more
+      (λ (r : YRecord). text_at (y_text c.args.letter r)
+      (slice_get (leaves (tree_of model settings)) r.leaf))
+      c.args.into.now.items before after c.args.records.now c.loop-given.given-index record_here
+      c.loop-given-test.true c.given-item.is (c.loop-given.invariant.appended settings)
+      (appended_at model record_here.leaf settings (y_text c.args.letter record_here) before after
+      (subst (λ (r : YRecord). IsLeafOf model r.leaf) (sym c.given-item.is) there.leaf_there)
+      (subst (λ (n : Letter). Appends model record_here.leaf (y_text n record_here) before after)
+      c.loop-given.invariant.letter c.in_ok-put_given_line.ensures.ok));
+  kept =
+      kept_on c.args.into.now.items c.loop-given.into.items c.put_given_line.new.into.items
+      c.loop-given.invariant.kept c.in_ok-put_given_line.ensures.kept;
 }

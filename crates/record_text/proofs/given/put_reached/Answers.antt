@@ -12,9 +12,18 @@ loop-reached-preserved c = record {
   right = c.in_ok-put_reached_line.ensures.right;
   letter = c.in_ok-put_reached_line.ensures.letter;
   appended = λ settings.
-      texts_more (λ (r : XRecord). text_at (x_text r) (slice_get (leaves (tree_of c.args.model.now settings)) r.leaf))
-      c.args.into.now.items c.loop-reached.into.items c.put_reached_line.new.into.items c.args.records.now c.loop-reached.reached-index c.reached-item.result c.loop-reached-test.true c.reached-item.is
+      texts_more (λ (r : XRecord). text_at (x_text r)
+      (slice_get (leaves (tree_of c.args.model.now settings)) r.leaf))
+      c.args.into.now.items c.loop-reached.into.items c.put_reached_line.new.into.items
+      c.args.records.now c.loop-reached.reached-index c.reached-item.result c.loop-reached-test.true
+      c.reached-item.is
       (c.loop-reached.invariant.appended settings)
-      (appended_at c.args.model.now c.reached-item.result.leaf settings (x_text c.reached-item.result) c.loop-reached.into.items c.put_reached_line.new.into.items (subst (λ (r : XRecord). IsLeafOf c.args.model.now r.leaf) (sym c.reached-item.is) (c.requires c.loop-reached.reached-index c.reached-item.result c.loop-reached-test.true).leaf_there) c.in_ok-put_reached_line.ensures.ok);
-  kept = kept_on c.args.into.now.items c.loop-reached.into.items c.put_reached_line.new.into.items c.loop-reached.invariant.kept c.in_ok-put_reached_line.ensures.kept;
+      (appended_at c.args.model.now c.reached-item.result.leaf settings
+      (x_text c.reached-item.result) c.loop-reached.into.items c.put_reached_line.new.into.items
+      (subst (λ (r : XRecord). IsLeafOf c.args.model.now r.leaf) (sym c.reached-item.is)
+      (c.requires c.loop-reached.reached-index c.reached-item.result
+      c.loop-reached-test.true).leaf_there) c.in_ok-put_reached_line.ensures.ok);
+  kept =
+      kept_on c.args.into.now.items c.loop-reached.into.items c.put_reached_line.new.into.items
+      c.loop-reached.invariant.kept c.in_ok-put_reached_line.ensures.kept;
 }

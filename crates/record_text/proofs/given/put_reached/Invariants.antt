@@ -1,6 +1,7 @@
 use Rattle.std.proofs.Common.{◌≡◌, ◌++◌, length, take}
 use Rattle.model_tree.specs.Tree.{leaves}
 use Rattle.model_tree.specs.Leaves.{OfTree}
+use Rattle.text_forms.specs.declared.letter.Letter.TheVariants.{X}
 use Rattle.record_text.specs.Begun.{IsStart}
 use Rattle.record_text.specs.RecordTexts.{x_texts}
 use Rattle.record_text.proofs.given.put_reached.Given as goal
@@ -8,7 +9,8 @@ use Rattle.record_text.proofs.given.put_reached.Given as goal
 abbrev pub invariant-loop-reached : goal.invariant-loop-reached
 invariant-loop-reached l = record {
   right : IsStart l.model l.start;
-  letter : l.start.letter ≡ 88;
-  appended : OfTree l.model (λ tree. l.into.items ≡ l.fn.into.items ++ x_texts (leaves tree) (take l.reached-index l.records));
+  letter : l.start.letter ≡ X;
+  appended : OfTree l.model (λ tree. l.into.items
+      ≡ l.fn.into.items ++ x_texts (leaves tree) (take l.reached-index l.records));
   kept : take (length l.fn.into.items) l.into.items ≡ l.fn.into.items;
 }

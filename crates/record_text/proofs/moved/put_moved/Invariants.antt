@@ -1,6 +1,7 @@
 use Rattle.std.proofs.Common.{◌≡◌, ◌++◌, length, take}
 use Rattle.model_tree.specs.Tree.{leaves}
 use Rattle.model_tree.specs.Leaves.{OfTree}
+use Rattle.text_forms.specs.declared.letter.Letter.TheVariants.{S}
 use Rattle.record_text.specs.Begun.{IsStart}
 use Rattle.record_text.specs.RecordTexts.{s_texts}
 use Rattle.record_text.proofs.moved.put_moved.Given as goal
@@ -8,7 +9,8 @@ use Rattle.record_text.proofs.moved.put_moved.Given as goal
 abbrev pub invariant-loop-moved : goal.invariant-loop-moved
 invariant-loop-moved l = record {
   right : IsStart l.model l.start;
-  letter : l.start.letter ≡ 83;
-  appended : OfTree l.model (λ tree. l.into.items ≡ l.fn.into.items ++ s_texts (leaves tree) (take l.moved-index l.records));
+  letter : l.start.letter ≡ S;
+  appended : OfTree l.model (λ tree. l.into.items
+      ≡ l.fn.into.items ++ s_texts (leaves tree) (take l.moved-index l.records));
   kept : take (length l.fn.into.items) l.into.items ≡ l.fn.into.items;
 }
