@@ -5,14 +5,14 @@ use Rattle.std.specs.Option.{option_map}
 use Rattle.std.proofs.lemmas.List.{drop_all, drop_more}
 use Rattle.quantity.specs.Bytes.{all_there, in_front}
 use Rattle.rule_tree.specs.Phrases.{Assigned}
-use Rattle.rule_syntax.specs.Reading.{assigned}
+use Rattle.rule_words.specs.Reading.{assigned}
 use Rattle.rule_syntax.specs.RulesRead.{AreNamed, AreValues, IsAdded, mark_for, shown_parts}
 use Rattle.rule_tree.specs.Scope.{Names}
-use Rattle.rule_syntax.specs.Shown.{tokens_of}
+use Rattle.rule_words.specs.Shown.{tokens_of}
 use Rattle.rule_syntax.specs.declared.named.Kind.{Kind}
 use Rattle.rule_syntax.specs.declared.named.NamedValues.{NamedValues}
-use Rattle.rule_syntax.specs.declared.token.Token as T
-use Rattle.rule_syntax.proofs.Sound.{false_true}
+use Rattle.rule_words.specs.declared.token.Token as T
+use Rattle.rule_words.proofs.Sound.{false_true}
 
 abbrev pub Parts : Type 0
 Parts = List (Bor (List T.Token))

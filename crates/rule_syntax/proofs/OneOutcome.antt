@@ -4,16 +4,16 @@ use Rattle.std.specs.declared.result.Result.{Result}
 use Rattle.rule_tree.specs.Expression.{Rule}
 use Rattle.std.specs.Option.{ok_or}
 use Rattle.quantity.specs.Bytes.{Bytes}
-use Rattle.rule_syntax.specs.declared.refusal.RuleRefusal.{RuleRefusal}
-use Rattle.rule_syntax.specs.declared.refusal.RuleRefusal.TheVariants.{BadRule, TooLarge}
-use Rattle.rule_syntax.specs.Tokens.{Token, tokens, words_in, is_large}
+use Rattle.rule_words.specs.declared.refusal.RuleRefusal.{RuleRefusal}
+use Rattle.rule_words.specs.declared.refusal.RuleRefusal.TheVariants.{BadRule, TooLarge}
+use Rattle.rule_words.specs.Tokens.{Token, tokens, words_in, is_large}
 use Rattle.rule_tree.specs.Phrases.{Written}
-use Rattle.rule_syntax.specs.Grammar.{IsRule}
-use Rattle.rule_syntax.specs.Reading.{written_rule}
+use Rattle.rule_words.specs.Grammar.{IsRule}
+use Rattle.rule_words.specs.Reading.{written_rule}
 use Rattle.rule_tree.specs.Scope.{Names}
 use Rattle.rule_syntax.proofs.Rules.{rules_are_found}
 use Rattle.rule_syntax.proofs.RulesFound.{rule_found}
-use Rattle.rule_syntax.specs.RuleOf.{words_refused, unless, and_on, where_true, judged, rule_of, Readable, RuleIs, no_token, strange_word, large, no_rule, a_rule, HasOneOutcome}
+use Rattle.rule_words.specs.RuleOf.{words_refused, unless, and_on, where_true, judged, rule_of, Readable, RuleIs, no_token, strange_word, large, no_rule, a_rule, HasOneOutcome}
 
 none_some : {A : Type 0} {x : A} → None ≡ Some x → ⊥
 none_some e = cc

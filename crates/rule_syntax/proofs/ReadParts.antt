@@ -8,27 +8,27 @@ use Rattle.quantity.specs.declared.value.Value.TheVariants.{Undefined}
 use Rattle.quantity.specs.Bytes.{has_repeat}
 use Rattle.rule_tree.specs.Expression.{Expr, expr_of}
 use Rattle.rule_tree.specs.Expression as E
-use Rattle.rule_syntax.specs.Grammar.{at_out}
+use Rattle.rule_words.specs.Grammar.{at_out}
 use Rattle.rule_tree.specs.Phrases as P
 use Rattle.rule_tree.specs.Phrases.{Assigned, Phrase, Written, out}
-use Rattle.rule_syntax.specs.Reading.{Part, all_assigned, and_on, block, delay_before, given_in, last_block, question_before, sets_before, sets_block, value_before, written_rule}
+use Rattle.rule_words.specs.Reading.{Part, all_assigned, and_on, block, delay_before, given_in, last_block, question_before, sets_before, sets_block, value_before, written_rule}
 use Rattle.rule_syntax.specs.RulesRead.{AreNamed, AreRead, AreValues, IsNamedFront, IsRead, braced_value, give_of, is_number, set_of, phrase_for, value_for, values_of, words_of}
 use Rattle.rule_tree.specs.Scope.{Names, named_by, numbered}
-use Rattle.rule_syntax.specs.Shown.{token_of, tokens_of}
+use Rattle.rule_words.specs.Shown.{token_of, tokens_of}
 use Rattle.rule_tree.specs.declared.function.Sort.TheVariants.{Number, Truth}
 use Rattle.rule_tree.specs.Sound.{is_sort, sort_of}
-use Rattle.rule_syntax.specs.Terms.{IsFront, IsTerm, Misses, Stands}
-use Rattle.rule_syntax.specs.Tokens.{Token, is_mark}
+use Rattle.rule_terms.specs.Terms.{IsFront, IsTerm, Misses, Stands}
+use Rattle.rule_words.specs.Tokens.{Token, is_mark}
 use Rattle.rule_syntax.specs.declared.assigned.NamedFront.{NamedFront}
-use Rattle.rule_syntax.specs.declared.front.Front.{Front}
+use Rattle.rule_terms.specs.declared.front.Front.{Front}
 use Rattle.rule_syntax.specs.declared.named.Kind.{Kind}
 use Rattle.rule_syntax.specs.declared.named.Kind.TheVariants.{Port, Variable}
 use Rattle.rule_syntax.specs.declared.named.NamedValue.{NamedValue}
 use Rattle.rule_syntax.specs.declared.named.NamedValues.{NamedValues}
 use Rattle.rule_tree.specs.declared.node.Give.{Give}
 use Rattle.rule_tree.specs.declared.node.SetVariable.{SetVariable}
-use Rattle.rule_syntax.specs.declared.term.Term.{Term}
-use Rattle.rule_syntax.specs.declared.token.Token as T
+use Rattle.rule_terms.specs.declared.term.Term.{Term}
+use Rattle.rule_words.specs.declared.token.Token as T
 use Rattle.rule_syntax.specs.declared.written.ReadRule.{ReadRule}
 
 -- ---- values in blocks

@@ -11,17 +11,17 @@ use Rattle.std.specs.List.{list_any, list_all, flat_map, position}
 use Rattle.std.specs.Option.{option_map, unwrap_or, is_some, ok_or}
 use Rattle.std.specs.Str.{bytes_eq}
 use Rattle.quantity.specs.Bytes.{Bytes, is_empty, is_among, has_repeat}
-use Rattle.rule_syntax.specs.declared.refusal.RuleRefusal.{RuleRefusal}
-use Rattle.rule_syntax.specs.declared.refusal.RuleRefusal.TheVariants.{BadRule, BadSort, NotANeighbour, TooLarge, UnknownVariable, UnknownNeighbourPort}
+use Rattle.rule_words.specs.declared.refusal.RuleRefusal.{RuleRefusal}
+use Rattle.rule_words.specs.declared.refusal.RuleRefusal.TheVariants.{BadRule, BadSort, NotANeighbour, TooLarge, UnknownVariable, UnknownNeighbourPort}
 use Rattle.rule_tree.specs.Expression.{Expr, Rule}
 use Rattle.rule_tree.specs.Phrases as P
 use Rattle.rule_tree.specs.Phrases.{Cell, Phrase, Phrases, Assigned, Written, out}
-use Rattle.rule_syntax.specs.Tokens.{Token, tokens, words_in, is_large}
-use Rattle.rule_syntax.specs.Grammar.{AreAssigned, IsValue, IsRule, a_phrase, a_number as number_value, a_question, a_cell as cell_value, some_gives, rule}
-use Rattle.rule_syntax.specs.Reading.{written_rule}
+use Rattle.rule_words.specs.Tokens.{Token, tokens, words_in, is_large}
+use Rattle.rule_words.specs.Grammar.{AreAssigned, IsValue, IsRule, a_phrase, a_number as number_value, a_question, a_cell as cell_value, some_gives, rule}
+use Rattle.rule_words.specs.Reading.{written_rule}
 use Rattle.rule_tree.specs.Scope.{Names, Named, a_cell, a_variable, a_port, offset_of, same_offset, offset_number, variable_number, port_number, named_in, all_named_in, named_by, is_no_neighbour, is_no_variable, is_no_port, numbered, all_numbered, rule_in, has_right_sorts, Extent, extent_of, is_within, are_within, differ, is_sound}
-use Rattle.rule_syntax.specs.RuleOf.{words_refused, unless, and_on, where_true, has_port_twice, judged, rule_of}
-use Rattle.rule_syntax.proofs.Sound.{false_true, same_bytes}
+use Rattle.rule_words.specs.RuleOf.{words_refused, unless, and_on, where_true, has_port_twice, judged, rule_of}
+use Rattle.rule_words.proofs.Sound.{false_true, same_bytes}
 use Rattle.rule_syntax.proofs.Rules.{rules_are_found}
 
 or_none : (a b : Bool) → (a || b) ≡ false → (a ≡ false) × (b ≡ false)

@@ -1,8 +1,8 @@
 -- The tables of texts that are rules, computed.
 use Rattle.std.proofs.Common.{refl}
-use Rattle.rule_syntax.specs.Tokens.{tokens}
-use Rattle.rule_syntax.specs.Reading.{written_rule}
-use Rattle.rule_syntax.specs.RuleOf.{rule_of}
+use Rattle.rule_words.specs.Tokens.{tokens}
+use Rattle.rule_words.specs.Reading.{written_rule}
+use Rattle.rule_words.specs.RuleOf.{rule_of}
 use Rattle.rule_syntax.specs.ReadExamples.{WordsJoinByPrecedence, WordsJoinToTheLeft, NumbersAreCompared, NumbersAreReckoned, SignsHoldOneOperand, WhatStandsAlone, CellsHaveAPlaceAndAPort, FunctionsHaveTheirArguments, TestsAreConditions, AValueIsPlainOrABlock, ADelayIsANumberOrABlock, GivesAndSetsKeepTheirOrder, NamesMayBeWordsOfTheLanguage, ASpaceMayHavePlanes, TextsAreRead}
 
 words_join_by_precedence : WordsJoinByPrecedence

@@ -1,8 +1,8 @@
 -- The tables of refused texts, computed.
 use Rattle.std.proofs.Common.{refl}
-use Rattle.rule_syntax.specs.Tokens.{tokens}
-use Rattle.rule_syntax.specs.Reading.{written_rule}
-use Rattle.rule_syntax.specs.RuleOf.{rule_of}
+use Rattle.rule_words.specs.Tokens.{tokens}
+use Rattle.rule_words.specs.Reading.{written_rule}
+use Rattle.rule_words.specs.RuleOf.{rule_of}
 use Rattle.rule_syntax.specs.RefusalExamples.{PiecesThatAreNoTokens, WordsThatAreRandomFunctions, WordsThatAreNoneOfTheLanguage, RulesWithMissingParts, ValuesAndDelaysOfNoForm, ExpressionsOfNoForm, ParenthesesOfNoForm, CallsOfNoForm, GivesAndSetsOfNoForm, CellsThatAreNoNeighbours, VariablesThatAreUnknown, PortsThatAreUnknown, OperandsOfAWrongSort, PartsOfAWrongSort, APieceThatIsNoTokenComesFirst, TheFirstStrangeWordComesNext, TokensThatAreNoRuleComeBeforeNames, NamesComeByKindBeforeSorts, TextsAreRefused}
 
 pieces_that_are_no_tokens : PiecesThatAreNoTokens

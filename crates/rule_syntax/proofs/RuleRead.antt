@@ -5,18 +5,18 @@ use Rattle.std.specs.declared.result.Result.{Result}
 use Rattle.std.specs.declared.result.Result.TheVariants.{Ok, Err}
 use Rattle.quantity.specs.Bytes.{Bytes}
 use Rattle.rule_tree.specs.declared.node.RuleTree.{RuleTree}
-use Rattle.rule_syntax.specs.declared.refusal.RuleRefusal.{RuleRefusal}
-use Rattle.rule_syntax.specs.declared.refusal.RuleRefusal.TheVariants.{BadRule, Memory, TooLarge}
+use Rattle.rule_words.specs.declared.refusal.RuleRefusal.{RuleRefusal}
+use Rattle.rule_words.specs.declared.refusal.RuleRefusal.TheVariants.{BadRule, Memory, TooLarge}
 use Rattle.rule_syntax.specs.declared.written.ReadRule.{ReadRule}
 use Rattle.rule_tree.specs.Expression as E
 use Rattle.rule_tree.specs.Phrases.{Written}
-use Rattle.rule_syntax.specs.Reading.{written_rule}
-use Rattle.rule_syntax.specs.RuleOf.{words_refused, judged, rule_of, Readable}
+use Rattle.rule_words.specs.Reading.{written_rule}
+use Rattle.rule_words.specs.RuleOf.{words_refused, judged, rule_of, Readable}
 use Rattle.rule_syntax.specs.RulesRead.{IsRead, AreRead}
 use Rattle.rule_tree.specs.Scope.{Names, extent_of, is_sound}
-use Rattle.rule_syntax.specs.Shown.{tokens_of}
-use Rattle.rule_syntax.specs.declared.token.Token as T
-use Rattle.rule_syntax.specs.Tokens.{Token, tokens, words_in, is_large}
+use Rattle.rule_words.specs.Shown.{tokens_of}
+use Rattle.rule_words.specs.declared.token.Token as T
+use Rattle.rule_words.specs.Tokens.{Token, tokens, words_in, is_large}
 use Rattle.rule_syntax.proofs.ReadSound.{read_sound}
 
 -- what an option holds that is another's, mapped

@@ -10,13 +10,13 @@ use Rattle.quantity.specs.declared.value.Value.TheVariants.{Undefined, Num}
 use Rattle.quantity.specs.Bytes.{Bytes, all_there, is_empty}
 use Rattle.quantity.specs.Literals.{unsigned_literal}
 use Rattle.quantity.specs.Digits.{with_sign_of}
-use Rattle.rule_syntax.specs.Tokens.{Token, word, number, mark, is_mark}
+use Rattle.rule_words.specs.Tokens.{Token, word, number, mark, is_mark}
 use Rattle.rule_tree.specs.Phrases as P
 use Rattle.rule_tree.specs.Phrases.{Phrase, Assigned, Written, expr}
-use Rattle.rule_syntax.specs.Grammar.{IsPhrase, IsNumber, AreAssigned, braced, at_out, IsValue, AreSets, IsDelay, IsRule}
-use Rattle.rule_syntax.specs.Grammar as G
-use Rattle.rule_syntax.specs.Reading.{is_sign, cell_before, block, and_on, number_before, phrase_of, phrase_block, assigned, ended_parts, all_assigned, block_begins, given_in, question_before, cell_phrase_before, value_before, sets_in, sets_block, sets_before, delay_before, last_block, written_rule}
-use Rattle.rule_syntax.proofs.Sound.{none_some, some_same, same_bytes, mark_is, then_is, mapped, block_is, cell_is, in_front_is, sign_cases, empty_is, phrases_are_found}
+use Rattle.rule_words.specs.Grammar.{IsPhrase, IsNumber, AreAssigned, braced, at_out, IsValue, AreSets, IsDelay, IsRule}
+use Rattle.rule_words.specs.Grammar as G
+use Rattle.rule_words.specs.Reading.{is_sign, cell_before, block, and_on, number_before, phrase_of, phrase_block, assigned, ended_parts, all_assigned, block_begins, given_in, question_before, cell_phrase_before, value_before, sets_in, sets_block, sets_before, delay_before, last_block, written_rule}
+use Rattle.rule_words.proofs.Sound.{none_some, some_same, same_bytes, mark_is, then_is, mapped, block_is, cell_is, in_front_is, sign_cases, empty_is, phrases_are_found}
 
 on_is : {A B : Type 0} (o : Option A) (f : A → Option B) (y : B) → and_on o f ≡ Some y → (x : A) × (o ≡ Some x) × (f x ≡ Some y)
 on_is None f y e = absurd (none_some e)

@@ -9,18 +9,18 @@ use Rattle.quantity.specs.declared.value.Value.TheVariants.{Undefined, Num}
 use Rattle.quantity.specs.Bytes.{Bytes, all_there, in_front, is_empty}
 use Rattle.quantity.specs.Digits.{with_sign_of}
 use Rattle.quantity.specs.Literals.{unsigned_literal}
-use Rattle.rule_syntax.specs.Tokens.{Token, word, number, mark, is_mark}
+use Rattle.rule_words.specs.Tokens.{Token, word, number, mark, is_mark}
 use Rattle.rule_tree.specs.Phrases as P
 use Rattle.rule_tree.specs.Phrases.{Cell, Phrase, expr, Assigned, Written, out}
-use Rattle.rule_syntax.specs.Grammar.{IsCell, IsPhrase, IsNumber, AreAssigned, IsValue, AreSets, IsDelay, IsRule, braced, at_out, a_phrase, a_number, a_question, a_cell, some_gives, delay_phrase, delay_number, rule}
-use Rattle.rule_syntax.specs.Reading.{block, port_in, is_sign, phrase_of, and_on, number_before, phrase_block, assigned, ended_parts, all_assigned, block_begins, given_in, question_before, cell_phrase_before, value_before, sets_in, sets_block, sets_before, delay_before, last_block, written_rule}
-use Rattle.rule_syntax.proofs.Nesting.{is_delimiter, IsPlain, Nested}
-use Rattle.rule_syntax.proofs.Nesting as N
-use Rattle.rule_syntax.proofs.Apart.{no_comma}
-use Rattle.rule_syntax.proofs.Edges.{starts}
-use Rattle.rule_syntax.proofs.Blocks.{Absent, absent_append, block_found, cell_found, HasComma, cell_has_comma}
-use Rattle.rule_syntax.proofs.Found.{phrase_found}
-use Rattle.rule_syntax.proofs.Sound.{none_some, false_true}
+use Rattle.rule_words.specs.Grammar.{IsCell, IsPhrase, IsNumber, AreAssigned, IsValue, AreSets, IsDelay, IsRule, braced, at_out, a_phrase, a_number, a_question, a_cell, some_gives, delay_phrase, delay_number, rule}
+use Rattle.rule_words.specs.Reading.{block, port_in, is_sign, phrase_of, and_on, number_before, phrase_block, assigned, ended_parts, all_assigned, block_begins, given_in, question_before, cell_phrase_before, value_before, sets_in, sets_block, sets_before, delay_before, last_block, written_rule}
+use Rattle.rule_phrases.proofs.Nesting.{is_delimiter, IsPlain, Nested}
+use Rattle.rule_phrases.proofs.Nesting as N
+use Rattle.rule_phrases.proofs.Apart.{no_comma}
+use Rattle.rule_phrases.proofs.Edges.{starts}
+use Rattle.rule_words.proofs.Blocks.{Absent, absent_append, block_found, cell_found, HasComma, cell_has_comma}
+use Rattle.rule_phrases.proofs.Found.{phrase_found}
+use Rattle.rule_words.proofs.Sound.{none_some, false_true}
 
 -- ---- delimiters
 

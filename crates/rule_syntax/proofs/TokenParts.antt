@@ -7,11 +7,11 @@ use Rattle.std.specs.Borrow.{Bor}
 use Rattle.std.specs.List.{slice_split, onto_first}
 use Rattle.std.specs.Option.{option_map}
 use Rattle.quantity.specs.Bytes.{is_empty}
-use Rattle.rule_syntax.specs.Reading.{ended_parts}
+use Rattle.rule_words.specs.Reading.{ended_parts}
 use Rattle.rule_syntax.specs.RulesRead.{shown_parts, some_parts}
-use Rattle.rule_syntax.specs.Shown.{token_of, tokens_of}
-use Rattle.rule_syntax.specs.Tokens.{Token}
-use Rattle.rule_syntax.specs.declared.token.Token as T
+use Rattle.rule_words.specs.Shown.{token_of, tokens_of}
+use Rattle.rule_words.specs.Tokens.{Token}
+use Rattle.rule_words.specs.declared.token.Token as T
 
 -- ---- parts of what tokens stand for
 

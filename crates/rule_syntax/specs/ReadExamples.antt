@@ -4,16 +4,23 @@ use Rattle.std.specs.declared.result.Result.TheVariants.{Ok, Err}
 use Rattle.quantity.specs.Bytes.{Bytes}
 use Rattle.quantity.specs.declared.truth.Tri.TheVariants.{True, False}
 use Rattle.quantity.specs.declared.value.Value.TheVariants.{Undefined, Num}
-use Rattle.quantity.specs.declared.value.Compare.TheVariants.{Equal, Unequal, Less, LessEqual, Greater, GreaterEqual}
-use Rattle.rule_tree.specs.declared.function.Function.TheVariants.{StateCount, CellPos, If, Ifu, Abs, Sign, Sqrt, Trunc, Fractional, Round, Min, Max, Remainder, Even, Odd, IsInt, IsUndefined}
+use Rattle.quantity.specs.declared.value.Compare.TheVariants.{Equal, Unequal, Less, LessEqual}
+use Rattle.quantity.specs.declared.value.Compare.TheVariants.{Greater, GreaterEqual}
+use Rattle.rule_tree.specs.declared.function.Function.TheVariants.{StateCount, CellPos, If, Ifu}
+use Rattle.rule_tree.specs.declared.function.Function.TheVariants.{Abs, Sign, Sqrt, Trunc}
+use Rattle.rule_tree.specs.declared.function.Function.TheVariants.{Fractional, Round, Min, Max}
+use Rattle.rule_tree.specs.declared.function.Function.TheVariants.{Remainder, Even, Odd, IsInt}
+use Rattle.rule_tree.specs.declared.function.Function.TheVariants.{IsUndefined}
 use Rattle.rule_tree.specs.declared.node.Unary.TheVariants.{Plus, Minus, Not}
-use Rattle.rule_tree.specs.declared.node.Binary.TheVariants.{Imp, Eqv, Or, Xor, And, Cmp, Add, Sub, Mul, Div}
+use Rattle.rule_tree.specs.declared.node.Binary.TheVariants.{Imp, Eqv, Or, Xor, And, Cmp, Add, Sub}
+use Rattle.rule_tree.specs.declared.node.Binary.TheVariants.{Mul, Div}
 use Rattle.rule_tree.specs.declared.node.Count.TheVariants.{Ones, Zeros, Undefs}
-use Rattle.rule_tree.specs.Expression.{Expr, Rule, nil, cons, number, truth, neighbour, variable, now, port_value, counted, one, two, call}
+use Rattle.rule_tree.specs.Expression.{Expr, Rule, nil, cons, number, truth, neighbour, variable}
+use Rattle.rule_tree.specs.Expression.{now, port_value, counted, one, two, call}
 use Rattle.rule_tree.specs.Scope.{Names}
 use Rattle.rule_tree.specs.Sight.{whole}
-use Rattle.rule_syntax.specs.declared.refusal.RuleRefusal.TheVariants.{NotANeighbour}
-use Rattle.rule_syntax.specs.RuleOf.{rule_of}
+use Rattle.rule_words.specs.declared.refusal.RuleRefusal.TheVariants.{NotANeighbour}
+use Rattle.rule_words.specs.RuleOf.{rule_of}
 use Rattle.rule_syntax.specs.RefusalExamples.{group}
 use Rattle.rule_syntax.specs.TextExamples.{always, with_names}
 

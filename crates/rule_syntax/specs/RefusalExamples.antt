@@ -1,11 +1,17 @@
--- Texts that are refused, computed: each table by its reason, and the last ones by which of two reasons is told.
+-- Texts that are refused, computed: each table by its reason, and the last ones by which of two
+-- reasons is told.
 use Rattle.std.specs.Prelude.{◌≡◌, [], ◌∷◌, codes}
 use Rattle.std.specs.declared.result.Result.TheVariants.{Err}
 use Rattle.quantity.specs.Bytes.{Bytes}
-use Rattle.rule_syntax.specs.declared.refusal.RuleRefusal.{RuleRefusal}
-use Rattle.rule_syntax.specs.declared.refusal.RuleRefusal.TheVariants.{BadRule, BadSort, RandomRefused, UnknownFunction, NotANeighbour, UnknownVariable, UnknownNeighbourPort}
+use Rattle.rule_words.specs.declared.refusal.RuleRefusal.{RuleRefusal}
+use Rattle.rule_words.specs.declared.refusal.RuleRefusal.TheVariants.{BadRule, BadSort}
+use Rattle.rule_words.specs.declared.refusal.RuleRefusal.TheVariants.{RandomRefused}
+use Rattle.rule_words.specs.declared.refusal.RuleRefusal.TheVariants.{UnknownFunction}
+use Rattle.rule_words.specs.declared.refusal.RuleRefusal.TheVariants.{NotANeighbour}
+use Rattle.rule_words.specs.declared.refusal.RuleRefusal.TheVariants.{UnknownVariable}
+use Rattle.rule_words.specs.declared.refusal.RuleRefusal.TheVariants.{UnknownNeighbourPort}
 use Rattle.rule_tree.specs.Scope.{Names}
-use Rattle.rule_syntax.specs.RuleOf.{rule_of}
+use Rattle.rule_words.specs.RuleOf.{rule_of}
 use Rattle.rule_syntax.specs.TextExamples.{with_names}
 
 -- a line of cells with the variables a and b and the port p

@@ -1,5 +1,6 @@
 -- What is known of a rule when it is read.
-use Rattle.std.specs.Prelude.{◌≡◌, ◌&&◌, not, ℕ, Bool, true, false, ⊤, Option, Some, None, List, [], ◌∷◌, ◌++◌, map, length, codes}
+use Rattle.std.specs.Prelude.{◌≡◌, ◌&&◌, not, ℕ, Bool, true, false, ⊤, Option, Some, None, List, []}
+use Rattle.std.specs.Prelude.{◌∷◌, ◌++◌, map, length, codes}
 use Rattle.std.specs.Bool.{then_some}
 use Rattle.std.specs.Borrow.{Bor}
 use Rattle.std.specs.List.{flat_map, list_all}
@@ -7,16 +8,18 @@ use Rattle.std.specs.Option.{option_map, option_or, unwrap_or}
 use Rattle.std.specs.Str.{bytes_eq}
 use Rattle.quantity.specs.Bytes.{Bytes, is_empty}
 use Rattle.rule_tree.specs.Expression.{Expr, expr_of, rule_of}
-use Rattle.rule_syntax.specs.Grammar.{at_out}
+use Rattle.rule_words.specs.Grammar.{at_out}
 use Rattle.rule_tree.specs.Phrases.{Phrase, Assigned, Written}
-use Rattle.rule_syntax.specs.Reading.{Part, and_on, block, cell_phrase_before, given_in, number_before, question_before}
-use Rattle.rule_syntax.specs.RuleOf.{has_port_twice}
-use Rattle.rule_tree.specs.Scope.{Names, Named, a_port, a_variable, named_by, named_in, numbered, port_number, rule_in, variable_number, has_right_sorts}
-use Rattle.rule_syntax.specs.Shown.{tokens_of}
+use Rattle.rule_words.specs.Reading.{Part, and_on, block, cell_phrase_before, given_in}
+use Rattle.rule_words.specs.Reading.{number_before, question_before}
+use Rattle.rule_words.specs.RuleOf.{has_port_twice}
+use Rattle.rule_tree.specs.Scope.{Names, Named, a_port, a_variable, named_by, named_in, numbered}
+use Rattle.rule_tree.specs.Scope.{port_number, rule_in, variable_number, has_right_sorts}
+use Rattle.rule_words.specs.Shown.{tokens_of}
 use Rattle.rule_tree.specs.declared.function.Sort.TheVariants.{Number}
 use Rattle.rule_tree.specs.Sound.{is_sort, sort_of}
-use Rattle.rule_syntax.specs.Terms.{Misses}
-use Rattle.rule_syntax.specs.Tokens.{Token, word, mark, is_mark}
+use Rattle.rule_terms.specs.Terms.{Misses}
+use Rattle.rule_words.specs.Tokens.{Token, word, mark, is_mark}
 use Rattle.rule_syntax.specs.declared.named.Kind.{Kind}
 use Rattle.rule_syntax.specs.declared.named.Kind.TheVariants.{Port, Variable}
 use Rattle.rule_syntax.specs.declared.named.NamedValue.{NamedValue}
@@ -24,7 +27,7 @@ use Rattle.rule_syntax.specs.declared.named.NamedValues.{NamedValues}
 use Rattle.rule_tree.specs.declared.node.Give.{Give}
 use Rattle.rule_tree.specs.declared.node.SetVariable.{SetVariable}
 use Rattle.rule_syntax.specs.declared.assigned.NamedFront.{NamedFront}
-use Rattle.rule_syntax.specs.declared.token.Token as T
+use Rattle.rule_words.specs.declared.token.Token as T
 use Rattle.rule_syntax.specs.declared.written.ReadRule.{ReadRule}
 
 -- a rule that was read is what a written rule is in a group, with all that it is judged by
@@ -43,39 +46,50 @@ AreRead names (Some w) (Some r) = IsRead names r w
 
 -- ---- values for ports, or for variables
 
+-- the mark before a port's or a variable's name
 abbrev pub mark_for : Kind → Bytes
 mark_for Port = codes "~"
 mark_for Variable = codes "$"
 
+-- the number of a port or a variable
 abbrev pub number_for : Names → Kind → Bytes → ℕ
 number_for names Port w = unwrap_or (port_number names w) 0
 number_for names Variable w = unwrap_or (variable_number names w) 0
 
+-- a port or a variable by its name
 abbrev pub named_for : Kind → Bytes → Named
 named_for Port w = a_port w
 named_for Variable w = a_variable w
 
+-- a name that is given a phrase
 abbrev pub phrase_for : Bytes → Phrase → Assigned
 phrase_for w x = record { name = w; phrase = x }
 
+-- the same with numbers in place of names
 abbrev pub value_for : Names → Kind → Assigned → ℕ × Expr
 value_for names kind x = (number_for names kind x.name, numbered names x.phrase)
 
+-- all that is named there
 abbrev pub names_for : Kind → Assigned → List Named
 names_for kind x = named_for kind x.name ∷ named_in x.phrase
 
+-- a sound number for a port or a variable
 abbrev pub is_number : ℕ → ℕ × Expr → Bool
 is_number offsets v = is_sort Number (sort_of v.1 offsets)
 
+-- the words of some values
 abbrev pub words_of : List NamedValue → List Bytes
 words_of vs = map (λ (v : NamedValue). v.word.now) vs
 
+-- the numbers and expressions of some values
 abbrev pub values_of : List NamedValue → List (ℕ × Expr)
 values_of vs = map (λ (v : NamedValue). (v.number, expr_of v.value)) vs
 
+-- a value that a rule gives
 abbrev pub give_of : NamedValue → Give
 give_of v = record { port = v.number; value = v.value }
 
+-- a variable that a rule sets
 abbrev pub set_of : NamedValue → SetVariable
 set_of v = record { variable = v.number; value = v.value }
 
@@ -97,6 +111,7 @@ AreValues names kind (Some xs) (Some vs) = AreNamed names kind vs xs
 abbrev pub shown_parts : List (Bor (List T.Token)) → List (List Token)
 shown_parts parts = map (λ (p : Bor (List T.Token)). tokens_of p.now) parts
 
+-- parts, at least one
 abbrev pub some_parts : Option (List (List Token)) → Option (List (List Token))
 some_parts parts = and_on parts (λ ps. then_some (not (is_empty ps)) ps)
 
@@ -126,11 +141,14 @@ holds_sets ts = false
 abbrev pub braced_value : List Token → Part (List Assigned)
 braced_value ts = and_on (block (codes "{") (codes "}") ts) (λ b. option_map (λ xs. (xs, b.1)) (given_in b.0))
 
+-- the undefined value, or a neighbour
 abbrev pub question_or_cell : List Token → Part Phrase
 question_or_cell ts = option_or (question_before ts) (cell_phrase_before ts)
 
+-- a number, the undefined value or a neighbour
 abbrev pub plain_before : List Token → Part Phrase
 plain_before ts = option_or (number_before ts) (question_or_cell ts)
 
+-- the same at the port out
 abbrev pub plain_value : List Token → Part (List Assigned)
 plain_value ts = option_map (λ x. (at_out x.0, x.1)) (plain_before ts)

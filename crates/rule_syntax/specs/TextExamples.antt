@@ -1,5 +1,6 @@
 -- Rules that are read and refused.
-use Rattle.std.specs.Prelude.{◌++◌, replicate, ◌≡◌, ℕ, zero, suc, true, false, Some, None, List, [], ◌∷◌, ℤ, pos, negsuc, codes}
+use Rattle.std.specs.Prelude.{◌++◌, replicate, ◌≡◌, ℕ, zero, suc, true, false, Some, None, List, []}
+use Rattle.std.specs.Prelude.{◌∷◌, ℤ, pos, negsuc, codes}
 use Rattle.std.specs.declared.result.Result.TheVariants.{Ok, Err}
 use Rattle.quantity.specs.declared.place.Offset.{Offset}
 use Rattle.quantity.specs.declared.truth.Tri.TheVariants.{True}
@@ -9,14 +10,20 @@ use Rattle.rule_tree.specs.declared.node.Unary.TheVariants.{Plus, Minus, Not}
 use Rattle.rule_tree.specs.declared.node.Binary.TheVariants.{Imp, Or, And, Cmp, Add, Sub, Mul}
 use Rattle.rule_tree.specs.declared.node.Count.TheVariants.{Ones}
 use Rattle.rule_tree.specs.declared.function.Function.TheVariants.{Min}
-use Rattle.rule_tree.specs.Expression.{Expr, Rule, number, truth, neighbour, variable, now, counted, one, two, call, nil, cons}
+use Rattle.rule_tree.specs.Expression.{Expr, Rule, number, truth, neighbour, variable, now, counted}
+use Rattle.rule_tree.specs.Expression.{one, two, call, nil, cons}
 use Rattle.rule_tree.specs.Meaning.{whole}
 use Rattle.quantity.specs.Bytes.{Bytes}
-use Rattle.rule_syntax.specs.declared.refusal.RuleRefusal.{RuleRefusal}
-use Rattle.rule_syntax.specs.declared.refusal.RuleRefusal.TheVariants.{TooLarge, BadRule, BadSort, RandomRefused, UnknownFunction, NotANeighbour, UnknownVariable, UnknownNeighbourPort}
-use Rattle.rule_syntax.specs.Tokens.{word, number as number', mark, tokens, is_large}
+use Rattle.rule_words.specs.declared.refusal.RuleRefusal.{RuleRefusal}
+use Rattle.rule_words.specs.declared.refusal.RuleRefusal.TheVariants.{TooLarge, BadRule, BadSort}
+use Rattle.rule_words.specs.declared.refusal.RuleRefusal.TheVariants.{RandomRefused}
+use Rattle.rule_words.specs.declared.refusal.RuleRefusal.TheVariants.{UnknownFunction}
+use Rattle.rule_words.specs.declared.refusal.RuleRefusal.TheVariants.{NotANeighbour}
+use Rattle.rule_words.specs.declared.refusal.RuleRefusal.TheVariants.{UnknownVariable}
+use Rattle.rule_words.specs.declared.refusal.RuleRefusal.TheVariants.{UnknownNeighbourPort}
+use Rattle.rule_words.specs.Tokens.{word, number as number', mark, tokens, is_large}
 use Rattle.rule_tree.specs.Scope.{Names}
-use Rattle.rule_syntax.specs.RuleOf.{rule_of}
+use Rattle.rule_words.specs.RuleOf.{rule_of}
 
 abbrev pub offset : ℤ → ℤ → Offset
 offset row column = record { row = row; column = column; plane = pos 0 }

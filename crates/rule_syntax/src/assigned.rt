@@ -4,17 +4,18 @@ ghost use Rattle.std.specs.List.{slice_split};
 ghost use Rattle.std.specs.Option.{option_map};
 ghost use Rattle.std.specs.Str.{bytes_eq};
 ghost use Rattle.quantity.specs.Bytes.{all_there};
-ghost use Rattle.rule_syntax.specs.Reading.{all_assigned, assigned, block_begins, ended_parts};
-ghost use Rattle.rule_syntax.specs.RulesRead.{AreValues, IsAdded, holds_sets, mark_for, shown_parts, some_parts, word_before};
-ghost use Rattle.rule_syntax.specs.Shown.{AreFew, names_of, text_of, token_of, tokens_of};
-ghost use Rattle.rule_syntax.specs.Tokens.{is_mark};
+ghost use Rattle.rule_words.specs.Reading.{all_assigned, assigned, block_begins, ended_parts};
+ghost use Rattle.rule_syntax.specs.RulesRead.{AreValues, IsAdded, holds_sets, mark_for};
+ghost use Rattle.rule_syntax.specs.RulesRead.{shown_parts, some_parts, word_before};
+ghost use Rattle.rule_words.specs.Shown.{AreFew, names_of, text_of, token_of, tokens_of};
+ghost use Rattle.rule_words.specs.Tokens.{is_mark};
 
 use crate::named::{Kind, NamedValues};
-use crate::names::Names;
-use crate::phrase::phrase;
-use crate::table::same_mark;
-use crate::token::{Mark, Token};
 use quantity::OutOfMemory;
+use rule_phrases::phrase::phrase;
+use rule_words::names::Names;
+use rule_words::table::same_mark;
+use rule_words::token::{Mark, Token};
 use std::alloc::{AllocError, Global};
 
 /// Values at the front of tokens, and the tokens behind them.
@@ -24,8 +25,8 @@ pub(crate) struct NamedFront<'t, 'a> {
     pub rest: &'t [Token<'a>],
 }
 
-/// The values that all tokens are, each with its mark, its word and `:=` in front and a semicolon behind. None where
-/// they are none, and where there are no tokens.
+/// The values that all tokens are, each with its mark, its word and `:=` in front and a semicolon
+/// behind. None where they are none, and where there are no tokens.
 pub(crate) fn all_assigned<'a>(
     alloc: Global,
     names: &Names,
@@ -33,7 +34,8 @@ pub(crate) fn all_assigned<'a>(
     tokens: &[Token<'a>],
 ) -> Result<Option<NamedValues<'a>>, OutOfMemory>
     requires { AreFew (names_of names.now) }
-    ensures { IfOk result (λ values. AreValues (names_of names.now) kind (all_assigned (mark_for kind) (tokens_of tokens.now)) values) }
+    ensures { IfOk result (λ values. AreValues (names_of names.now) kind
+        (all_assigned (mark_for kind) (tokens_of tokens.now)) values) }
 {
     let parts = parts(alloc, tokens)?;
     match ended_parts(&parts) {
@@ -44,14 +46,17 @@ pub(crate) fn all_assigned<'a>(
 
 /// What stands between semicolons.
 fn parts<'t, 'a>(alloc: Global, tokens: &'t [Token<'a>]) -> Result<Vec<&'t [Token<'a>]>, AllocError>
-    ensures { IfOk result (λ parts. shown_parts parts.items ≡ slice_split (is_mark (codes ";")) (tokens_of tokens.now)) }
+    ensures { IfOk result (λ parts. shown_parts parts.items
+        ≡ slice_split (is_mark (codes ";")) (tokens_of tokens.now)) }
 {
     tokens.split(|token| is_semicolon(token)).collect(alloc)
 }
 
-/// The parts that a semicolon ends, where there are any and nothing stands behind the last semicolon.
+/// The parts that a semicolon ends, where there are any and nothing stands behind the last
+/// semicolon.
 fn ended_parts<'p, 't, 'a>(parts: &'p [&'t [Token<'a>]]) -> Option<&'p [&'t [Token<'a>]]>
-    ensures { option_map (λ ended. shown_parts ended.now) result ≡ some_parts (ended_parts (shown_parts parts.now)) }
+    ensures { option_map (λ ended. shown_parts ended.now) result
+        ≡ some_parts (ended_parts (shown_parts parts.now)) }
 {
     let (left, ended) = parts.split_last()?;
     if !left.is_empty() {
@@ -71,7 +76,8 @@ fn assign_all<'a>(
     parts: &[&[Token<'a>]],
 ) -> Result<Option<NamedValues<'a>>, OutOfMemory>
     requires { AreFew (names_of names.now) }
-    ensures { IfOk result (λ values. AreValues (names_of names.now) kind (all_there (map (assigned (mark_for kind)) (shown_parts parts.now))) values) }
+    ensures { IfOk result (λ values. AreValues (names_of names.now) kind
+        (all_there (map (assigned (mark_for kind)) (shown_parts parts.now))) values) }
 {
     let mut values = NamedValues::none(alloc);
     for part in parts {
@@ -91,7 +97,8 @@ fn assign<'a>(
     tokens: &[Token<'a>],
 ) -> Result<bool, OutOfMemory>
     requires { AreFew (names_of names.now) }
-    ensures { IfOk result (λ is. IsAdded (names_of names.now) kind (assigned (mark_for kind) (tokens_of tokens.now)) values.old values.new is) }
+    ensures { IfOk result (λ is. IsAdded (names_of names.now) kind
+        (assigned (mark_for kind) (tokens_of tokens.now)) values.old values.new is) }
 {
     let Some((word, behind)) = word_before(kind, tokens) else {
         return Ok(false);
@@ -109,9 +116,11 @@ fn is_semicolon(token: &Token<'_>) -> bool
     matches!(token, Token::Mark(Mark::Semicolon))
 }
 
-/// The word at the front of a value for a port or a variable, behind its mark and before `:=`, and the tokens behind.
+/// The word at the front of a value for a port or a variable, behind its mark and before `:=`, and
+/// the tokens behind.
 fn word_before<'t, 'a>(kind: Kind, tokens: &'t [Token<'a>]) -> Option<(&'a [u8], &'t [Token<'a>])>
-    ensures { option_map (λ cut. (cut.0.now, tokens_of cut.1.now)) result ≡ word_before (mark_for kind) (tokens_of tokens.now) }
+    ensures { option_map (λ cut. (cut.0.now, tokens_of cut.1.now)) result
+        ≡ word_before (mark_for kind) (tokens_of tokens.now) }
 {
     match tokens {
         [

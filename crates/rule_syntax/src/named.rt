@@ -3,21 +3,22 @@ ghost use Rattle.std.specs.Prelude.{◌≡◌, [], ◌∷◌, ◌++◌, List, ma
 ghost use Rattle.std.specs.List.{list_any};
 ghost use Rattle.std.specs.Str.{bytes_eq};
 ghost use Rattle.quantity.specs.Bytes.{has_repeat};
-ghost use Rattle.rule_syntax.specs.Grammar.{at_out};
+ghost use Rattle.rule_words.specs.Grammar.{at_out};
 ghost use Rattle.rule_tree.specs.Phrases.{Assigned, Phrase};
-ghost use Rattle.rule_syntax.specs.RulesRead.{AreNamed, give_of, mark_for, named_for, number_for, set_of, phrase_for, words_of};
-ghost use Rattle.rule_syntax.specs.Shown.{AreFew, names_of, text_of};
+ghost use Rattle.rule_syntax.specs.RulesRead.{AreNamed, give_of, mark_for, named_for, number_for};
+ghost use Rattle.rule_syntax.specs.RulesRead.{set_of, phrase_for, words_of};
+ghost use Rattle.rule_words.specs.Shown.{AreFew, names_of, text_of};
 ghost use Rattle.rule_tree.specs.Sound.{is_sort};
-ghost use Rattle.rule_syntax.specs.Terms.{Misses, Stands};
+ghost use Rattle.rule_terms.specs.Terms.{Misses, Stands};
 ghost use Rattle.rule_syntax.specs.declared.named.NamedValue.{NamedValue as AnyValue};
 
-use crate::names::Names;
-use crate::scope::{port_number, variable_number};
-use crate::table::same_mark;
-use crate::term::{Lacks, Term};
-use crate::token::Mark;
 use quantity::OutOfMemory;
+use rule_terms::scope::{port_number, variable_number};
+use rule_terms::term::{Lacks, Term};
 use rule_tree::{Give, Node, SetVariable, Sort};
+use rule_words::names::Names;
+use rule_words::table::same_mark;
+use rule_words::token::Mark;
 use std::alloc::{AllocError, Global};
 
 /// What a value is for.
@@ -97,7 +98,8 @@ impl<'a> NamedValues<'a> {
         term: Term,
     ) -> Result<NamedValues<'a>, OutOfMemory>
         requires { AreFew (names_of names.now) }
-        ensures { IfOk result (λ values. (x : Phrase) → Stands (names_of names.now) term x → AreNamed (names_of names.now) Kind.Port values (at_out x)) }
+        ensures { IfOk result (λ values. (x : Phrase) → Stands (names_of names.now) term x
+            → AreNamed (names_of names.now) Kind.Port values (at_out x)) }
     {
         let mut values = NamedValues::none(alloc);
         values.add(names, Kind::Port, b"out".as_slice(), term)?;
@@ -113,7 +115,9 @@ impl<'a> NamedValues<'a> {
         term: Term,
     ) -> Result<(), OutOfMemory>
         requires { AreFew (names_of names.now) }
-        ensures { OnOk result ((xs : List Assigned) (x : Phrase) → AreNamed (names_of names.now) kind self.old xs → Stands (names_of names.now) term x → AreNamed (names_of names.now) kind self.new (xs ++ phrase_for word.now x ∷ [])) }
+        ensures { OnOk result ((xs : List Assigned) (x : Phrase)
+            → AreNamed (names_of names.now) kind self.old xs → Stands (names_of names.now) term x
+            → AreNamed (names_of names.now) kind self.new (xs ++ phrase_for word.now x ∷ [])) }
     {
         self.are_numbers &= is_number(&term);
         self.lacks = self.lacks.and(kind.lacks(names, word)).and(term.lacks);
@@ -151,7 +155,8 @@ pub(crate) fn has_repeat(values: &[NamedValue<'_>]) -> bool
 }
 
 fn is_among(values: &[NamedValue<'_>], word: &[u8]) -> bool
-    ensures { result ≡ list_any (λ (value : AnyValue). bytes_eq word.now value.word.now) values.now }
+    ensures { result
+        ≡ list_any (λ (value : AnyValue). bytes_eq word.now value.word.now) values.now }
 {
     values.iter().any(|value| word == value.word)
 }

@@ -2,33 +2,36 @@
 ghost use Rattle.std.specs.Prelude.{◌≡◌, true, IfOk, IfErr};
 ghost use Rattle.std.specs.declared.result.Result.TheVariants.{Ok, Err};
 ghost use Rattle.rule_tree.specs.Expression as E;
-ghost use Rattle.rule_syntax.specs.RuleOf.{judged, rule_of};
+ghost use Rattle.rule_words.specs.RuleOf.{judged, rule_of};
 ghost use Rattle.rule_syntax.specs.RulesRead.{IsRead};
 ghost use Rattle.rule_tree.specs.Scope.{extent_of, is_sound};
-ghost use Rattle.rule_syntax.specs.Shown.{AreFew, names_of};
+ghost use Rattle.rule_words.specs.Shown.{AreFew, names_of};
 
-use crate::names::Names;
-use crate::refusal::RuleRefusal;
-use crate::tokens::{is_large, tokens, words_refused};
 use crate::written::{ReadRule, written_rule};
-use quantity::OutOfMemory;
 use rule_tree::RuleTree;
+use rule_words::names::Names;
+use rule_words::refusal::RuleRefusal;
+use rule_words::tokens::{is_large, tokens, words_refused};
 use std::alloc::Global;
 
 /// The rule language as text.
 pub struct Rule;
 
 impl Rule {
-    /// The rule that a text in lower-case letters is in a group, or the first refusal that applies: BadRule where a
-    /// piece is no token; RandomRefused or UnknownFunction at the first word, not behind `$` or `~`, that is none of
-    /// the language; TooLarge; BadRule where the tokens are no rule, or a port is given twice; NotANeighbour;
-    /// UnknownVariable; UnknownNeighbourPort; BadSort. Memory says nothing of the text. The law `one_outcome` says that
-    /// this is the one outcome that the grammar gives.
+    /// The rule that a text in lower-case letters is in a group, or the first refusal that applies:
+    /// BadRule where a piece is no token; RandomRefused or UnknownFunction at the first word, not
+    /// behind `$` or `~`, that is none of the language; TooLarge; BadRule where the tokens are no
+    /// rule, or a port is given twice; NotANeighbour; UnknownVariable; UnknownNeighbourPort;
+    /// BadSort. Memory says nothing of the text. The law `one_outcome` says that this is the one
+    /// outcome that the grammar gives.
     pub fn read(alloc: Global, text: &[u8], names: &Names) -> Result<RuleTree, RuleRefusal>
         requires { AreFew (names_of names.now) }
-        ensures rule { IfOk result (λ tree. rule_of (names_of names.now) text.now ≡ Ok (E.rule_of tree)) }
-        ensures refusal { IfErr result (λ why. ((why ≡ RuleRefusal.Memory) → ⊥) → rule_of (names_of names.now) text.now ≡ Err why) }
-        ensures sound { IfOk result (λ tree. is_sound (extent_of (names_of names.now)) (E.rule_of tree) ≡ true) }
+        ensures rule { IfOk result (λ tree. rule_of (names_of names.now) text.now
+            ≡ Ok (E.rule_of tree)) }
+        ensures refusal { IfErr result (λ why. ((why ≡ RuleRefusal.Memory) → ⊥)
+            → rule_of (names_of names.now) text.now ≡ Err why) }
+        ensures sound { IfOk result
+            (λ tree. is_sound (extent_of (names_of names.now)) (E.rule_of tree) ≡ true) }
     {
         let Some(tokens) = tokens(alloc, text)? else {
             return Err(RuleRefusal::BadRule);
@@ -46,20 +49,12 @@ impl Rule {
     }
 }
 
-impl From<OutOfMemory> for RuleRefusal {
-    ghost use Rattle.rule_syntax.specs.declared.refusal.RuleRefusal.TheVariants.{Memory};
-
-    ghost from_gives = { λ _ refusal. refusal ≡ Memory };
-
-    fn from(_error: OutOfMemory) -> RuleRefusal {
-        RuleRefusal::Memory
-    }
-}
-
 /// The tree of a rule of the grammar, or the first refusal that applies to it.
 fn judged(rule: ReadRule) -> Result<RuleTree, RuleRefusal>
-    ensures rule { (names : _) (w : _) → IsRead names rule w → IfOk result (λ tree. judged names w ≡ Ok (E.rule_of tree)) }
-    ensures refusal { (names : _) (w : _) → IsRead names rule w → IfErr result (λ why. judged names w ≡ Err why) }
+    ensures rule { (names : _) (w : _) → IsRead names rule w
+        → IfOk result (λ tree. judged names w ≡ Ok (E.rule_of tree)) }
+    ensures refusal { (names : _) (w : _) → IsRead names rule w
+        → IfErr result (λ why. judged names w ≡ Err why) }
 {
     if rule.port_twice {
         Err(RuleRefusal::BadRule)

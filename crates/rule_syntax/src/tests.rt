@@ -20,7 +20,8 @@ fn name(rt: &(impl Abort + AllocGlobal), word: &str) -> Name {
     Name::parse(rt.alloc(), word.as_bytes()).expect(rt, "a name")
 }
 
-// A line of cells that see the one to the left, themselves and the one to the right, with a variable and a port.
+// A line of cells that see the one to the left, themselves and the one to the right, with a
+// variable and a port.
 fn line(rt: &(impl Abort + AllocGlobal)) -> Names {
     Names {
         offsets: vec![in rt.alloc(); offset(-1), offset(0), offset(1)].expect(rt, "memory"),

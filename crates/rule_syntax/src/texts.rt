@@ -1,5 +1,6 @@
 // Laws of rules as texts.
-ghost use Rattle.rule_syntax.specs.RuleOf.{FindsTheGrammar, HasOneOutcome, ReadsOneWay, ReadsSoundRules};
+ghost use Rattle.rule_words.specs.RuleOf.{FindsTheGrammar, HasOneOutcome, ReadsOneWay};
+ghost use Rattle.rule_words.specs.RuleOf.{ReadsSoundRules};
 ghost use Rattle.rule_syntax.specs.ReadExamples.{TextsAreRead};
 ghost use Rattle.rule_syntax.specs.RefusalExamples.{TextsAreRefused};
 ghost use Rattle.rule_syntax.specs.TextExamples.{DepthIsBounded, RulesAreRead, TokensAreBounded};
@@ -29,17 +30,20 @@ pub fn tokens_are_bounded()
     ensures { TokensAreBounded }
 {}
 
-/// The grammar is exact: what the reading of tokens finds is a phrase or a rule of the grammar, and each of the grammar is found.
+/// The grammar is exact: what the reading of tokens finds is a phrase or a rule of the grammar,
+/// and each of the grammar is found.
 pub fn the_grammar_is_found()
     ensures { FindsTheGrammar }
 {}
 
-/// A list of tokens is at most one phrase and at most one rule, so precedence and grouping are theorems of the grammar.
+/// A list of tokens is at most one phrase and at most one rule, so precedence and grouping are
+/// theorems of the grammar.
 pub fn tokens_read_one_way()
     ensures { ReadsOneWay }
 {}
 
-/// A text has one outcome, a rule or a refusal, and it is the one that the order of tests gives over the grammar alone.
+/// A text has one outcome, a rule or a refusal, and it is the one that the order of tests gives
+/// over the grammar alone.
 pub fn one_outcome()
     ensures { HasOneOutcome }
 {}

@@ -2,21 +2,26 @@
 ghost use Rattle.std.specs.Prelude.{◌≡◌, codes, IfOk};
 ghost use Rattle.std.specs.Option.{option_map};
 ghost use Rattle.rule_tree.specs.Phrases.{Written};
-ghost use Rattle.rule_syntax.specs.Reading.{all_assigned, cell_phrase_before, delay_before, given_in, last_block, number_before, phrase_block, question_before, sets_before, sets_block, value_before, written_rule};
-ghost use Rattle.rule_syntax.specs.RulesRead.{AreNamed, AreRead, AreValues, IsNamedFront, IsRead, braced_value, plain_before, plain_value, question_or_cell};
-ghost use Rattle.rule_syntax.specs.Shown.{AreFew, names_of, tokens_of};
-ghost use Rattle.rule_syntax.specs.Terms.{IsFront, IsTerm, Stands};
+ghost use Rattle.rule_words.specs.Reading.{all_assigned, cell_phrase_before, delay_before};
+ghost use Rattle.rule_words.specs.Reading.{given_in, last_block, number_before, phrase_block};
+ghost use Rattle.rule_words.specs.Reading.{question_before, sets_before, sets_block, value_before};
+ghost use Rattle.rule_words.specs.Reading.{written_rule};
+ghost use Rattle.rule_syntax.specs.RulesRead.{AreNamed, AreRead, AreValues, IsNamedFront, IsRead};
+ghost use Rattle.rule_syntax.specs.RulesRead.{braced_value, plain_before, plain_value};
+ghost use Rattle.rule_syntax.specs.RulesRead.{question_or_cell};
+ghost use Rattle.rule_words.specs.Shown.{AreFew, names_of, tokens_of};
+ghost use Rattle.rule_terms.specs.Terms.{IsFront, IsTerm, Stands};
 
 use crate::assigned::{NamedFront, all_assigned, begins_with_tilde, holds_sets, is_question};
-use crate::atom::{block, cell_before, number_before};
-use crate::front::Front;
 use crate::named::{Kind, NamedValues, gives, has_repeat, is_number, is_truth, sets};
-use crate::names::Names;
-use crate::phrase::phrase;
-use crate::term::{Lacks, Term};
-use crate::token::{Mark, Token};
 use quantity::{OutOfMemory, Value};
+use rule_phrases::atom::{block, cell_before, number_before};
+use rule_phrases::phrase::phrase;
+use rule_terms::front::Front;
+use rule_terms::term::{Lacks, Term};
 use rule_tree::RuleTree;
+use rule_words::names::Names;
+use rule_words::token::{Mark, Token};
 use std::alloc::Global;
 
 /// A rule of the grammar with numbers in the place of names, and what it is judged by.
@@ -37,7 +42,8 @@ pub(crate) fn written_rule(
     tokens: &[Token<'_>],
 ) -> Result<Option<ReadRule>, OutOfMemory>
     requires { AreFew (names_of names.now) }
-    ensures { IfOk result (λ rule. AreRead (names_of names.now) (written_rule (tokens_of tokens.now)) rule) }
+    ensures { IfOk result (λ rule. AreRead (names_of names.now)
+        (written_rule (tokens_of tokens.now)) rule) }
 {
     let Some(given) = value_before(alloc, names, tokens)? else {
         return Ok(None);
@@ -63,7 +69,10 @@ fn rule(
     condition: Term,
     set: NamedValues<'_>,
 ) -> Result<ReadRule, OutOfMemory>
-    ensures { IfOk result (λ rule. (names : _) (w : Written) → AreNamed names Kind.Port given.entry w.gives → Stands names delay w.delay → Stands names condition w.condition → AreNamed names Kind.Variable set.entry w.sets → IsRead names rule w) }
+    ensures { IfOk result (λ rule. (names : _) (w : Written)
+        → AreNamed names Kind.Port given.entry w.gives → Stands names delay w.delay
+        → Stands names condition w.condition → AreNamed names Kind.Variable set.entry w.sets
+        → IsRead names rule w) }
 {
     let lacks = given
         .lacks
@@ -96,7 +105,8 @@ fn value_before<'t, 'a>(
     tokens: &'t [Token<'a>],
 ) -> Result<Option<NamedFront<'t, 'a>>, OutOfMemory>
     requires { AreFew (names_of names.now) }
-    ensures { IfOk result (λ front. IsNamedFront (names_of names.now) Kind.Port (value_before (tokens_of tokens.now)) front) }
+    ensures { IfOk result (λ front. IsNamedFront (names_of names.now) Kind.Port
+        (value_before (tokens_of tokens.now)) front) }
 {
     match braced_value(alloc, names, tokens)? {
         Some(front) => Ok(Some(front)),
@@ -111,7 +121,8 @@ fn braced_value<'t, 'a>(
     tokens: &'t [Token<'a>],
 ) -> Result<Option<NamedFront<'t, 'a>>, OutOfMemory>
     requires { AreFew (names_of names.now) }
-    ensures { IfOk result (λ front. IsNamedFront (names_of names.now) Kind.Port (braced_value (tokens_of tokens.now)) front) }
+    ensures { IfOk result (λ front. IsNamedFront (names_of names.now) Kind.Port
+        (braced_value (tokens_of tokens.now)) front) }
 {
     let Some((inner, rest)) = block(Mark::OpenBrace, Mark::CloseBrace, tokens) else {
         return Ok(None);
@@ -129,7 +140,8 @@ fn given_in<'a>(
     tokens: &[Token<'a>],
 ) -> Result<Option<NamedValues<'a>>, OutOfMemory>
     requires { AreFew (names_of names.now) }
-    ensures { IfOk result (λ values. AreValues (names_of names.now) Kind.Port (given_in (tokens_of tokens.now)) values) }
+    ensures { IfOk result (λ values. AreValues (names_of names.now) Kind.Port
+        (given_in (tokens_of tokens.now)) values) }
 {
     if begins_with_tilde(tokens) {
         return all_assigned(alloc, names, Kind::Port, tokens);
@@ -148,7 +160,8 @@ fn plain_value<'t, 'a>(
     tokens: &'t [Token<'a>],
 ) -> Result<Option<NamedFront<'t, 'a>>, OutOfMemory>
     requires { AreFew (names_of names.now) }
-    ensures { IfOk result (λ front. IsNamedFront (names_of names.now) Kind.Port (plain_value (tokens_of tokens.now)) front) }
+    ensures { IfOk result (λ front. IsNamedFront (names_of names.now) Kind.Port
+        (plain_value (tokens_of tokens.now)) front) }
 {
     let Some(front) = plain_front(names, tokens) else {
         return Ok(None);
@@ -226,7 +239,8 @@ fn sets_before<'t, 'a>(
     tokens: &'t [Token<'a>],
 ) -> Result<Option<NamedFront<'t, 'a>>, OutOfMemory>
     requires { AreFew (names_of names.now) }
-    ensures { IfOk result (λ front. IsNamedFront (names_of names.now) Kind.Variable (sets_before (tokens_of tokens.now)) front) }
+    ensures { IfOk result (λ front. IsNamedFront (names_of names.now) Kind.Variable
+        (sets_before (tokens_of tokens.now)) front) }
 {
     let Some((inner, rest)) = sets_block(tokens) else {
         return Ok(Some(NamedFront {
@@ -242,7 +256,9 @@ fn sets_before<'t, 'a>(
 
 /// A block of values for variables, and the tokens behind it.
 fn sets_block<'t, 'a>(tokens: &'t [Token<'a>]) -> Option<(&'t [Token<'a>], &'t [Token<'a>])>
-    ensures { option_map (λ cut. (all_assigned (codes "$") (tokens_of cut.0.now), tokens_of cut.1.now)) result ≡ sets_block (tokens_of tokens.now) }
+    ensures { option_map
+        (λ cut. (all_assigned (codes "$") (tokens_of cut.0.now), tokens_of cut.1.now)) result
+        ≡ sets_block (tokens_of tokens.now) }
 {
     let (inner, rest) = block(Mark::OpenBrace, Mark::CloseBrace, tokens)?;
     if holds_sets(inner) {
@@ -259,7 +275,8 @@ fn delay_before<'t, 'a>(
     tokens: &'t [Token<'a>],
 ) -> Result<Option<Front<'t, 'a>>, OutOfMemory>
     requires { AreFew (names_of names.now) }
-    ensures { IfOk result (λ front. IsFront (names_of names.now) (delay_before (tokens_of tokens.now)) front) }
+    ensures { IfOk result (λ front. IsFront (names_of names.now)
+        (delay_before (tokens_of tokens.now)) front) }
 {
     match phrase_block(alloc, names, tokens)? {
         Some(front) => Ok(Some(front)),
@@ -274,7 +291,8 @@ fn phrase_block<'t, 'a>(
     tokens: &'t [Token<'a>],
 ) -> Result<Option<Front<'t, 'a>>, OutOfMemory>
     requires { AreFew (names_of names.now) }
-    ensures { IfOk result (λ front. IsFront (names_of names.now) (phrase_block (tokens_of tokens.now)) front) }
+    ensures { IfOk result (λ front. IsFront (names_of names.now)
+        (phrase_block (tokens_of tokens.now)) front) }
 {
     let Some((inner, rest)) = block(Mark::OpenBrace, Mark::CloseBrace, tokens) else {
         return Ok(None);
@@ -292,7 +310,8 @@ fn last_block(
     tokens: &[Token<'_>],
 ) -> Result<Option<Term>, OutOfMemory>
     requires { AreFew (names_of names.now) }
-    ensures { IfOk result (λ term. IsTerm (names_of names.now) (last_block (tokens_of tokens.now)) term) }
+    ensures { IfOk result (λ term. IsTerm (names_of names.now)
+        (last_block (tokens_of tokens.now)) term) }
 {
     let Some(front) = phrase_block(alloc, names, tokens)? else {
         return Ok(None);

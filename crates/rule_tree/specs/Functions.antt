@@ -30,6 +30,7 @@ abbrev pub state_count : Value → List Value → Value
 state_count Undefined vs = Undefined
 state_count (Num x) vs = whole (how_many (Num x) vs)
 
+-- row, column and plane
 abbrev pub coordinates : Place → List ℕ
 coordinates p = p.row ∷ p.column ∷ p.plane ∷ []
 
@@ -42,6 +43,7 @@ cell_position (Num (pos n)) s =
     else Undefined
 cell_position (Num (negsuc n)) s = Undefined
 
+-- whether a value is undefined
 abbrev pub is_undefined : Value → Tri
 is_undefined Undefined = True
 is_undefined (Num x) = False
@@ -58,10 +60,12 @@ abbrev pub Maker : List Sort → Sort → Type 0
 Maker [] gives = Option (Of gives)
 Maker (a ∷ more) gives = Of a → Maker more gives
 
+-- an operand of this sort
 abbrev pub taken : (a : Sort) → Answer → Of a
 taken Number x = number_in x
 taken Truth x = truth_in x
 
+-- an answer of this sort
 abbrev pub given : (a : Sort) → Of a → Answer
 given Number v = Number' v
 given Truth t = Logic t
@@ -104,6 +108,7 @@ of_test word f = made_row word (Number ∷ []) Truth (λ s v. Some (f v))
 abbrev pub of_two_numbers : Bytes → (Value → Value → Value) → Row
 of_two_numbers word f = made_row word (Number ∷ Number ∷ []) Number (λ s v w. Some (f v w))
 
+-- the row of a function: its word, what it takes and gives, and its meaning
 abbrev pub row : Function → Row
 row StateCount = of_sight (codes "statecount") (λ v s. state_count v (outs s))
 row CellPos = of_sight (codes "cellpos") cell_position

@@ -39,6 +39,7 @@ mutual
     nil : Phrases
     cons : Phrase → Phrases → Phrases
 
+-- phrases one after another
 abbrev pub phrases : List Phrase → Phrases
 phrases [] = nil
 phrases (p ∷ ps) = cons p (phrases ps)
@@ -48,17 +49,20 @@ pub record Assigned : Type 0 where
   pub name : Bytes
   pub phrase : Phrase
 
+-- a rule as it is written
 pub record Written : Type 0 where
   pub gives : List Assigned
   pub delay : Phrase
   pub condition : Phrase
   pub sets : List Assigned
 
+-- the port that each cell has
 abbrev pub out : Bytes
 out = codes "out"
 
 -- ---- the levels of the grammar, the loosest first
 
+-- how tightly operators bind, the loosest first
 pub data Level : Type 0 where
   expr : Level
   disj : Level
@@ -70,6 +74,7 @@ pub data Level : Type 0 where
   signed : Level
   primary : Level
 
+-- the next tighter level
 abbrev pub tighter : Level → Level
 tighter expr = disj
 tighter disj = conj
@@ -107,6 +112,7 @@ operator_words prod = []
 operator_words signed = []
 operator_words primary = []
 
+-- the operators of a level
 abbrev pub operator_marks : Level → List (Bytes × Binary)
 operator_marks expr = []
 operator_marks disj = []
@@ -120,6 +126,7 @@ operator_marks prod = (codes "*", Mul) ∷ (codes "/", Div) ∷ []
 operator_marks signed = []
 operator_marks primary = []
 
+-- the words that count neighbours
 abbrev pub counts : List (Bytes × Count)
 counts = (codes "truecount", Ones) ∷ (codes "falsecount", Zeros) ∷ (codes "undefcount", Undefs) ∷ []
 
@@ -131,9 +138,11 @@ functions = map (λ (f : Function). ((row f).word, f)) ALL
 abbrev pub looked_up : {A : Type 0} → List (Bytes × A) → Bytes → Option A
 looked_up {A} table text = option_map (λ (p : Bytes × A). p.1) (find (λ (p : Bytes × A). bytes_eq p.0 text) table)
 
+-- how many operands a function takes
 abbrev pub argument_count : Function → ℕ
 argument_count f = length (function_signature f).takes
 
+-- the words of a table
 abbrev pub first_texts : {A : Type 0} → List (Bytes × A) → List Bytes
 first_texts {A} table = map (λ (p : Bytes × A). p.0) table
 

@@ -3,6 +3,7 @@ use Rattle.std.specs.Prelude.{◌≡◌, ◌≤◌, ℕ, zero, suc, true, Option
 use Rattle.quantity.specs.declared.value.Value.{Value}
 use Rattle.rule_tree.specs.Scope.{differ}
 
+-- the value that is given, or else the earlier one
 abbrev pub or_earlier : Option Value → Option Value → Option Value
 or_earlier None earlier = earlier
 or_earlier (Some v) earlier = Some v

@@ -22,17 +22,21 @@ pub record Names : Type 0 where
 
 -- ---- cells, variables and ports
 
+-- a neighbour by its coordinates
 abbrev pub offset_of : List ℤ → Offset
 offset_of (row ∷ column ∷ []) = record { row = row; column = column; plane = pos 0 }
 offset_of (row ∷ column ∷ plane ∷ rest) = record { row = row; column = column; plane = plane }
 offset_of place = record { row = pos 0; column = pos 0; plane = pos 0 }
 
+-- the same neighbour
 abbrev pub same_offset : Offset → Offset → Bool
 same_offset a b = is_zero (a.row -ℤ b.row) && is_zero (a.column -ℤ b.column) && is_zero (a.plane -ℤ b.plane)
 
+-- the number of a declared neighbour
 abbrev pub offset_number : Names → List ℤ → Option ℕ
 offset_number names place = position (same_offset (offset_of place)) names.offsets
 
+-- the number of a declared variable
 abbrev pub variable_number : Names → Bytes → Option ℕ
 variable_number names w = position (bytes_eq w) names.variables
 
@@ -42,6 +46,7 @@ port_number names w = if bytes_eq w out then Some 0 else option_map (λ k. k + 1
 
 -- ---- what a rule names
 
+-- what a rule names: a neighbour, a variable or a port
 pub data Named : Type 0 where
   a_cell : Cell → Named
   a_variable : Bytes → Named
@@ -64,6 +69,7 @@ abbrev mutual
   all_named_in P.nil = []
   all_named_in (P.cons x xs) = named_in x ++ all_named_in xs
 
+-- all that a rule names
 abbrev pub named_by : Written → List Named
 named_by r =
     flat_map (λ (g : Assigned). a_port g.name ∷ named_in g.phrase) r.gives ++ named_in r.delay ++ named_in r.condition
@@ -75,11 +81,13 @@ is_no_neighbour names (a_cell c) = not ((length c.place == names.dims) && is_som
 is_no_neighbour names (a_variable w) = false
 is_no_neighbour names (a_port w) = false
 
+-- the name of a variable that isn't declared
 abbrev pub is_no_variable : Names → Named → Bool
 is_no_variable names (a_cell c) = false
 is_no_variable names (a_variable w) = not (is_some (variable_number names w))
 is_no_variable names (a_port w) = false
 
+-- the name of a port that isn't declared
 abbrev pub is_no_port : Names → Named → Bool
 is_no_port names (a_cell c) = false
 is_no_port names (a_variable w) = false
@@ -104,6 +112,7 @@ abbrev mutual
   all_numbered names P.nil = E.nil
   all_numbered names (P.cons x xs) = E.cons (numbered names x) (all_numbered names xs)
 
+-- a written rule with numbers in place of names
 abbrev pub rule_in : Names → Written → Rule
 rule_in names r =
     record {
@@ -125,6 +134,7 @@ pub record Extent : Type 0 where
   pub variables : ℕ
   pub ports : ℕ
 
+-- how many neighbours, variables and ports are declared
 abbrev pub extent_of : Names → Extent
 extent_of names = record { offsets = length names.offsets; variables = length names.variables; ports = length names.ports }
 
@@ -145,6 +155,7 @@ abbrev mutual
   are_within n E.nil = true
   are_within n (E.cons x xs) = is_within n x && are_within n xs
 
+-- no number stands twice
 abbrev pub differ : List ℕ → Bool
 differ [] = true
 differ (k ∷ ks) = not (list_any (λ j. j == k) ks) && differ ks

@@ -1,5 +1,5 @@
 use Rattle.std.proofs.Common.{[]}
-use Rattle.rule_syntax.specs.Shown.{names_of}
+use Rattle.rule_words.specs.Shown.{names_of}
 use Rattle.rule_syntax.proofs.Gathered.{assigned_in, gathered_all, gathered_none, part_added, part_refused}
 use Rattle.rule_syntax.proofs.assigned.assign_all.Goals as goal
 

@@ -1,5 +1,5 @@
 use Rattle.std.proofs.Common.{drop}
-use Rattle.rule_syntax.specs.Shown.{names_of}
+use Rattle.rule_words.specs.Shown.{names_of}
 use Rattle.rule_syntax.proofs.Gathered.{Gathered, assigned_in}
 use Rattle.rule_syntax.proofs.assigned.assign_all.Given as goal
 

@@ -2,9 +2,9 @@ use Rattle.std.proofs.Common.{rules, tests}
 use Rattle.std.specs.Prelude.{codes}
 use Rattle.std.proofs.lemmas.Iterator.Consumers.{map_from_collect}
 use Rattle.std.proofs.lemmas.Iterator.Splits.{YieldsList-from_slice_split}
-use Rattle.rule_syntax.specs.Shown.{token_of}
-use Rattle.rule_syntax.specs.Tokens.{is_mark}
-use Rattle.rule_syntax.specs.declared.token.Token as T
+use Rattle.rule_words.specs.Shown.{token_of}
+use Rattle.rule_words.specs.Tokens.{is_mark}
+use Rattle.rule_words.specs.declared.token.Token as T
 use Rattle.rule_syntax.proofs.TokenParts.{parts_collected}
 use Rattle.rule_syntax.proofs.assigned.parts.Goals as goal
 

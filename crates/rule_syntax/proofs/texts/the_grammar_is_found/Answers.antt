@@ -1,6 +1,6 @@
-use Rattle.rule_syntax.proofs.Sound.{phrases_are_found}
+use Rattle.rule_words.proofs.Sound.{phrases_are_found}
 use Rattle.rule_syntax.proofs.Rules.{rules_are_found}
-use Rattle.rule_syntax.proofs.Found.{phrase_found}
+use Rattle.rule_phrases.proofs.Found.{phrase_found}
 use Rattle.rule_syntax.proofs.RulesFound.{rule_found}
 use Rattle.rule_syntax.proofs.texts.the_grammar_is_found.Goals as goal
 

@@ -1,7 +1,7 @@
 use Rattle.std.proofs.Common.{refl}
-use Rattle.rule_syntax.specs.Tokens.{tokens}
-use Rattle.rule_syntax.specs.Reading.{written_rule}
-use Rattle.rule_syntax.specs.RuleOf.{rule_of}
+use Rattle.rule_words.specs.Tokens.{tokens}
+use Rattle.rule_words.specs.Reading.{written_rule}
+use Rattle.rule_words.specs.RuleOf.{rule_of}
 use Rattle.rule_syntax.proofs.texts.tokens_are_bounded.Goals as goal
 
 pub returns : goal.returns

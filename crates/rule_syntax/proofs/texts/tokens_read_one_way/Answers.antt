@@ -1,6 +1,6 @@
 use Rattle.std.proofs.Common.{sym, ◌∙◌}
-use Rattle.rule_syntax.proofs.Sound.{some_same}
-use Rattle.rule_syntax.proofs.Found.{phrase_found}
+use Rattle.rule_words.proofs.Sound.{some_same}
+use Rattle.rule_phrases.proofs.Found.{phrase_found}
 use Rattle.rule_syntax.proofs.RulesFound.{rule_found}
 use Rattle.rule_syntax.proofs.texts.tokens_read_one_way.Goals as goal
 

@@ -1,5 +1,5 @@
 use Rattle.std.proofs.Common.{refl}
-use Rattle.rule_syntax.specs.Shown.{names_of, tokens_of}
+use Rattle.rule_words.specs.Shown.{names_of, tokens_of}
 use Rattle.rule_syntax.proofs.ReadParts.{braced_front, braced_stop}
 use Rattle.rule_syntax.proofs.written.braced_value.Goals as goal
 

@@ -1,6 +1,6 @@
 use Rattle.rule_tree.specs.Phrases as P
-use Rattle.rule_syntax.specs.Reading.{number_before}
-use Rattle.rule_syntax.specs.Shown.{tokens_of}
+use Rattle.rule_words.specs.Reading.{number_before}
+use Rattle.rule_words.specs.Shown.{tokens_of}
 use Rattle.rule_syntax.proofs.ReadParts.{front_read}
 use Rattle.rule_syntax.proofs.written.number_front.Goals as goal
 

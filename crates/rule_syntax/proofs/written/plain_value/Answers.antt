@@ -1,6 +1,6 @@
 use Rattle.std.proofs.Common.{refl}
 use Rattle.rule_syntax.specs.RulesRead.{plain_before}
-use Rattle.rule_syntax.specs.Shown.{names_of, tokens_of}
+use Rattle.rule_words.specs.Shown.{names_of, tokens_of}
 use Rattle.rule_syntax.proofs.ReadParts.{plain_found}
 use Rattle.rule_syntax.proofs.written.plain_value.Goals as goal
 

@@ -1,5 +1,5 @@
 use Rattle.std.proofs.Common.{refl}
-use Rattle.rule_syntax.specs.Shown.{names_of, tokens_of}
+use Rattle.rule_words.specs.Shown.{names_of, tokens_of}
 use Rattle.rule_syntax.specs.declared.named.Kind.TheVariants.{Variable}
 use Rattle.rule_syntax.proofs.ReadParts.{no_sets, sets_front, sets_stop}
 use Rattle.rule_syntax.proofs.written.sets_before.Goals as goal

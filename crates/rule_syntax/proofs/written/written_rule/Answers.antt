@@ -1,6 +1,6 @@
 use Rattle.std.proofs.Common.{None, Some}
-use Rattle.rule_syntax.specs.Reading.{delay_before, last_block, sets_before, value_before}
-use Rattle.rule_syntax.specs.Shown.{names_of, tokens_of}
+use Rattle.rule_words.specs.Reading.{delay_before, last_block, sets_before, value_before}
+use Rattle.rule_words.specs.Shown.{names_of, tokens_of}
 use Rattle.rule_syntax.specs.declared.named.Kind.TheVariants.{Port, Variable}
 use Rattle.rule_syntax.proofs.ReadParts.{front_is, no_condition_read, no_delay_read, no_sets_read, no_value_read, rule_read, term_is, values_are}
 use Rattle.rule_syntax.proofs.written.written_rule.Goals as goal

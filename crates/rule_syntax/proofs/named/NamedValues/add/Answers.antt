@@ -1,7 +1,7 @@
 use Rattle.std.proofs.Common.{◌≡◌, ◌∷◌, ◌++◌, [], ap, refl, rules}
 use Rattle.std.specs.Prelude.{◌&&◌}
 use Rattle.rule_syntax.specs.declared.named.NamedValue.{NamedValue}
-use Rattle.rule_syntax.specs.Shown.{names_of}
+use Rattle.rule_words.specs.Shown.{names_of}
 use Rattle.rule_syntax.proofs.OneMore.{one_more_named, pushed}
 use Rattle.rule_syntax.proofs.named.NamedValues.add.Goals as goal
 

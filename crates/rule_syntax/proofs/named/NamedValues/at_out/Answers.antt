@@ -2,7 +2,7 @@ use Rattle.std.proofs.Common.{◌≡◌, ◌∷◌, ◌++◌, [], List, ℕ, sub
 use Rattle.rule_tree.specs.Phrases.{out}
 use Rattle.rule_syntax.specs.RulesRead.{AreNamed, phrase_for}
 use Rattle.rule_syntax.specs.declared.named.Kind.TheVariants.{Port}
-use Rattle.rule_syntax.specs.Shown.{names_of}
+use Rattle.rule_words.specs.Shown.{names_of}
 use Rattle.rule_syntax.proofs.named.NamedValues.at_out.Goals as goal
 
 pub returns : goal.returns

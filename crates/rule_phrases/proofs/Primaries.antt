@@ -1,0 +1,94 @@
+-- What stands in parentheses is read one level of parentheses deeper.
+use Rattle.std.proofs.Common.{◌≡◌, ◌<◌, ◌≤◌, ℕ, zero, suc, Option, Some, None, List, length, sym, ap, subst, arith}
+use Rattle.std.specs.Option.{option_or}
+use Rattle.rule_words.specs.declared.level.Level as L
+use Rattle.rule_words.specs.declared.level.Level.TheVariants.{Expression, Disjunction, Conjunction, Negation, Comparison, Sum, Product, Signed, Primary}
+use Rattle.rule_tree.specs.declared.function.Function.{Function}
+use Rattle.rule_terms.specs.declared.front.Front.{Front}
+use Rattle.rule_words.specs.Tokens.{Token}
+use Rattle.rule_tree.specs.Phrases.{Phrase, expr, comp, primary}
+use Rattle.rule_tree.specs.Scope.{Names}
+use Rattle.rule_words.specs.Reading.{Part}
+use Rattle.rule_words.specs.Descent.{Reader, then_on, atom_before, opening_before, opened, primary_before, enclosed_before, call_before, prefixed, at_level, reading}
+use Rattle.rule_phrases.specs.Between.{sign_at}
+use Rattle.rule_words.specs.Shown.{level_of, token_of, tokens_of}
+use Rattle.rule_words.specs.declared.token.Token as T
+use Rattle.std.proofs.lemmas.List.{length-map}
+use Rattle.std.specs.Option.{IfSome}
+use Rattle.rule_terms.specs.Terms.{IsFront}
+
+-- how many levels are tighter
+abbrev pub looseness : L.Level → ℕ
+looseness Expression = 8
+looseness Disjunction = 7
+looseness Conjunction = 6
+looseness Negation = 5
+looseness Comparison = 4
+looseness Sum = 3
+looseness Product = 2
+looseness Signed = 1
+looseness Primary = 0
+
+pub deeper : (names : Names) (read : Reader → Part Phrase) (o : Option Front) (n m : ℕ) → m < n → ((k : ℕ) → m ≤ k → IsFront names (read (at_level (reading k) expr)) o) → IsFront names (read (reading n)) o
+deeper names read o zero m h found = absurd (omega arith)
+deeper names read o (suc k) m h found = found k (omega arith)
+
+pub atom_is_primary : (names : Names) (read : Reader) (ts : List Token) (a : Front) → IsFront names (atom_before ts) (Some a) → IsFront names (primary_before read ts) (Some a)
+atom_is_primary names read ts a = go (atom_before ts)
+  where
+    go : (p : Part Phrase) → IsFront names p (Some a) → IsFront names (option_or p (then_on (opening_before ts) (opened read))) (Some a)
+    go None h = absurd h
+    go (Some p) h = h
+
+pub no_primary : (names : Names) (read : Reader) (ts : List Token) → IsFront names (atom_before ts) None → None ≡ opening_before ts → IsFront names (primary_before read ts) None
+no_primary names read ts h e = go (atom_before ts) (opening_before ts) h e
+  where
+    go : (p : Part Phrase) (q : Part (Option Function)) → IsFront names p None → None ≡ q → IsFront names (option_or p (then_on q (opened read))) None
+    go (Some p) q h e = absurd h
+    go None None h e = tt
+    go None (Some q) h e = absurd (cc)
+
+pub opened_is_primary : (names : Names) (read : Reader) (ts us : List Token) (f : Option Function) (o : Option Front) → IsFront names (atom_before ts) None → Some (f, us) ≡ opening_before ts → IsFront names (opened read f us) o → IsFront names (primary_before read ts) o
+opened_is_primary names read ts us f o h e i = go (atom_before ts) h
+  where
+    open_first : then_on (opening_before ts) (opened read) ≡ opened read f us
+    open_first = ap (λ (q : Part (Option Function)). then_on q (opened read)) (sym e)
+
+    go : (p : Part Phrase) → IsFront names p None → IsFront names (option_or p (then_on (opening_before ts) (opened read))) o
+    go (Some p) h = absurd h
+    go None h = let Q : Part Phrase → Type 0 = λ q. IsFront names q o in subst Q (sym open_first) i
+
+-- ---- behind an opening parenthesis
+
+pub enclosed_is_primary : (names : Names) (n m : ℕ) (ts us : List Token) (f : Option Function) (o : Option Front) → IsFront names (atom_before ts) None → Some (f, us) ≡ opening_before ts → f ≡ None → m < n → ((k : ℕ) → m ≤ k → IsFront names (enclosed_before (at_level (reading k) expr) us) o) → IsFront names (primary_before (reading n) ts) o
+enclosed_is_primary names n m ts us f o h e is lt found =
+    let Q : Option Function → Type 0 = λ f. IsFront names (opened (reading n) f us) o in
+    opened_is_primary names (reading n) ts us f o h e (subst Q (sym is) (deeper names (λ read. enclosed_before read us) o n m lt found))
+
+pub call_is_primary : (names : Names) (n m : ℕ) (ts us : List Token) (f : Option Function) (g : Function) (o : Option Front) → IsFront names (atom_before ts) None → Some (f, us) ≡ opening_before ts → f ≡ Some g → m < n → ((k : ℕ) → m ≤ k → IsFront names (call_before g (at_level (reading k) expr) us) o) → IsFront names (primary_before (reading n) ts) o
+call_is_primary names n m ts us f g o h e is lt found =
+    let Q : Option Function → Type 0 = λ f. IsFront names (opened (reading n) f us) o in
+    opened_is_primary names (reading n) ts us f o h e (subst Q (sym is) (deeper names (λ read. call_before g read us) o n m lt found))
+
+-- ---- levels
+
+pub at_negation : (names : Names) (l : L.Level) (read : Reader) (ts : List Token) (o : Option Front) → l ≡ Negation → IsFront names (prefixed (sign_at (level_of l)) (at_level read comp) ts) o → IsFront names (at_level read (level_of l) ts) o
+at_negation names l read ts o e h =
+    let Q : L.Level → Type 0 = λ l. IsFront names (prefixed (sign_at (level_of l)) (at_level read comp) ts) o → IsFront names (at_level read (level_of l) ts) o in
+    subst Q (sym e) (λ h. h) h
+
+pub at_signed : (names : Names) (l : L.Level) (read : Reader) (ts : List Token) (o : Option Front) → l ≡ Signed → IsFront names (prefixed (sign_at (level_of l)) (at_level read primary) ts) o → IsFront names (at_level read (level_of l) ts) o
+at_signed names l read ts o e h =
+    let Q : L.Level → Type 0 = λ l. IsFront names (prefixed (sign_at (level_of l)) (at_level read primary) ts) o → IsFront names (at_level read (level_of l) ts) o in
+    subst Q (sym e) (λ h. h) h
+
+pub at_primary : (names : Names) (l : L.Level) (read : Reader) (ts : List Token) (o : Option Front) → l ≡ Primary → IsFront names (primary_before read ts) o → IsFront names (at_level read (level_of l) ts) o
+at_primary names l read ts o e h = let Q : L.Level → Type 0 = λ l. IsFront names (at_level read (level_of l) ts) o in subst Q (sym e) h
+
+-- ---- tokens
+
+pub tokens_length : (ts : List T.Token) → length (tokens_of ts) ≡ length ts
+tokens_length ts = length-map ts token_of
+
+pub shorter_at : (o : Option Front) (f : Front) (n : ℕ) → IfSome o (λ f. length f.rest.now < n) → o ≡ Some f → length f.rest.now < n
+shorter_at o f n h e = let Q : Option Front → Type 0 = λ o. IfSome o (λ f. length f.rest.now < n) in subst Q e h

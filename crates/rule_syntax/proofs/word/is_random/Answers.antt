@@ -1,4 +1,0 @@
-use Rattle.rule_syntax.proofs.word.is_random.Goals as goal
-
-pub returns : goal.returns
-returns c = c.is_in.ensures

@@ -1,0 +1,4 @@
+use Rattle.rule_words.proofs.word.is_random.Goals as goal
+
+pub returns : goal.returns
+returns c = c.is_in.ensures

@@ -1,0 +1,9 @@
+pub mod Tokens
+pub mod RuleOf
+pub mod Reading
+pub mod AtomParts
+pub mod TokenSteps
+pub mod Shown
+pub mod CellParts
+pub mod Descent
+pub mod Grammar
