@@ -7,20 +7,27 @@ use Rattle.rule_tree.specs.declared.node.Unary.TheVariants.{Not}
 use Rattle.rule_tree.specs.declared.node.Binary.{Binary}
 use Rattle.rule_tree.specs.declared.node.Binary.TheVariants.{And, Or}
 use Rattle.rule_tree.specs.Meaning.{Sight, one_meaning, two_meaning, with_answer, meaning}
+use Rattle.rule_eval.specs.declared.forms.PlainTest.{PlainTest}
+use Rattle.rule_eval.specs.declared.forms.PlainTest.TheVariants.{Truth, NeighbourIs, CountIs}
 use Rattle.rule_eval.specs.declared.forms.Test.{Test}
-use Rattle.rule_eval.specs.declared.forms.Test.TheVariants.{Truth, NeighbourIs, CountIs, Not', Both', Either'}
-use Rattle.rule_eval.specs.Forms.{expr_of_test}
-use Rattle.rule_eval.specs.Tests.{test_truth}
+use Rattle.rule_eval.specs.declared.forms.Test.TheVariants.{Plain, Not', Both', Either', PlainBoth', PlainEither'}
+use Rattle.rule_eval.specs.Forms.{expr_of_plain, expr_of_test}
+use Rattle.rule_eval.specs.Tests.{plain_truth, test_truth}
 
 joined : (b : Binary) (m n : Option Answer) (x y : Answer) → m ≡ Some x → n ≡ Some y → with_answer m (λ p. with_answer n (two_meaning b p)) ≡ two_meaning b x y
 joined b m n x y left right =
     ap (λ (o : Option Answer). with_answer o (λ p. with_answer n (two_meaning b p))) left ∙ ap (λ (o : Option Answer). with_answer o (two_meaning b x)) right
 
+plain_means : (t : PlainTest) (s : Sight) → meaning (expr_of_plain t) s ≡ Some (Logic (plain_truth t s.neighbours))
+plain_means (Truth t) s = refl
+plain_means (NeighbourIs how k p v) s = refl
+plain_means (CountIs how c v) s = refl
+
 -- a test has a truth value: nothing in it is too large
 pub test_means : (t : Test) (s : Sight) → meaning (expr_of_test t) s ≡ Some (Logic (test_truth t s.neighbours))
-test_means (Truth t) s = refl
-test_means (NeighbourIs how k p v) s = refl
-test_means (CountIs how c v) s = refl
+test_means (Plain t) s = plain_means t s
 test_means (Not' p a) s = ap (λ (o : Option Answer). with_answer o (one_meaning Not)) (test_means a s)
 test_means (Both' p a q b) s = joined And _ _ _ _ (test_means a s) (test_means b s)
 test_means (Either' p a q b) s = joined Or _ _ _ _ (test_means a s) (test_means b s)
+test_means (PlainBoth' a p b) s = joined And _ _ _ _ (plain_means a s) (test_means b s)
+test_means (PlainEither' a p b) s = joined Or _ _ _ _ (plain_means a s) (test_means b s)

@@ -20,20 +20,25 @@ pub record Made : Type 0 where
   pub delay : ℕ
   pub variables : List Value
 
+-- what rules make, or why they stop
 abbrev pub Outcome : Type 0
 Outcome = Result Made RuleStop
 
+-- the number of an answer, or an overflow
 abbrev pub number_or_stop : Option Answer → Result Value RuleStop
 number_or_stop None = Err Overflow
 number_or_stop (Some a) = Ok (number_in a)
 
+-- the truth value of an answer, or an overflow
 abbrev pub truth_or_stop : Option Answer → Result Tri RuleStop
 truth_or_stop None = Err Overflow
 truth_or_stop (Some a) = Ok (truth_in a)
 
+-- the truth value that code gives
 abbrev pub truth_by_code : List Op → Sight → Result Tri RuleStop
 truth_by_code code s = truth_or_stop (answer_of code s)
 
+-- the number that code gives
 abbrev pub number_by_code : List Op → Sight → Result Value RuleStop
 number_by_code code s = number_or_stop (answer_of code s)
 
@@ -47,10 +52,12 @@ abbrev pub set_by_code : List (ℕ × List Op) → Sight → Result (List Value)
 set_by_code [] s = Ok s.variables
 set_by_code (x ∷ xs) s = after (number_by_code x.1 s) (λ v. set_by_code xs (record s { variables = set s.variables x.0 v }))
 
+-- a delay that is a time; else BadDelay
 abbrev pub delay_or_stop : Value → Option ℕ → Result ℕ RuleStop
 delay_or_stop v None = Err (BadDelay v)
 delay_or_stop v (Some ms) = Ok ms
 
+-- the delay that a value is
 abbrev pub delay_in : Value → Result ℕ RuleStop
 delay_in v = delay_or_stop v (delay_of v)
 
@@ -59,12 +66,15 @@ abbrev pub made_of : Result (List (Option Value)) RuleStop → Result Value Rule
 made_of values delay variables =
     after values (λ vs. after delay (λ d. after (delay_in d) (λ ms. after variables (λ xs. Ok (record { values = vs; delay = ms; variables = xs })))))
 
+-- no port gives a value
 abbrev pub no_values : List (Option Value)
 no_values = None ∷ None ∷ None ∷ None ∷ []
 
+-- what a rule makes by its code
 abbrev pub made_by_code : Codes → Sight → Outcome
 made_by_code r s = made_of (given_by_code r.gives s no_values) (number_by_code r.delay s) (set_by_code r.sets s)
 
+-- only a true condition counts
 abbrev pub if_holds : Tri → Outcome → Outcome → Outcome
 if_holds True now later = now
 if_holds False now later = later

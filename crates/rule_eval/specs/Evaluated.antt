@@ -16,6 +16,7 @@ pub record IsGiven (g : rules.Given) (given : Given) (ms : ℕ) (after : List Va
   pub delay : ms ≡ g.delay
   pub variables : after ≡ g.variables
 
+-- evaluation gives what the chosen rule gives
 abbrev pub Evaluates : Chosen → Result (Given × ℕ) RuleStop → List Value → Type 0
 Evaluates (Ok g) (Ok r) variables = IsGiven g r.0 r.1 variables
 Evaluates (Ok g) (Err stop) variables = ⊥
@@ -28,18 +29,21 @@ pub record IsMade (m : Made) (given : Given) (ms : ℕ) (after : List Value) : T
   pub delay : ms ≡ m.delay
   pub variables : after ≡ m.variables
 
+-- evaluation makes what the code makes
 abbrev pub Makes : Outcome → Result (Given × ℕ) RuleStop → List Value → Type 0
 Makes (Ok m) (Ok r) variables = IsMade m r.0 r.1 variables
 Makes (Ok m) (Err stop) variables = ⊥
 Makes (Err why) (Ok r) variables = ⊥
 Makes (Err why) (Err stop) variables = stop ≡ why
 
+-- these values are given, or the same stop
 abbrev pub GivesValues : Result (List (Option Value)) RuleStop → Result Given RuleStop → Type 0
 GivesValues (Ok values) (Ok given) = given.values ≡ values
 GivesValues (Ok values) (Err stop) = ⊥
 GivesValues (Err why) (Ok given) = ⊥
 GivesValues (Err why) (Err stop) = stop ≡ why
 
+-- the variables have these values, or the same stop
 abbrev pub SetsVariables : {U : Type 0} → Result (List Value) RuleStop → Result U RuleStop → List Value → Type 0
 SetsVariables (Ok xs) (Ok u) variables = variables ≡ xs
 SetsVariables (Ok xs) (Err stop) variables = ⊥

@@ -4,18 +4,26 @@ use Rattle.rule_tree.specs.declared.node.Unary.TheVariants.{Not}
 use Rattle.rule_tree.specs.declared.node.Binary.TheVariants.{Or, And, Cmp, Add}
 use Rattle.rule_tree.specs.Expression.{Expr, Exprs, number, truth, neighbour, variable, now, port_value, counted, one, two, call, nil, cons}
 use Rattle.rule_eval.specs.declared.forms.PortAt.{PortAt}
+use Rattle.rule_eval.specs.declared.forms.PlainTest.{PlainTest}
+use Rattle.rule_eval.specs.declared.forms.PlainTest.TheVariants.{Truth, NeighbourIs, CountIs}
 use Rattle.rule_eval.specs.declared.forms.Test.{Test}
-use Rattle.rule_eval.specs.declared.forms.Test.TheVariants.{Truth, NeighbourIs, CountIs, Not', Both', Either'}
+use Rattle.rule_eval.specs.declared.forms.Test.TheVariants.{Plain, Not', Both', Either', PlainBoth', PlainEither'}
 use Rattle.rule_eval.specs.declared.forms.Form.{Form, Row_of-Form, end_of-Form, more_of-Form}
 use Rattle.rule_eval.specs.declared.forms.Form.TheVariants.{Number, Neighbour, Variable, Now, PortValue, Counted, Test as Tests, Sum, One', Two', Call'}
 
+abbrev pub expr_of_plain : PlainTest → Expr
+expr_of_plain (Truth t) = truth t
+expr_of_plain (NeighbourIs how k p v) = two (Cmp how) (neighbour k p) (number v)
+expr_of_plain (CountIs how c v) = two (Cmp how) (counted c) (number v)
+
+-- the expression that a test stands for
 abbrev pub expr_of_test : Test → Expr
-expr_of_test (Truth t) = truth t
-expr_of_test (NeighbourIs how k p v) = two (Cmp how) (neighbour k p) (number v)
-expr_of_test (CountIs how c v) = two (Cmp how) (counted c) (number v)
+expr_of_test (Plain t) = expr_of_plain t
 expr_of_test (Not' p a) = one Not (expr_of_test a)
 expr_of_test (Both' p a q b) = two And (expr_of_test a) (expr_of_test b)
 expr_of_test (Either' p a q b) = two Or (expr_of_test a) (expr_of_test b)
+expr_of_test (PlainBoth' a p b) = two And (expr_of_plain a) (expr_of_test b)
+expr_of_test (PlainEither' a p b) = two Or (expr_of_plain a) (expr_of_test b)
 
 -- an expression, to which neighbours' values are added one after another
 abbrev pub plus_all : Expr → List PortAt → Expr
@@ -40,6 +48,7 @@ abbrev mutual
   exprs_of_row end_of-Form = nil
   exprs_of_row (more_of-Form a rest) = cons (expr_of_form a) (exprs_of_row rest)
 
+-- expressions one after another
 abbrev pub exprs_in : List Expr → Exprs
 exprs_in [] = nil
 exprs_in (e ∷ es) = cons e (exprs_in es)

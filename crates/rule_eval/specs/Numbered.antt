@@ -5,5 +5,6 @@ use Rattle.rule_eval.specs.declared.numbered.NumberedForm.{NumberedForm}
 use Rattle.rule_eval.specs.Code.{code_of}
 use Rattle.rule_eval.specs.Forms.{expr_of_form}
 
+-- a numbered form as numbered code
 abbrev pub plain : NumberedForm → ℕ × List Op
 plain f = (f.number, code_of (expr_of_form f.form))

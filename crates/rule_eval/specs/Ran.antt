@@ -16,10 +16,12 @@ abbrev pub topmost : List Answer → Answer
 topmost [] = Num Undefined
 topmost (a ∷ st) = a
 
+-- the answer that is left on the stack
 abbrev pub left_by : Option (List Answer) → Option Answer
 left_by None = None
 left_by (Some st) = Some (topmost st)
 
+-- the answer of code that begins with an empty stack
 abbrev pub answer_of : List Op → Sight → Option Answer
 answer_of code s = left_by (exec code s [])
 

@@ -21,6 +21,7 @@ coded g = (g.0, code_of g.1)
 abbrev pub codes_of : Rule → Codes
 codes_of r = record { gives = map coded r.gives; delay = code_of r.delay; condition = code_of r.condition; sets = map coded r.sets }
 
+-- the most depth that any of these codes needs
 abbrev pub deepest : List (ℕ × List Op) → ℕ
 deepest [] = 0
 deepest (g ∷ gs) = max (depth_of g.1) (deepest gs)
@@ -47,6 +48,7 @@ abbrev mutual
   nodes_of_all E.nil = 0
   nodes_of_all (E.cons a rest) = nodes_of a + nodes_of_all rest
 
+-- how many nodes these expressions have
 abbrev pub nodes_in : List (ℕ × Expr) → ℕ
 nodes_in [] = 0
 nodes_in (g ∷ gs) = nodes_of g.1 + nodes_in gs

@@ -27,6 +27,7 @@ abbrev pub seen : View → List Value → Sight
 seen v variables =
     record { time = v.time; place = v.place; dims = v.dims; neighbours = neighbours_of v; port = v.port; variables = variables }
 
+-- what a view shows
 abbrev pub sight_of : View → Sight
 sight_of v = seen v v.variables.now
 

@@ -10,6 +10,7 @@ use Rattle.rule_eval.specs.declared.forms.PortAt.{PortAt}
 abbrev pub port_value_at : List (List Value) → ℕ → ℕ → Value
 port_value_at nbs k p = value_at (unwrap_or (slice_get nbs k) []) p
 
+-- over a value, where no sum overflowed
 abbrev pub with_value : Option Value → (Value → Option Value) → Option Value
 with_value None go = None
 with_value (Some v) go = go v

@@ -1,25 +1,26 @@
 // What forms answer over a view.
-ghost use Rattle.std.specs.Prelude.{◌≡◌, ◌+◌, ◌<◌, ◌≤◌, Some, None, [], ◌∷◌, ◌++◌, List, MatchResult, OnOk, vec_len, vec_capacity};
+ghost use Rattle.std.specs.Prelude.{◌≡◌, IfSome, ◌+◌, ◌<◌, ◌≤◌, Some, None, [], ◌∷◌, ◌++◌, List, MatchResult, OnOk, vec_len, vec_capacity};
 ghost use Rattle.std.specs.Result.{result_ok};
 ghost use Rattle.quantity.specs.declared.value.Value.{Value as AnyValue};
-ghost use Rattle.rule_tree.specs.Meaning.{meaning, meanings};
-ghost use Rattle.rule_eval.specs.Seen.{IsView, neighbours_of, seen};
+ghost use Rattle.rule_tree.specs.Expression as E;
+ghost use Rattle.rule_tree.specs.Meaning.{outs, whole, counted, meaning, meanings};
+ghost use Rattle.rule_eval.specs.Seen.{IsView, neighbours_of, seen, sight_of};
 ghost use Rattle.rule_eval.specs.Kept.{AreCounts};
 ghost use Rattle.rule_eval.specs.Code.{code_of, codes_of};
 ghost use Rattle.rule_eval.specs.Depth.{depth_from, depth_of};
 ghost use Rattle.rule_eval.specs.Ran.{answer_of, or_stop};
 ghost use Rattle.rule_eval.specs.Forms.{expr_of_form, exprs_of_forms};
-ghost use Rattle.rule_eval.specs.Tests.{test_truth};
+ghost use Rattle.rule_eval.specs.Tests.{plain_truth, test_truth};
 ghost use Rattle.rule_eval.specs.Sums.{port_value_at, sum_from};
 ghost use Rattle.rule_eval.specs.Stacked.{stacked};
 
 use crate::apply::{apply_binary, apply_function, apply_unary, as_answer};
 use crate::counts::Counts;
-use crate::forms::{Form, PortAt, Test};
+use crate::forms::{Form, PlainTest, PortAt, Test};
 use crate::seen::{neighbour, value_at, whole};
 use crate::view::View;
 use quantity::{Overflow, Tri, Value};
-use rule_tree::{Answer, RuleStop};
+use rule_tree::{Answer, Count, RuleStop};
 
 /// What a test answers. The right operand of `and` and `or` is left where the left one decides.
 pub(crate) fn truth(test: &Test, view: &View, counts: &mut Counts) -> Tri
@@ -29,11 +30,7 @@ pub(crate) fn truth(test: &Test, view: &View, counts: &mut Counts) -> Tri
     ensures counts { AreCounts counts.new view.now }
 {
     match test {
-        Test::Truth(truth) => *truth,
-        Test::NeighbourIs(how, k, port, number) => {
-            neighbour(view, *k, *port).compare(*how, *number)
-        }
-        Test::CountIs(how, count, number) => counts.number(*count, view).compare(*how, *number),
+        Test::Plain(test) => plain_truth(test, view, counts),
         Test::Not(a) => truth(a, view, counts).not(),
         Test::Both(a, b) => match truth(a, view, counts) {
             Tri::True => truth(b, view, counts),
@@ -45,7 +42,47 @@ pub(crate) fn truth(test: &Test, view: &View, counts: &mut Counts) -> Tri
             Tri::False => truth(b, view, counts),
             Tri::Undef => Tri::Undef.or(truth(b, view, counts)),
         },
+        Test::PlainBoth(a, b) => match plain_truth(a, view, counts) {
+            Tri::True => truth(b, view, counts),
+            Tri::False => Tri::False,
+            Tri::Undef => Tri::Undef.and(truth(b, view, counts)),
+        },
+        Test::PlainEither(a, b) => match plain_truth(a, view, counts) {
+            Tri::True => Tri::True,
+            Tri::False => truth(b, view, counts),
+            Tri::Undef => Tri::Undef.or(truth(b, view, counts)),
+        },
     }
+}
+
+/// What a test answers that is made of no others.
+#[inline(always)]
+fn plain_truth(test: &PlainTest, view: &View, counts: &mut Counts) -> Tri
+    requires view { IsView view.now }
+    requires counts { AreCounts counts.old view.now }
+    ensures value { result ≡ plain_truth test.now (neighbours_of view.now) }
+    ensures counts { AreCounts counts.new view.now }
+{
+    match test {
+        PlainTest::Truth(truth) => *truth,
+        PlainTest::NeighbourIs(how, k, port, number) => {
+            neighbour(view, *k, *port).compare(*how, *number)
+        }
+        PlainTest::CountIs(how, count, number) => {
+            number_counted(*count, view, counts).compare(*how, *number)
+        }
+    }
+}
+
+/// The number of neighbours that a word counts, as a value.
+#[inline(always)]
+fn number_counted(count: Count, view: &View, counts: &mut Counts) -> Value
+    requires view { IsView view.now }
+    requires counts { AreCounts counts.old view.now }
+    ensures value { result ≡ whole (counted count (outs (sight_of view.now))) }
+    ensures counts { AreCounts counts.new view.now }
+{
+    whole(u64::from(counts.number(count, view)))
 }
 
 /// A value, to which those of neighbours are added one after another.
@@ -85,7 +122,7 @@ fn answer(
         Form::Variable(k) => Ok(Answer::Num(value_at(variables, usize::from(*k)))),
         Form::Now => Ok(Answer::Num(whole(u64::from(view.time.ms())))),
         Form::PortValue => Ok(Answer::Num(view.port)),
-        Form::Counted(count) => Ok(Answer::Num(counts.number(*count, view))),
+        Form::Counted(count) => Ok(Answer::Num(number_counted(*count, view, counts))),
         Form::Test(test) => Ok(Answer::Logic(truth(test, view, counts))),
         Form::Sum(k, port, more) => as_answer(sum(neighbour(view, *k, *port), more, view)),
         Form::One(operator, a) => {
@@ -94,8 +131,13 @@ fn answer(
         }
         Form::Two(operator, a, c) => {
             let a = answer(a, view, variables, counts, answers)?;
-            let c = answer(c, view, variables, counts, answers)?;
-            apply_binary(*operator, a, c)
+            match plain_number(c) {
+                Some(number) => apply_binary(*operator, a, Answer::Num(number)),
+                None => {
+                    let c = answer(c, view, variables, counts, answers)?;
+                    apply_binary(*operator, a, c)
+                }
+            }
         }
         Form::Call(function, arguments) => {
             let below = answers.len();
@@ -104,6 +146,16 @@ fn answer(
             answers.truncate(below);
             Ok(made)
         }
+    }
+}
+
+/// The number that a form is, where it is no more than that.
+pub(crate) fn plain_number(form: &Form) -> Option<Value>
+    ensures { IfSome result (λ v. expr_of_form form.now ≡ E.number v) }
+{
+    match form {
+        Form::Number(value) => Some(*value),
+        _ => None,
     }
 }
 

@@ -1,20 +1,19 @@
 // Counts that are made at most once in one evaluation.
 ghost use Rattle.std.specs.Prelude.{◌≡◌, IfSome};
-ghost use Rattle.rule_tree.specs.Meaning.{outs, whole, counted};
+ghost use Rattle.rule_tree.specs.Meaning.{outs, counted};
 ghost use Rattle.rule_eval.specs.Seen.{IsView, sight_of};
 ghost use Rattle.rule_eval.specs.Kept.{AreCounts};
 
 use crate::seen::counted;
 use crate::view::View;
-use quantity::Value;
 use rule_tree::Count;
 
 /// The numbers of neighbours that words count over one view, each from when it is first asked for.
 #[derive(Clone, Copy)]
 pub struct Counts {
-    ones: Option<Value>,
-    zeros: Option<Value>,
-    undefs: Option<Value>,
+    ones: Option<u8>,
+    zeros: Option<u8>,
+    undefs: Option<u8>,
 }
 
 impl Counts {
@@ -31,10 +30,10 @@ impl Counts {
     }
 
     /// The number of neighbours that a word counts.
-    pub(crate) fn number(&mut self, count: Count, view: &View) -> Value
+    pub(crate) fn number(&mut self, count: Count, view: &View) -> u8
         requires view { IsView view.now }
         requires counts { AreCounts self.old view.now }
-        ensures value { result ≡ whole (counted count (outs (sight_of view.now))) }
+        ensures value { result ≡ counted count (outs (sight_of view.now)) }
         ensures counts { AreCounts self.new view.now }
     {
         match count {
@@ -61,10 +60,10 @@ impl Counts {
 }
 
 /// The number that a word counts, which may be known.
-fn known(number: &Option<Value>, count: Count, view: &View) -> Value
+fn known(number: &Option<u8>, count: Count, view: &View) -> u8
     requires view { IsView view.now }
-    requires known { IfSome number.now (λ n. n ≡ whole (counted count (outs (sight_of view.now)))) }
-    ensures { result ≡ whole (counted count (outs (sight_of view.now))) }
+    requires known { IfSome number.now (λ n. n ≡ counted count (outs (sight_of view.now))) }
+    ensures { result ≡ counted count (outs (sight_of view.now)) }
 {
     match number {
         Some(number) => *number,

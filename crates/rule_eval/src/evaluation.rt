@@ -1,6 +1,5 @@
 // Evaluation of rules on a stack.
-ghost use Rattle.std.specs.Prelude.{◌≡◌, ◌≤◌, List, All, IfOk, IfSome, map, length, vec_capacity, slice_set};
-ghost use Rattle.rule_tree.specs.Expression as E;
+ghost use Rattle.std.specs.Prelude.{◌≡◌, ◌≤◌, List, All, IfOk, map, length, vec_capacity, slice_set};
 ghost use Rattle.rule_tree.specs.Expression.{Rule};
 ghost use Rattle.rule_tree.specs.Chosen.{chosen};
 ghost use Rattle.rule_eval.specs.Seen.{IsView, seen, sight_of};
@@ -13,7 +12,7 @@ ghost use Rattle.rule_eval.specs.Numbered.{plain};
 ghost use Rattle.rule_eval.specs.ByCode.{no_values, number_by_code, truth_by_code, given_by_code, set_by_code, delay_in, made_by_code, first_by_code};
 ghost use Rattle.rule_eval.specs.Evaluated.{Evaluates, Makes, GivesValues, SetsVariables};
 
-use crate::answers::{run, truth};
+use crate::answers::{plain_number, run, truth};
 use crate::apply::{number_in, truth_in};
 use crate::counts::Counts;
 use crate::forms::Form;
@@ -222,16 +221,6 @@ fn number(
     match run(form, view, variables, counts, answers) {
         Ok(answer) => Ok(number_in(answer)),
         Err(stop) => Err(stop),
-    }
-}
-
-/// The number that a form is, where it is no more than that.
-fn plain_number(form: &Form) -> Option<Value>
-    ensures { IfSome result (λ v. expr_of_form form.now ≡ E.number v) }
-{
-    match form {
-        Form::Number(value) => Some(*value),
-        _ => None,
     }
 }
 

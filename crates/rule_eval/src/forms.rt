@@ -9,17 +9,26 @@ pub struct PortAt {
     pub port: u8,
 }
 
-/// A test none of whose parts can be too large.
-#[derive(Drop)]
-pub enum Test {
+/// A test that is made of no other tests.
+#[derive(Clone, Copy)]
+pub enum PlainTest {
     Truth(Tri),
     /// A neighbour's value, compared with a number.
     NeighbourIs(Compare, u8, u8, Value),
     /// A count, compared with a number.
     CountIs(Compare, Count, Value),
+}
+
+/// A test none of whose parts can be too large.
+#[derive(Drop)]
+pub enum Test {
+    Plain(PlainTest),
     Not(Box<Test>),
     Both(Box<Test>, Box<Test>),
     Either(Box<Test>, Box<Test>),
+    /// `and`, `or` whose left operand is plain: it stands in the node itself.
+    PlainBoth(PlainTest, Box<Test>),
+    PlainEither(PlainTest, Box<Test>),
 }
 
 /// An expression as it is evaluated: like the tree of a rule, with what often stands together in one node.

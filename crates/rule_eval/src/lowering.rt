@@ -2,9 +2,9 @@
 ghost use Rattle.std.specs.Prelude.{◌≡◌, ◌∷◌, ◌++◌, [], IfOk, OnOk, map};
 ghost use Rattle.rule_tree.specs.Expression as E;
 ghost use Rattle.rule_tree.specs.Expression.{expr_of};
-ghost use Rattle.rule_eval.specs.Forms.{expr_of_form};
+ghost use Rattle.rule_eval.specs.Forms.{expr_of_form, expr_of_test};
 
-use crate::forms::{Form, PortAt, Test};
+use crate::forms::{Form, PlainTest, PortAt, Test};
 use quantity::{Compare, OutOfMemory};
 use rule_tree::{Binary, Node, Unary};
 use std::alloc::{AllocError, Global};
@@ -16,7 +16,7 @@ pub(crate) fn form_of(alloc: Global, node: &Node) -> Result<Form, OutOfMemory>
 {
     match node {
         Node::Number(value) => Ok(Form::Number(*value)),
-        Node::Truth(truth) => Ok(Form::Test(Test::Truth(*truth))),
+        Node::Truth(truth) => Ok(Form::Test(Test::Plain(PlainTest::Truth(*truth)))),
         Node::Neighbour(k, port) => Ok(Form::Neighbour(*k, *port)),
         Node::Variable(k) => Ok(Form::Variable(*k)),
         Node::Now => Ok(Form::Now),
@@ -95,11 +95,23 @@ fn both(alloc: Global, a: Form, c: Form) -> Result<Form, OutOfMemory>
 {
     match (a, c) {
         (Form::Test(a), Form::Test(c)) => {
-            let a = Box::new(alloc, a).map_err(AllocError::from)?;
-            let c = Box::new(alloc, c).map_err(AllocError::from)?;
-            Ok(Form::Test(Test::Both(a, c)))
+            let test = both_tests(alloc, a, c)?;
+            Ok(Form::Test(test))
         }
         (a, c) => two_of(alloc, Binary::And, a, c),
+    }
+}
+
+fn both_tests(alloc: Global, a: Test, c: Test) -> Result<Test, OutOfMemory>
+    ensures { IfOk result (λ test. expr_of_test test ≡ E.two Binary.And (expr_of_test a) (expr_of_test c)) }
+{
+    let c = Box::new(alloc, c).map_err(AllocError::from)?;
+    match a {
+        Test::Plain(a) => Ok(Test::PlainBoth(a, c)),
+        a => {
+            let a = Box::new(alloc, a).map_err(AllocError::from)?;
+            Ok(Test::Both(a, c))
+        }
     }
 }
 
@@ -108,11 +120,23 @@ fn either(alloc: Global, a: Form, c: Form) -> Result<Form, OutOfMemory>
 {
     match (a, c) {
         (Form::Test(a), Form::Test(c)) => {
-            let a = Box::new(alloc, a).map_err(AllocError::from)?;
-            let c = Box::new(alloc, c).map_err(AllocError::from)?;
-            Ok(Form::Test(Test::Either(a, c)))
+            let test = either_tests(alloc, a, c)?;
+            Ok(Form::Test(test))
         }
         (a, c) => two_of(alloc, Binary::Or, a, c),
+    }
+}
+
+fn either_tests(alloc: Global, a: Test, c: Test) -> Result<Test, OutOfMemory>
+    ensures { IfOk result (λ test. expr_of_test test ≡ E.two Binary.Or (expr_of_test a) (expr_of_test c)) }
+{
+    let c = Box::new(alloc, c).map_err(AllocError::from)?;
+    match a {
+        Test::Plain(a) => Ok(Test::PlainEither(a, c)),
+        a => {
+            let a = Box::new(alloc, a).map_err(AllocError::from)?;
+            Ok(Test::Either(a, c))
+        }
     }
 }
 
@@ -121,10 +145,10 @@ fn compared(alloc: Global, how: Compare, a: Form, c: Form) -> Result<Form, OutOf
 {
     match (a, c) {
         (Form::Neighbour(k, port), Form::Number(value)) => {
-            Ok(Form::Test(Test::NeighbourIs(how, k, port, value)))
+            Ok(Form::Test(Test::Plain(PlainTest::NeighbourIs(how, k, port, value))))
         }
         (Form::Counted(count), Form::Number(value)) => {
-            Ok(Form::Test(Test::CountIs(how, count, value)))
+            Ok(Form::Test(Test::Plain(PlainTest::CountIs(how, count, value))))
         }
         (a, c) => two_of(alloc, Binary::Cmp(how), a, c),
     }

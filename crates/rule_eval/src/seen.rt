@@ -1,6 +1,7 @@
 // What a view shows: neighbours, counts and coordinates.
 ghost use Rattle.std.specs.Prelude.{◌≡◌, ◌≤◌, ◌^◌, List, [], length, slice_get};
 ghost use Rattle.std.specs.Option.{unwrap_or};
+ghost use Rattle.quantity.specs.declared.value.Value.{Value as AnyValue};
 ghost use Rattle.quantity.specs.Arithmetic.{same_value};
 ghost use Rattle.rule_tree.specs.Meaning.{value_at, whole, outs, how_many, counted, state_count, coordinates, cell_position};
 ghost use Rattle.rule_eval.specs.Seen.{IsView, neighbours_of, seen, sight_of, whole_number_in};
@@ -83,13 +84,60 @@ fn how_many_in(wanted: &Value, values: &[Value]) -> u64
     ensures value { result ≡ how_many wanted.now values.now }
     ensures bounded { result ≤ 128 }
 {
+    match wanted {
+        Value::Undefined => how_many_undefined(values),
+        Value::Num(raw) => how_many_numbers(raw.get(), values),
+    }
+}
+
+/// How many of these values are `?`.
+fn how_many_undefined(values: &[Value]) -> u64
+    requires { length values.now ≤ 128 }
+    ensures value { result ≡ how_many AnyValue.Undefined values.now }
+    ensures bounded { result ≤ 128 }
+{
     let mut count = 0;
     for value in values {
-        if is_same(wanted, value) {
+        if is_undefined(value) {
             count += 1;
         }
     }
     count
+}
+
+#[inline(always)]
+fn is_undefined(value: &Value) -> bool
+    ensures { result ≡ same_value AnyValue.Undefined value.now }
+{
+    match value {
+        Value::Undefined => true,
+        Value::Num(_) => false,
+    }
+}
+
+/// How many of these values are this number.
+fn how_many_numbers(wanted: i64, values: &[Value]) -> u64
+    requires { length values.now ≤ 128 }
+    ensures value { result ≡ how_many (AnyValue.Num wanted) values.now }
+    ensures bounded { result ≤ 128 }
+{
+    let mut count = 0;
+    for value in values {
+        if is_number(wanted, value) {
+            count += 1;
+        }
+    }
+    count
+}
+
+#[inline(always)]
+fn is_number(wanted: i64, value: &Value) -> bool
+    ensures { result ≡ same_value (AnyValue.Num wanted) value.now }
+{
+    match value {
+        Value::Undefined => false,
+        Value::Num(raw) => wanted == raw.get(),
+    }
 }
 
 /// The same where they have further ports.
@@ -123,12 +171,13 @@ fn is_same(a: &Value, b: &Value) -> bool
 }
 
 /// The number of neighbours that a word counts.
-pub(crate) fn counted(count: Count, view: &View) -> Value
+#[inline(never)]
+pub(crate) fn counted(count: Count, view: &View) -> u8
     requires { IsView view.now }
-    ensures { result ≡ whole (counted count (outs (sight_of view.now))) }
+    ensures { result ≡ counted count (outs (sight_of view.now)) }
 {
     let wanted = counted_value(count);
-    whole(how_many(&wanted, view))
+    how_many(&wanted, view) as u8
 }
 
 /// The value that a word counts.

@@ -41,13 +41,13 @@ answer-answer-requires-in-Two t c =
     let fits = subst (λ (f : Form). depth_from (code_of (expr_of_form f)) h ≤ room) (sym c.deref-in-Two.ensures) part in
     (search (rules, the_lemmas), (c.requires.view, (c.requires.counts, fits)))
 
-pub answer-answer-requires-in-Two-2 : goal.answer-answer-requires-in-Two-2
-answer-answer-requires-in-Two-2 t c =
+pub answer-answer-requires-in-None : goal.answer-answer-requires-in-None
+answer-answer-requires-in-None t c =
     let before = c.args.answers.now in
     let now = c.answer-in-Two.new.answers in
     let part = right_room c.in-Two.operator (expr_of_form c.args.form.now) (expr_of_form c.in-Two.a.value) (expr_of_form c.in-Two.c.value) (vec_len before) (vec_capacity before) (ap expr_of_form c.in-Two.is) c.requires.room in
     let moved = moved_room (code_of (expr_of_form c.in-Two.c.value)) (vec_len before) (vec_len now) (vec_capacity before) (vec_capacity now) (same_height before now c.in_ok-a-in-Two.ensures.stack) c.in_ok-a-in-Two.ensures.capacity part in
-    let fits = subst (λ (f : Form). depth_from (code_of (expr_of_form f)) (vec_len now) ≤ vec_capacity now) (sym c.deref-in-Two-2.ensures) moved in
+    let fits = subst (λ (f : Form). depth_from (code_of (expr_of_form f)) (vec_len now) ≤ vec_capacity now) (sym c.deref-in-None.ensures) moved in
     (search (rules, the_lemmas), (c.requires.view, (c.in_ok-a-in-Two.ensures.counts, fits)))
 
 pub answer-stack_answers-requires : goal.answer-stack_answers-requires
