@@ -5,9 +5,8 @@ pub mod RowLemmas
 pub mod ZoneLemmas
 pub mod Places
 pub mod Opposites
+pub mod Borders
 pub mod Rising
 pub mod Watching
-pub mod Differences
 pub mod RowTests
-pub mod Fixed
 pub mod Offsets

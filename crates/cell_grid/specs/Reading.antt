@@ -15,9 +15,11 @@ use Rattle.cell_grid.specs.ZoneTexts.{boxes_of, corner_in}
 abbrev pub all_of : ℕ → List (Option Value) → Option (List Value)
 all_of n vs = option_and_then (λ values. then_some (length values == n) values) (all_there vs)
 
+-- the values of so many words
 abbrev pub values_for : ℕ → List Bytes → Option (List Value)
 values_for n texts = all_of n (map value_in texts)
 
+-- the words of a file
 abbrev pub file_words : Bytes → List Bytes
 file_words bytes = flat_map (λ line. words (text_of_line line)) (slice_split (is_byte 10) bytes)
 
@@ -28,4 +30,5 @@ words_left line behind = words line ++ file_words behind
 -- the boxes of parts of a zone's items
 abbrev pub boxes_of_parts : Space → Option (List Bytes) → Option (List (Place × Place))
 boxes_of_parts space parts =
-    option_and_then boxes_of (option_and_then (λ texts. all_there (map (corner_in space) texts)) parts)
+    option_and_then boxes_of
+    (option_and_then (λ texts. all_there (map (corner_in space) texts)) parts)

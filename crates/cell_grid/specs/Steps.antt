@@ -1,33 +1,7 @@
--- How private code holds steps, and where none leads past an edge.
-use Rattle.std.specs.Prelude.{◌≡◌, ℕ, ◌+◌, ◌<◌, ◌≤◌, Some, List, map, ℤ}
-use Rattle.std.specs.List.{All}
+-- How code holds steps.
 use Rattle.quantity.specs.declared.place.Offset.{Offset}
-use Rattle.quantity.specs.declared.place.Place.{Place}
 use Rattle.cell_grid.specs.declared.step.Step.{Step}
-use Rattle.cell_grid.specs.declared.inner.Span.{Span}
-use Rattle.cell_grid.specs.declared.inner.Inner.{Inner}
-use Rattle.cell_grid.specs.Space.{Space, number_of, neighbour_at}
-use Rattle.cell_grid.specs.Neighbourhoods.{further, LeadsInside}
 
 -- a step as an offset
 abbrev pub offset_of_step : Step → Offset
 offset_of_step t = record { row = t.rows; column = t.columns; plane = t.planes }
-
--- how far on each step leads from a cell that stands at a place: to a cell, its neighbour there
-pub record AreFixed (s : Space) (cell : ℕ) (p : Place) (steps : List Step) (ds : List ℤ) : Type 0 where
-  pub inside : All (LeadsInside s cell) ds
-  pub lead : map (λ (step : Step). neighbour_at s p (offset_of_step step)) steps ≡ map (λ d. Some (further cell d)) ds
-
--- the same of the cell at a place
-abbrev pub AreFixedAt : Space → Place → List Step → List ℤ → Type 0
-AreFixedAt s p = AreFixed s (number_of s p.row p.column p.plane) p
-
--- ---- numbers and places that no step leads out of the space
-
--- one of the numbers of a span
-abbrev pub IsIn : Span → ℕ → Type 0
-IsIn span n = (span.first ≤ n) × (n < span.first + span.count)
-
--- a place whose coordinates are in the spans
-abbrev pub IsInner : Inner → Place → Type 0
-IsInner inner p = IsIn inner.rows p.row × IsIn inner.columns p.column × IsIn inner.planes p.plane

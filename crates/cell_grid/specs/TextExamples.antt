@@ -46,11 +46,13 @@ box_count space text = option_map (λ (z : Region). length z.boxes) (zone_in spa
 -- the cells that the zone of a text holds
 abbrev pub cells_held : Space → Bytes → Option (List ℕ)
 cells_held s text =
-    option_map (λ z. filter (λ cell. is_some (zone_of (z ∷ []) s cell)) (range_with_len 0 (cell_count s)))
+    option_map
+    (λ z. filter (λ cell. is_some (zone_of (z ∷ []) s cell)) (range_with_len 0 (cell_count s)))
     (zone_in s text)
 
 pub record ZonesAreRead : Type 0 where
-  pub name : option_map (λ (z : Region). z.name) (zone_in (row 3) (codes "r { (0,0)..(0,1) }")) ≡ Some (codes "r")
+  pub name : option_map (λ (z : Region). z.name) (zone_in (row 3) (codes "r { (0,0)..(0,1) }"))
+      ≡ Some (codes "r")
   pub inside : zone_at 0 (codes "r { (0,0)..(0,1) }") ≡ Some (Some 0)
   pub outside : zone_at 2 (codes "r { (0,0)..(0,1) }") ≡ Some None
   pub touching : box_count (row 3) (codes "r {(0,0)(0,1)..(0,2) (0,1)}") ≡ Some 3
@@ -63,11 +65,13 @@ pub record ZonesAreRead : Type 0 where
   pub apart : cells_held (row 3) (codes "r { (0,0) (0,2) }") ≡ Some (0 ∷ 2 ∷ [])
   pub long_name : cells_held (row 3) (codes "a.b-c_1 { (0,0)..( 0 , 2 ) }") ≡ Some (0 ∷ 1 ∷ 2 ∷ [])
   pub sign_and_zeros : cells_held (row 3) (codes "r { (+0,001) }") ≡ Some (1 ∷ [])
-  pub rows : cells_held (flat NoWrapped 2 3) (codes "r { (0,1)..(1,2) }") ≡ Some (1 ∷ 2 ∷ 4 ∷ 5 ∷ [])
+  pub rows : cells_held (flat NoWrapped 2 3) (codes "r { (0,1)..(1,2) }")
+      ≡ Some (1 ∷ 2 ∷ 4 ∷ 5 ∷ [])
   pub three_coordinates : box_count cube (codes "r { (0,0,0)..(1,1,1) }") ≡ Some 1
   pub one_of_cube : cells_held cube (codes "r { (1,0,1) }") ≡ Some (5 ∷ [])
   pub plane_of_cube : cells_held cube (codes "r { (0,0,1)..(1,1,1) }") ≡ Some (1 ∷ 3 ∷ 5 ∷ 7 ∷ [])
-  pub parts_of_cube : cells_held cube (codes "r { (0,1,0)..(1,1,0) (0,0,1) }") ≡ Some (1 ∷ 2 ∷ 6 ∷ [])
+  pub parts_of_cube : cells_held cube (codes "r { (0,1,0)..(1,1,0) (0,0,1) }")
+      ≡ Some (1 ∷ 2 ∷ 6 ∷ [])
 
 -- no text of these is a zone
 abbrev pub no_zones : Space → List Bytes → Bool

@@ -18,9 +18,13 @@ pub data Corner : Type 0 where
   start : Place → Corner
   up_to : Place → Corner
 
+-- a place without a name before it
 abbrev pub bare_place : Space → Bytes → Option Place
-bare_place space part = option_and_then (λ t. option_and_then (place_in space) (then_some (is_empty t.name) t.place)) (named_tuple part)
+bare_place space part =
+    option_and_then (λ t. option_and_then (place_in space) (then_some (is_empty t.name) t.place))
+    (named_tuple part)
 
+-- a corner of a box, the second one behind two dots
 abbrev pub corner_in : Space → Bytes → Option Corner
 corner_in space part =
     if starts_with nat_eq part (codes "..") then option_map up_to (bare_place space (drop 2 part))
@@ -30,9 +34,11 @@ corner_in space part =
 abbrev pub is_ordered : Place → Place → Bool
 is_ordered p q = nat_le p.row q.row && nat_le p.column q.column && nat_le p.plane q.plane
 
+-- a box before others, where its corners are in order
 abbrev pub box : Place → Place → Option (List (Place × Place)) → Option (List (Place × Place))
 box p q rest = option_and_then (λ boxes. then_some (is_ordered p q) ((p, q) ∷ boxes)) rest
 
+-- the boxes of some corners
 abbrev pub boxes_of : List Corner → Option (List (Place × Place))
 boxes_of [] = Some []
 boxes_of (up_to q ∷ cs) = None
@@ -45,19 +51,27 @@ abbrev pub some_boxes : List (Place × Place) → Option (List (Place × Place))
 some_boxes [] = None
 some_boxes (b ∷ bs) = Some (b ∷ bs)
 
+-- the boxes that a text gives
 abbrev pub boxes_in : Space → Bytes → Option (List (Place × Place))
 boxes_in space text =
-    option_and_then some_boxes (option_and_then boxes_of (option_and_then (λ parts. all_there (map (corner_in space) parts)) (parts_of text)))
+    option_and_then some_boxes
+    (option_and_then boxes_of
+    (option_and_then (λ parts. all_there (map (corner_in space) parts)) (parts_of text)))
 
 -- ---- name { items }
 
+-- the name before the braces
 abbrev pub zone_name : Bytes → Bytes
 zone_name text = trimmed (before_first (is_byte 123) text)
 
+-- what stands between the braces
 abbrev pub zone_items : Bytes → Option Bytes
 zone_items text = inside 123 125 (drop (length (before_first (is_byte 123) text)) text)
 
+-- the zone that a text gives
 abbrev pub zone_in : Space → Bytes → Option Region
 zone_in space text =
-    option_and_then (λ boxes. then_some (is_name (zone_name text)) (record { name = zone_name text; boxes = boxes }))
+    option_and_then
+    (λ boxes.
+    then_some (is_name (zone_name text)) (record { name = zone_name text; boxes = boxes }))
     (option_and_then (boxes_in space) (zone_items text))

@@ -1,4 +1,5 @@
-// Values in files, which are read word by word and line by line, and laid in their cells as they are read.
+// Values in files, which are read word by word and line by line, and laid in their cells as they
+// are read.
 ghost use Rattle.std.specs.Prelude.{◌≡◌, [], ◌∷◌, Some, None, length, fold, ◌<◌, IfSome, MatchOption, MatchResult};
 ghost use Rattle.std.specs.Option.{option_map};
 ghost use Rattle.cell_grid.specs.Initial.{cell_line, cells_file, with_cell};
@@ -25,7 +26,8 @@ pub struct WordsLeft<'a> {
 /// The next word, and the words behind it. None where none is left.
 fn next_left(words: WordsLeft<'_>) -> Option<(&[u8], WordsLeft<'_>)>
     ensures { MatchOption result (words_left words.entry.line.now words.entry.behind.now ≡ [])
-        (λ r. words_left words.entry.line.now words.entry.behind.now ≡ r.0.now ∷ words_left r.1.line.now r.1.behind.now) }
+        (λ r. words_left words.entry.line.now words.entry.behind.now
+        ≡ r.0.now ∷ words_left r.1.line.now r.1.behind.now) }
 {
     let mut line = words.line;
     let mut behind = words.behind;
@@ -42,12 +44,15 @@ fn next_left(words: WordsLeft<'_>) -> Option<(&[u8], WordsLeft<'_>)>
     }
 }
 
-/// Lays the values of the words in the cells, one in each. BadInitial is a word that is no value, and
-/// another number of words.
+/// Lays the values of the words in the cells, one in each. BadInitial is a word that is no value,
+/// and another number of words.
 pub fn lay_words(cells: &mut [Value], words: WordsLeft<'_>) -> Result<(), InitialRefusal>
     ensures { MatchResult result
-        (λ _. values_for (length cells.old) (words_left words.entry.line.now words.entry.behind.now) ≡ Some cells.new)
-        (λ refusal. (refusal ≡ BadInitial) × (values_for (length cells.old) (words_left words.entry.line.now words.entry.behind.now) ≡ None)) }
+        (λ _. values_for (length cells.old) (words_left words.entry.line.now words.entry.behind.now)
+        ≡ Some cells.new)
+        (λ refusal. (refusal ≡ BadInitial)
+        × (values_for (length cells.old) (words_left words.entry.line.now words.entry.behind.now)
+        ≡ None)) }
 {
     let mut left = words;
     for cell in cells.iter_mut() {
@@ -77,7 +82,8 @@ fn cell_line(text: &[u8], grid: &Grid) -> Option<(u32, Value)>
 pub fn lay_cells(values: &mut [Value], file: &[u8], grid: &Grid) -> Result<(), InitialRefusal>
     requires { length values.old ≡ cell_count grid.now }
     ensures { MatchResult result
-        (λ _. option_map (fold with_cell values.old) (cells_file grid.now file.now) ≡ Some values.new)
+        (λ _. option_map (fold with_cell values.old) (cells_file grid.now file.now)
+        ≡ Some values.new)
         (λ refusal. (refusal ≡ BadInitial) × (cells_file grid.now file.now ≡ None)) }
 {
     let mut left = file;

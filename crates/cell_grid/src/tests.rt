@@ -1,5 +1,5 @@
 // Each call that can want memory, with ample memory.
-use crate::{Border, Grid, Initial, Reach, Zones};
+use crate::{Border, Grid, Initial, Zones};
 use quantity::{Offset, Value};
 use std::test::Fail;
 
@@ -18,19 +18,6 @@ fn watchers_in_place_of_what_was_there(rt: HostRuntime) -> Result<(), Fail> {
     let mut found = Vec::from_slice(rt.alloc(), &[77, 7, 7])?;
     grid.watchers(4, &[beside(1), beside(2)], &mut found)?;
     assert_eq!(rt; found.as_slice(), [2, 3].as_slice());
-    Ok(())
-}
-
-#[test]
-fn neighbours_at_the_edge_and_away_from_it(rt: HostRuntime) -> Result<(), Fail> {
-    let grid = Grid::new(1, 5, None, Border::Wrapped).ok_or("no space")?;
-    let reach = Reach::new(rt.alloc(), grid, &[beside(-1), beside(1)])?;
-    let mut found = [None; 2];
-    for (cell, before, behind) in [(0, 4, 1), (2, 1, 3), (4, 3, 0)] {
-        assert!(rt; cell < grid.cells());
-        reach.neighbours(cell, &mut found);
-        assert_eq!(rt; found, [Some(before), Some(behind)]);
-    }
     Ok(())
 }
 

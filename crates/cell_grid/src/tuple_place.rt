@@ -8,8 +8,8 @@ use crate::Grid;
 use quantity::{Offset, Place};
 use source_text::Tuple;
 
-/// The place that a tuple gives. None where it has not as many numbers as the space has coordinates,
-/// where a number is negative, or where the place is outside.
+/// The place that a tuple gives. None where it has not as many numbers as the space has
+/// coordinates, where a number is negative, or where the place is outside.
 pub fn place_in(tuple: Tuple, grid: &Grid) -> Option<Place>
     ensures { result ≡ places.place_in grid.now (numbers_of tuple) }
 {
@@ -34,8 +34,8 @@ pub fn cell_in(tuple: Tuple, grid: &Grid) -> Option<u32>
     grid.index(place)
 }
 
-/// The offset that a tuple gives. None where it has not as many numbers as the space has coordinates,
-/// or where a number is below -64 or above 64.
+/// The offset that a tuple gives. None where it has not as many numbers as the space has
+/// coordinates, or where a number is below -64 or above 64.
 pub fn offset_in(tuple: Tuple, grid: &Grid) -> Option<Offset>
     ensures { result ≡ places.offset_in grid.now (numbers_of tuple) }
 {

@@ -7,9 +7,9 @@ use crate::step::Step;
 use quantity::{Offset, OutOfMemory};
 
 impl Grid {
-    /// Puts into `into`, in place of what it holds, the rising list without repeats of the cells that
-    /// have this cell as a neighbour by one of the offsets. The time grows with the number of offsets
-    /// and its logarithm, and not with the space. Without memory `into` stays as it was.
+    /// Puts into `into`, in place of what it holds, the rising list without repeats of the cells
+    /// that have this cell as a neighbour by one of the offsets. The time grows with the number of
+    /// offsets and its logarithm, and not with the space. Without memory `into` stays as it was.
     pub fn watchers(
         &self,
         cell: u32,

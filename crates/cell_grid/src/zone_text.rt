@@ -56,7 +56,8 @@ fn boxes_in(alloc: Global, items: &[u8], grid: &Grid) -> Result<Vec<(Place, Plac
     Ok(boxes)
 }
 
-/// What stands before the first closing parenthesis, and what stands behind it. None where there is none.
+/// What stands before the first closing parenthesis, and what stands behind it. None where there is
+/// none.
 fn closed_part(text: &[u8]) -> Option<(&[u8], &[u8])>
     ensures parts { MatchOption result
         (parts_of text.now ≡ then_some (is_empty (trimmed text.now)) [])
@@ -66,11 +67,13 @@ fn closed_part(text: &[u8]) -> Option<(&[u8], &[u8])>
     part_before(b')', text)
 }
 
-/// The box that a part begins, which ends with the next part where that begins with `..`, and the text
-/// behind it. None where the part or its end is no place inside, or where the end is less in a coordinate.
+/// The box that a part begins, which ends with the next part where that begins with `..`, and the
+/// text behind it. None where the part or its end is no place inside, or where the end is less in a
+/// coordinate.
 fn first_box<'a>(part: &[u8], behind: &'a [u8], grid: &Grid) -> Option<((Place, Place), &'a [u8])>
     ensures value { MatchOption result
-        (boxes_of_parts grid.now (option_map (λ parts. part.now ∷ parts) (parts_of behind.now)) ≡ None)
+        (boxes_of_parts grid.now (option_map (λ parts. part.now ∷ parts) (parts_of behind.now))
+        ≡ None)
         (λ r. boxes_of_parts grid.now (option_map (λ parts. part.now ∷ parts) (parts_of behind.now))
         ≡ option_map (λ boxes. r.0 ∷ boxes) (boxes_of_parts grid.now (parts_of r.1.now))) }
     ensures shorter { IfSome result (λ r. length r.1.now ≤ length behind.now) }
@@ -89,11 +92,14 @@ fn first_box<'a>(part: &[u8], behind: &'a [u8], grid: &Grid) -> Option<((Place, 
     Some(((start, end), others))
 }
 
-/// The next part behind its `..`, and what stands behind it. None where no part is next that begins so.
+/// The next part behind its `..`, and what stands behind it. None where no part is next that begins
+/// so.
 fn end_part(text: &[u8]) -> Option<(&[u8], &[u8])>
     ensures parts { MatchOption result
-        ((part : List ℕ) (parts : List (List ℕ)) → parts_of text.now ≡ Some (part ∷ parts) → starts_with nat_eq part (codes "..") ≡ false)
-        (λ r. parts_of text.now ≡ option_map (λ parts. (codes ".." ++ r.0.now) ∷ parts) (parts_of r.1.now)) }
+        ((part : List ℕ) (parts : List (List ℕ)) → parts_of text.now ≡ Some (part ∷ parts)
+        → starts_with nat_eq part (codes "..") ≡ false)
+        (λ r. parts_of text.now
+        ≡ option_map (λ parts. (codes ".." ++ r.0.now) ∷ parts) (parts_of r.1.now)) }
     ensures shorter { IfSome result (λ r. length r.1.now < length text.now) }
 {
     let (part, behind) = closed_part(text)?;

@@ -6,7 +6,7 @@ use Rattle.std.proofs.lemmas.List.Sums.{sum_by-cons}
 use Rattle.std.proofs.Math.Seq.{drop-cons}
 use Rattle.time_queue.specs.Waiting.{time_of}
 use Rattle.time_queue.specs.Heap.{AreAt}
-use Rattle.time_queue.specs.Lists.{TakesMore}
+use Rattle.time_queue.specs.Taking.{TakesMore}
 use Rattle.time_queue.proofs.Entered.{waits_within}
 use Rattle.time_queue.proofs.Taken.{fewer_before, leaves_less, without_less}
 

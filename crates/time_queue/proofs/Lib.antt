@@ -6,6 +6,5 @@ pub mod Heaps
 pub mod Standing
 pub mod Moved
 pub mod Replayed
-pub mod Links
-pub mod Lines
 pub mod Fronts
+pub mod Steps

@@ -7,7 +7,7 @@ use Rattle.std.proofs.lemmas.List.Edits.{map_over_more}
 use Rattle.std.proofs.lemmas.List.FromFn.{length-range_with_len, filter_of_map_range_with_len_more}
 use Rattle.std.proofs.lemmas.List.Sums.{sum_by-cons, length-filter, count_by-le-length}
 use Rattle.time_queue.specs.Waiting.{time_of, is_due, leaves_at, undue, without, least_of, NoneBefore}
-use Rattle.time_queue.specs.Lists.{NoneAt}
+use Rattle.time_queue.specs.Taking.{NoneAt}
 use Rattle.time_queue.proofs.Least.{least_reached, least_below, none_waits}
 
 abbrev picked : (ℕ → Bool) → ℕ → ℕ → List ℕ

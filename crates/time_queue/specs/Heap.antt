@@ -5,8 +5,10 @@ use Rattle.time_queue.specs.Waiting.{time_of}
 -- each leaf stands at its place, and each place is that of the leaf there
 pub record IsInverse (order places : List ℕ) : Type 0 where
   pub same : length places ≡ length order
-  pub place_of : (p : ℕ) → p < length order → (slice_index order p < length places) × (slice_index places (slice_index order p) ≡ p)
-  pub leaf_at : (l : ℕ) → l < length places → (slice_index places l < length order) × (slice_index order (slice_index places l) ≡ l)
+  pub place_of : (p : ℕ) → p < length order
+      → (slice_index order p < length places) × (slice_index places (slice_index order p) ≡ p)
+  pub leaf_at : (l : ℕ) → l < length places
+      → (slice_index places l < length order) × (slice_index order (slice_index places l) ≡ l)
 
 -- the time at a place, or 0 where the leaf there waits for none
 abbrev pub time_at : List (Option ℕ) → List ℕ → ℕ → ℕ
@@ -19,7 +21,8 @@ IsHeap n at = (p k : ℕ) → 2 * p < k → k ≤ 2 * p + 2 → k < n → at p �
 -- the same but at place i, with what stands above and below that place in order
 pub record IsHeapBut (n : ℕ) (at : ℕ → ℕ) (i : ℕ) : Type 0 where
   pub elsewhere : (p k : ℕ) → 2 * p < k → k ≤ 2 * p + 2 → k < n → p ≢ i → k ≢ i → at p ≤ at k
-  pub across : (p k : ℕ) → 2 * p < i → i ≤ 2 * p + 2 → 2 * i < k → k ≤ 2 * i + 2 → k < n → at p ≤ at k
+  pub across : (p k : ℕ) → 2 * p < i → i ≤ 2 * p + 2 → 2 * i < k → k ≤ 2 * i + 2 → k < n
+      → at p ≤ at k
 
 -- place i isn't before the one above it
 abbrev pub IsBelow : (ℕ → ℕ) → ℕ → Type 0

@@ -1,5 +1,5 @@
 pub mod Heap
-pub mod Lists
 pub mod Replay
 pub mod Sorted
+pub mod Taking
 pub mod Waiting

@@ -36,4 +36,5 @@ pub record AreBegun (moves : List Move) (old new : List (Option ℕ)) : Type 0 w
 -- what each move takes, and the least time after it
 abbrev pub replies_of : List Move → List (Option ℕ) → List (List ℕ × Option ℕ)
 replies_of [] times = []
-replies_of (m ∷ ms) times = (taken_by m times, least_of (moved m times)) ∷ replies_of ms (moved m times)
+replies_of (m ∷ ms) times =
+    (taken_by m times, least_of (moved m times)) ∷ replies_of ms (moved m times)

@@ -17,14 +17,17 @@ abbrev pub least_of : List (Option ℕ) → Option ℕ
 least_of [] = None
 least_of (t ∷ ts) = earlier t (least_of ts)
 
+-- the time is there and is this one
 abbrev pub is_due : ℕ → Option ℕ → Bool
 is_due at None = false
 is_due at (Some t) = t == at
 
 -- the leaves that wait for a time, rising
 abbrev pub leaves_at : ℕ → List (Option ℕ) → List ℕ
-leaves_at at times = filter (λ leaf. is_due at (time_of times leaf)) (range_with_len 0 (length times))
+leaves_at at times =
+    filter (λ leaf. is_due at (time_of times leaf)) (range_with_len 0 (length times))
 
+-- what is due now is due no more
 abbrev pub undue : ℕ → Option ℕ → Option ℕ
 undue at t = if is_due at t then None else t
 

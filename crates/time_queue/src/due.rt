@@ -4,7 +4,7 @@ ghost use Rattle.std.specs.List.{sum_by};
 ghost use Rattle.std.specs.List.Sorted.{IsNonDecreasing};
 ghost use Rattle.std.specs.Vec.{vec_capacity};
 ghost use Rattle.time_queue.specs.Waiting.{time_of, least_of, is_due, undue, leaves_at, without, NoneBefore};
-ghost use Rattle.time_queue.specs.Lists.{NoneAt, TakesMore};
+ghost use Rattle.time_queue.specs.Taking.{NoneAt, TakesMore};
 
 use crate::entry::Entry;
 use quantity::Time;
@@ -81,8 +81,8 @@ pub fn take_leading<Q: DueFirst>(queue: &mut Q, at: Time, into: &mut Vec<u32>)
     }
 }
 
-/// What `TimeQueue::take_all_at` says. All leaves are gone through, since they stand anywhere behind
-/// those of earlier times.
+/// What `TimeQueue::take_all_at` says. All leaves are gone through, since they stand anywhere
+/// behind those of earlier times.
 pub fn take_scattered<Q: DueFirst>(queue: &mut Q, at: Time, into: &mut Vec<u32>)
     requires empty { into.old.items ≡ [] }
     requires room { length (Q.waiting queue.old) ≤ vec_capacity into.old }
@@ -98,8 +98,11 @@ pub fn take_scattered<Q: DueFirst>(queue: &mut Q, at: Time, into: &mut Vec<u32>)
 fn take_if_due<Q: DueFirst>(queue: &mut Q, at: Time, leaf: u32, into: &mut Vec<u32>)
     requires within { leaf < length (Q.waiting queue.old) }
     requires room { vec_len into.old < vec_capacity into.old }
-    ensures taken { into.new.items ≡ into.old.items ++ (if is_due at (time_of (Q.waiting queue.old) leaf) then leaf ∷ [] else []) }
-    ensures left { Q.waiting queue.new ≡ slice_set (Q.waiting queue.old) leaf (undue at (time_of (Q.waiting queue.old) leaf)) }
+    ensures taken { into.new.items
+        ≡ into.old.items
+        ++ (if is_due at (time_of (Q.waiting queue.old) leaf) then leaf ∷ [] else []) }
+    ensures left { Q.waiting queue.new
+        ≡ slice_set (Q.waiting queue.old) leaf (undue at (time_of (Q.waiting queue.old) leaf)) }
     ensures capacity { vec_capacity into.new ≡ vec_capacity into.old }
 {
     if queue.time_of(leaf) == Some(at) {

@@ -2,7 +2,7 @@
 ghost use Rattle.std.specs.Prelude.{◌≡◌, ℕ, ◌+◌, ◌*◌, ◌<◌, ◌≤◌, [], Option, List, length, replicate, IfOk, IfSome, IfNone, slice_set, slice_index, is_some, true};
 ghost use Rattle.std.specs.Vec.{vec_capacity};
 ghost use Rattle.time_queue.specs.Waiting.{time_of};
-ghost use Rattle.time_queue.specs.Lists.{TakesMore};
+ghost use Rattle.time_queue.specs.Taking.{TakesMore};
 ghost use Rattle.time_queue.specs.Heap.{time_at, IsHeap, IsHeapBut, IsBelow, AreFirst, IsRanked, AreAt};
 
 use crate::due::{DueFirst, some_before, sort, take_leading, take_scattered};
@@ -49,8 +49,8 @@ impl HeapQueue {
     }
 
     // Takes the leaves at the first places of the heap, as long as they wait for this time, in the
-    // order of their places. The last of them leaves first, so that little stands below what comes to
-    // its place, and nothing where no other leaf waits.
+    // order of their places. The last of them leaves first, so that little stands below what comes
+    // to its place, and nothing where no other leaf waits.
     fn take_front(&mut self, at: Time, into: &mut Vec<u32>)
         requires empty { into.old.items ≡ [] }
         requires room { length self.old ≤ vec_capacity into.old }
@@ -219,7 +219,8 @@ fn sift_up(times: &[Option<Time>], ranks: &mut Ranks, waiting: usize, mut place:
     place
 }
 
-// While something below is before what stands at the place, the least of these changes places with it.
+// While something below is before what stands at the place, the least of these changes places with
+// it.
 fn sift_down(times: &[Option<Time>], ranks: &mut Ranks, waiting: usize, mut place: usize)
     requires within { place < waiting }
     requires all { waiting ≤ length ranks.old.order.items }
@@ -246,10 +247,17 @@ fn child_before(
     requires within { place < waiting }
     requires all { waiting ≤ length ranks.now.order.items }
     requires first { AreFirst times.now ranks.now.order.items waiting }
-    ensures none { IfNone result ((k : ℕ) → 2 * place < k → k ≤ 2 * place + 2 → k < waiting → time_at times.now ranks.now.order.items place ≤ time_at times.now ranks.now.order.items k) }
+    ensures none { IfNone result
+        ((k : ℕ) → 2 * place < k → k ≤ 2 * place + 2 → k < waiting
+        → time_at times.now ranks.now.order.items place
+        ≤ time_at times.now ranks.now.order.items k) }
     ensures child { IfSome result (λ c. (2 * place < c) × (c ≤ 2 * place + 2) × (c < waiting)) }
-    ensures before { IfSome result (λ c. time_at times.now ranks.now.order.items c < time_at times.now ranks.now.order.items place) }
-    ensures least { IfSome result (λ c. (k : ℕ) → 2 * place < k → k ≤ 2 * place + 2 → k < waiting → time_at times.now ranks.now.order.items c ≤ time_at times.now ranks.now.order.items k) }
+    ensures before { IfSome result
+        (λ c. time_at times.now ranks.now.order.items c
+        < time_at times.now ranks.now.order.items place) }
+    ensures least { IfSome result
+        (λ c. (k : ℕ) → 2 * place < k → k ≤ 2 * place + 2 → k < waiting
+        → time_at times.now ranks.now.order.items c ≤ time_at times.now ranks.now.order.items k) }
 {
     let child = least_child(times, ranks, waiting, place)?;
     if time_at(times, ranks, child) < time_at(times, ranks, place) {
@@ -265,7 +273,9 @@ fn least_child(times: &[Option<Time>], ranks: &Ranks, waiting: usize, place: usi
     requires first { AreFirst times.now ranks.now.order.items waiting }
     ensures none { IfNone result (waiting ≤ 2 * place + 1) }
     ensures child { IfSome result (λ c. (2 * place < c) × (c ≤ 2 * place + 2) × (c < waiting)) }
-    ensures least { IfSome result (λ c. (k : ℕ) → 2 * place < k → k ≤ 2 * place + 2 → k < waiting → time_at times.now ranks.now.order.items c ≤ time_at times.now ranks.now.order.items k) }
+    ensures least { IfSome result
+        (λ c. (k : ℕ) → 2 * place < k → k ≤ 2 * place + 2 → k < waiting
+        → time_at times.now ranks.now.order.items c ≤ time_at times.now ranks.now.order.items k) }
 {
     let left = 2 * place + 1;
     if left >= waiting {

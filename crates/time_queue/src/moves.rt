@@ -38,7 +38,9 @@ pub fn replay<Q: TimeQueue>(
     requires leaves { length (Q.waiting queue.old) ≡ leaves }
     requires moves { All (IsMoveOf leaves) moves.now }
     ensures contents { OnOk result (Q.waiting queue.new ≡ after moves.now (Q.waiting queue.old)) }
-    ensures replies { IfOk result (λ rs. map (λ r. (r.taken.items, r.least)) rs.items ≡ replies_of moves.now (Q.waiting queue.old)) }
+    ensures replies { IfOk result
+        (λ rs. map (λ r. (r.taken.items, r.least)) rs.items
+        ≡ replies_of moves.now (Q.waiting queue.old)) }
     ensures err { OnErr result (AreBegun moves.now (Q.waiting queue.old) (Q.waiting queue.new)) }
 {
     let mut replies = Vec::new(alloc);

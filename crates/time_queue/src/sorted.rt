@@ -119,8 +119,10 @@ fn leave(times: &mut Vec<Option<Time>>, entries: &mut Vec<Entry>, leaf: u32)
 fn place_of(entries: &[Entry], entry: Entry) -> usize
     requires { IsNonDecreasingBy rank entries.now }
     ensures bound { result ≤ length entries.now }
-    ensures before { (k : ℕ) (d : Entry) → k < result → rank (slice_index_or entries.now k d) < rank entry }
-    ensures behind { (k : ℕ) (d : Entry) → result ≤ k → k < length entries.now → rank entry ≤ rank (slice_index_or entries.now k d) }
+    ensures before { (k : ℕ) (d : Entry) → k < result
+        → rank (slice_index_or entries.now k d) < rank entry }
+    ensures behind { (k : ℕ) (d : Entry) → result ≤ k → k < length entries.now
+        → rank entry ≤ rank (slice_index_or entries.now k d) }
 {
     entries.partition_point(|e| is_before(*e, entry))
 }

@@ -1,7 +1,7 @@
 // Each queue against replies worked out by hand.
 ghost use Rattle.std.specs.Prelude.{◌≡◌, ◌≤◌, length};
 
-use crate::{HeapQueue, LinkedQueue, Move, Reply, SortedQueue, TimeQueue, replay};
+use crate::{HeapQueue, Move, Reply, SortedQueue, TimeQueue, replay};
 use quantity::{OutOfMemory, Time};
 use std::alloc::Global;
 use std::process::Abort;
@@ -70,13 +70,6 @@ fn a_sorted_queue_replies(rt: HostRuntime) -> Result<(), Fail> {
 #[test]
 fn a_heap_replies(rt: HostRuntime) -> Result<(), Fail> {
     let mut queue = HeapQueue::with_leaves(rt.alloc(), 5)?;
-    replies_are_right(&rt, moves_carried_out(rt.alloc(), &mut queue)?.as_slice());
-    Ok(())
-}
-
-#[test]
-fn lists_reply(rt: HostRuntime) -> Result<(), Fail> {
-    let mut queue = LinkedQueue::with_leaves(rt.alloc(), 5)?;
     replies_are_right(&rt, moves_carried_out(rt.alloc(), &mut queue)?.as_slice());
     Ok(())
 }

@@ -1,7 +1,7 @@
 use Rattle.std.proofs.Common.{◌≡◌, ℕ, Option, Some, pos, ◌+ℤ◌, sym, ap, ◌∙◌, arith}
 use Rattle.std.proofs.lemmas.Int.{ints}
 use Rattle.cell_grid.specs.Space.{if_below}
-use Rattle.cell_grid.proofs.Differences.{of_border-if_below}
+use Rattle.cell_grid.proofs.Borders.{of_border-if_below}
 use Rattle.cell_grid.proofs.grid.moved.Goals as goal
 
 pub returns-in-Some-clause-value : goal.returns-in-Some-clause-value

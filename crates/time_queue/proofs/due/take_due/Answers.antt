@@ -1,6 +1,6 @@
 use Rattle.std.proofs.Common.{length, sym, ap, ◌∙◌, arith}
 use Rattle.time_queue.specs.Waiting.{time_of, is_due, leaves_at}
-use Rattle.time_queue.proofs.Lines.{all_listed, leaves_few}
+use Rattle.time_queue.proofs.Steps.{all_listed, leaves_few}
 use Rattle.time_queue.proofs.Rising.{same_rising, rising_picked}
 use Rattle.time_queue.proofs.Taken.{without_none}
 use Rattle.time_queue.proofs.due.take_due.Goals as goal

@@ -1,7 +1,7 @@
 use Rattle.std.proofs.Common.{None, Some, set, refl, sym, ◌∙◌, ap, arith}
 use Rattle.std.proofs.lemmas.Bool.{not-true, not-false, eqb-true, eqb-false}
 use Rattle.time_queue.proofs.Taken.{none_later, none_left}
-use Rattle.time_queue.proofs.Lines.{as_many, one_fewer, takes_both, takes_one}
+use Rattle.time_queue.proofs.Steps.{as_many, one_fewer, takes_both, takes_one}
 use Rattle.time_queue.proofs.due.take_leading.Goals as goal
 
 pub returns-then-ne-clause-none : goal.returns-then-ne-clause-none

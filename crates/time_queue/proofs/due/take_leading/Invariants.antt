@@ -1,7 +1,7 @@
 use Rattle.std.proofs.Common.{◌≡◌, length}
 use Rattle.std.specs.Vec.{vec_capacity}
 use Rattle.time_queue.specs.Waiting.{leaves_at}
-use Rattle.time_queue.specs.Lists.{TakesMore}
+use Rattle.time_queue.specs.Taking.{TakesMore}
 use Rattle.time_queue.proofs.due.take_leading.Given as goal
 
 abbrev pub invariant-loop-first : goal.invariant-loop-first

@@ -1,7 +1,7 @@
 use Rattle.std.proofs.Common.{◌≡◌, ◌<◌, ◌≤◌, ℕ, Some, length, drop}
 use Rattle.std.specs.Prelude.{slice_index}
 use Rattle.time_queue.specs.Waiting.{time_of}
-use Rattle.time_queue.specs.Lists.{TakesMore}
+use Rattle.time_queue.specs.Taking.{TakesMore}
 use Rattle.time_queue.proofs.heap.HeapQueue.take_front.Given as goal
 
 abbrev pub invariant-loop-left : goal.invariant-loop-left

@@ -1,6 +1,6 @@
 use Rattle.std.proofs.Common.{length, sym, ap, ◌∙◌, arith}
 use Rattle.time_queue.specs.Waiting.{time_of, is_due, leaves_at}
-use Rattle.time_queue.proofs.Lines.{all_listed, as_many, leaves_few, takes_both}
+use Rattle.time_queue.proofs.Steps.{all_listed, as_many, leaves_few, takes_both}
 use Rattle.time_queue.proofs.Rising.{same_rising, rising_picked}
 use Rattle.time_queue.proofs.Taken.{without_none}
 use Rattle.time_queue.proofs.heap.HeapQueueTimeQueue.take_all_at.Goals as goal

@@ -1,0 +1,3 @@
+pub mod Neighbourhoods
+pub mod NeighbourhoodLaws
+pub mod FixedSteps

@@ -1,0 +1,10 @@
+//! Next times of leaves, where the leaves of one time stand in lists.
+#![tactic(auto)]
+
+mod linked;
+mod lists;
+
+pub use linked::LinkedQueue;
+
+#[cfg(test)]
+mod tests;
