@@ -37,7 +37,8 @@ use Rattle.model_laid.specs.Blank.{blanked}
 use Rattle.model_laid.specs.Boxes.{atomics_in}
 use Rattle.model_build.specs.Built.{settings_of_item}
 use Rattle.model_build.specs.Ahead.{Told, box_told, item_told, IsAhead, Takes, Shows, Builds, Boxes, AllMet, BuildsSection, BuildsItems, BuildsItem, TakesLinks, TakesAtomic, TakesGroup, group_with}
-use Rattle.model_build.proofs.Plain.{some_same, behind}
+use Rattle.model_text.proofs.Parts.{behind}
+use Rattle.model_build.proofs.Plain.{some_same}
 use Rattle.model_build.proofs.Fronts.{ahead_of_links, links_taken, ahead_of_group, group_taken, Taken, walk-of-group, ahead_of_bare, ahead_of_atomic, atomic_taken, steps-of-atomic, steps-of-bare}
 use Rattle.model_build.proofs.Trees.{part-coupled, all-blanked, boxes-coupled}
 
@@ -152,7 +153,7 @@ bare_builds law n ss i s old new c found k inside met =
     let steps = steps-of-bare n ss inside i s (met.0.0.1.not_around) found in
     let right : AllMet ss (at_item inside i ∷ walk_from n ss inside i.line s) = subst (AllMet ss) steps met in
     let below = k inside i.line right.1 in
-    let bare : is_atomic i ≡ false = behind ss i s found in
+    let bare : is_atomic i ≡ false = (behind ss i s found).0 in
     let tree : first_tree (component_of n no_files ss s) ≡ tree_at_item n no_files ss i = ap first_tree (sym (law.section n no_files ss i s found)) in
     record {
       takes = λ told later h.

@@ -30,7 +30,9 @@ use Rattle.model_laid.specs.Blank.{blanked}
 use Rattle.model_laid.specs.Boxes.{atomics_in}
 use Rattle.model_build.specs.Built.{settings_of_item, IsBuilt}
 use Rattle.model_build.specs.Ahead.{Told, Front, box_told, item_told, front_of, front_at, lists_of, IsAhead, Boxes, AllMet, BuildsSection}
-use Rattle.model_build.proofs.Plain.{true_false, both_none, if_none, same_bytes, same_as_itself, find_is}
+use Rattle.model_text.proofs.Keys.{same_bytes}
+use Rattle.model_text.proofs.Parts.{find_is}
+use Rattle.model_build.proofs.Plain.{true_false, both_none, if_none, same_as_itself}
 use Rattle.model_build.proofs.Fronts.{front-same, same_head, same_tail}
 
 -- ---- the section top

@@ -1,5 +1,6 @@
 -- Private: the links of a section as they are found and judged by what is kept of its face.
-use Rattle.std.specs.Prelude.{Bool, not, ◌&&◌, nat_lt, Option, Some, None, List, [], ◌∷◌, ◌++◌, map, if◌then◌else◌, option_to_list, codes}
+use Rattle.std.specs.Prelude.{Bool, not, ◌&&◌, nat_lt, Option, Some, None, List, [], ◌∷◌, ◌++◌}
+use Rattle.std.specs.Prelude.{if◌then◌else◌, option_to_list, codes}
 use Rattle.std.specs.List.{filter, list_any}
 use Rattle.std.specs.Option.{option_map}
 use Rattle.std.specs.Str.{bytes_eq}
@@ -12,22 +13,15 @@ use Rattle.model_tree.specs.declared.link.End.TheVariants.{Own, Child, Cell}
 use Rattle.model_tree.specs.declared.link.Link.{Link}
 use Rattle.model_tree.specs.Faces.{same_end, same_link, is_at_one_child, are_own}
 use Rattle.model_text.specs.declared.kind.Kind.{Kind}
-use Rattle.model_text.specs.declared.kind.Kind.TheVariants.{UnknownPort, SelfLink, PassThrough, DuplicateLink}
+use Rattle.model_text.specs.declared.kind.Kind.TheVariants.{UnknownPort, SelfLink, PassThrough}
+use Rattle.model_text.specs.declared.kind.Kind.TheVariants.{DuplicateLink}
 use Rattle.model_text.specs.Refusals.{Refusal, refusal}
 use Rattle.model_text.specs.Links.{link_of}
-use Rattle.model_links.specs.declared.face.Face.{Face}
+use Rattle.link_ends.specs.declared.face.Face.{Face}
 use Rattle.model_links.specs.declared.section.FoundLink.{FoundLink}
-use Rattle.model_links.specs.Lent.{end_of}
+use Rattle.link_ends.specs.Faces.{sources_of, targets_of}
 
--- ---- a face as it is kept
-
--- where links may begin, but for cells
-abbrev pub sources_of : Face → List End
-sources_of f = map end_of f.sources.keys
-
--- where they may end, but for cells
-abbrev pub targets_of : Face → List End
-targets_of f = map end_of f.targets.keys
+-- ---- ends of a face as it is kept
 
 -- whether a link may begin at an end
 abbrev pub is_source_of : Face → End → Bool
@@ -55,7 +49,8 @@ cause_of is_known is_there l =
 -- why an entry's link is refused that stands after these
 abbrev pub kind_after : Face → List Link → Option Link → Option Kind
 kind_after f before None = Some UnknownPort
-kind_after f before (Some l) = cause_of (is_source_of f l.from && is_target_of f l.to) (list_any (same_link l) before) l
+kind_after f before (Some l) =
+    cause_of (is_source_of f l.from && is_target_of f l.to) (list_any (same_link l) before) l
 
 -- on its line
 abbrev pub refusal_after : Face → List Link → FoundLink → Option Refusal
@@ -64,13 +59,17 @@ refusal_after f before x = option_map (refusal x.line) (kind_after f before x.li
 -- what is refused of these, after those
 abbrev pub refused_after : Face → List Link → List FoundLink → List Refusal
 refused_after f before [] = []
-refused_after f before (x ∷ xs) = option_to_list (refusal_after f before x) ++ refused_after f (before ++ option_to_list x.link) xs
+refused_after f before (x ∷ xs) =
+    option_to_list (refusal_after f before x)
+    ++ refused_after f (before ++ option_to_list x.link) xs
 
 -- ---- entries
 
 -- those of these entries that are links, and not empty ones
 abbrev pub links_among : List Entry → List Entry
-links_among es = filter (λ (e : Entry). not (is_empty e.value)) (filter (λ (e : Entry). bytes_eq e.key (codes "link")) es)
+links_among es =
+    filter (λ (e : Entry). not (is_empty e.value))
+    (filter (λ (e : Entry). bytes_eq e.key (codes "link")) es)
 
 -- the link of an entry, with its line
 abbrev pub found_at : Section → Entry → FoundLink

@@ -1,4 +1,1 @@
-pub mod Around
-pub mod Lent
-pub mod PortEnds
 pub mod Judged

@@ -4,13 +4,14 @@ ghost use Rattle.std.specs.Option.{option_map};
 ghost use Rattle.model_tree.specs.Faces as F;
 ghost use Rattle.model_text.specs.Keyed.{least};
 ghost use Rattle.model_walk.specs.Shown.{refusal_of};
-ghost use Rattle.model_links.specs.Lent.{joined};
-ghost use Rattle.model_links.specs.Judged.{is_source_of, is_target_of, cause_of, kind_after, refusal_after, refused_after};
+ghost use Rattle.link_ends.specs.Lent.{joined};
+ghost use Rattle.model_links.specs.Judged.{is_source_of, is_target_of, cause_of, kind_after};
+ghost use Rattle.model_links.specs.Judged.{refusal_after, refused_after};
 
-use crate::face::Face;
-use crate::lent::{LentLink, add_link, has_end, has_link};
 use crate::section::FoundLink;
 use indexmap::IndexSet;
+use link_ends::face::Face;
+use link_ends::lent::{LentLink, add_link, has_end, has_link};
 use model_text::Kind;
 use model_tree::{End, Link};
 use model_walk::Refused;
@@ -24,7 +25,8 @@ pub(crate) fn first_refused(
     face: &Face<'_>,
     found: &[FoundLink],
 ) -> Result<Option<Refused>, OutOfMemory>
-    ensures { IfOk result (λ why. option_map refusal_of why ≡ least (refused_after face.now [] found.now)) }
+    ensures { IfOk result (λ why. option_map refusal_of why
+        ≡ least (refused_after face.now [] found.now)) }
 {
     let mut first = None;
     let mut before = IndexSet::new(alloc);
@@ -37,7 +39,8 @@ pub(crate) fn first_refused(
 
 /// Why a link is refused that stands after these.
 fn refused(face: &Face<'_>, before: &IndexSet<LentLink<'_>>, found: &FoundLink) -> Option<Refused>
-    ensures { option_map refusal_of result ≡ refusal_after face.now (map joined before.now.keys) found.now }
+    ensures { option_map refusal_of result
+        ≡ refusal_after face.now (map joined before.now.keys) found.now }
 {
     let kind = kind_after(face, before, &found.link)?;
     Some(Refused {

@@ -10,11 +10,7 @@ ghost use Rattle.model_walk.specs.Shown.{refusal_of};
 ghost use Rattle.model_walk.specs.Met.{IsWalk, met_of};
 ghost use Rattle.model_spaces.specs.Placed.{shown, placed_of};
 
-mod child;
-mod ends;
-mod face;
 mod judge;
-mod lent;
 mod limits;
 mod section;
 mod walked;

@@ -1,5 +1,6 @@
 // The limits of links, and of the inputs and outputs of top.
-ghost use Rattle.std.specs.Prelude.{◌≡◌, ◌&&◌, ◌||◌, not, map, length, sum, nat_lt, codes, count_by, IfOk};
+ghost use Rattle.std.specs.Prelude.{◌≡◌, ◌&&◌, ◌||◌, not, map, length, sum, nat_lt, codes};
+ghost use Rattle.std.specs.Prelude.{count_by, IfOk};
 ghost use Rattle.std.specs.Option.{option_map};
 ghost use Rattle.std.specs.Str.{bytes_eq};
 ghost use Rattle.quantity.specs.Bytes.{is_empty};
@@ -23,7 +24,8 @@ const MOST_LINKS: usize = 16384;
 /// The most inputs, and the most outputs, of top.
 const MOST_PORTS: usize = 65536;
 
-/// The refusal, at line 0, of more than 16384 links, or of more than 65536 inputs or outputs of top.
+/// The refusal, at line 0, of more than 16384 links, or of more than 65536 inputs or outputs of
+/// top.
 pub fn link_limit_refused(
     alloc: Global,
     sections: &Sections,
@@ -63,8 +65,8 @@ fn ports(alloc: Global, section: &Section, key: &[u8]) -> Result<usize, OutOfMem
 
 /// Whether these sections have more than 16384 links.
 fn has_more_links(sections: &[&Section]) -> bool
-    ensures { result ≡ nat_lt 16384
-        (sum (map (λ s. length (L.link_entries (section_of s.now))) sections.now)) }
+    ensures { result
+        ≡ nat_lt 16384 (sum (map (λ s. length (L.link_entries (section_of s.now))) sections.now)) }
 {
     let mut total: usize = 0;
     for section in sections {
@@ -84,8 +86,8 @@ fn links_in(section: &Section) -> usize
 }
 
 fn links_among(entries: &[Entry]) -> usize
-    ensures { result ≡ count_by
-        (λ e. bytes_eq e.key (codes "link") && not (is_empty e.value)) entries.now }
+    ensures { result
+        ≡ count_by (λ e. bytes_eq e.key (codes "link") && not (is_empty e.value)) entries.now }
 {
     entries.iter().filter(|entry| is_link(entry)).count()
 }

@@ -8,7 +8,7 @@ ghost use Rattle.model_text.specs.Walk as W;
 ghost use Rattle.model_text.specs.Spaces.{space_of};
 ghost use Rattle.model_text.specs.Links as L;
 ghost use Rattle.model_walk.specs.Shown.{refusal_of};
-ghost use Rattle.model_links.specs.Around.{IsSpaceOf};
+ghost use Rattle.link_ends.specs.Around.{IsSpaceOf};
 
 use crate::section::section_links;
 use cell_grid::Grid;
@@ -54,10 +54,12 @@ pub(crate) fn all_links(
     Ok(AllLinks { links, refused })
 }
 
-/// The grid of a group's section, for which the next group is; None for that of a coupled component.
+/// The grid of a group's section, for which the next group is; None for that of a coupled
+/// component.
 fn grid_of<'a>(section: &Section, groups: &'a [PlacedGroup<'_>], next: usize) -> Option<&'a Grid>
     requires { let s = section_of section.now in
-        W.is_group s ≡ true → option_map (λ g. g.grid) (slice_get groups.now next) ≡ Some (space_of s) }
+        W.is_group s ≡ true → option_map (λ g. g.grid) (slice_get groups.now next)
+        ≡ Some (space_of s) }
     ensures { IsSpaceOf (section_of section.now) result }
 {
     if !is_group(section) {

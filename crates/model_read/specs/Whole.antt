@@ -24,6 +24,7 @@ abbrev pub looked_in : Option Bytes → Files → List Class → Option Drawing 
 looked_in None files classes drawing = []
 looked_in (Some bytes) files classes drawing = (model_of bytes files classes drawing).looked
 
+-- what the file of this name gives
 abbrev pub found_of : Files → Bytes → List Class → Option Drawing → ModelOf
 found_of files name classes drawing = found_in (files name) name files classes drawing
 

@@ -15,6 +15,7 @@ abbrev pub without_cpus : ModelRead
 without_cpus =
     model_of (file (codes "[top]" ∷ codes "components : c@cpu" ∷ [])) no_files (Queue ∷ []) None
 
+-- each kind of refusal at its line
 pub record KindsAreShown : Type 0 where
   -- a height without a width, and neither of them
   pub no_width : refuses (with_line 5 (codes "height : 1") line_model) 3 MissingKey

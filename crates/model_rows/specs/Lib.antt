@@ -2,3 +2,4 @@ pub mod Kinds
 pub mod Phases
 pub mod Steps
 pub mod Long
+pub mod Limits

@@ -31,6 +31,7 @@ two_groups =
     ++ codes "[h]" ∷ codes "type : cell" ∷ codes "dim : (1,1)" ∷ codes "initialcellsvalue : H.val"
     ∷ codes "localtransition : r" ∷ []
 
+-- of two refusals that of the earlier phase counts
 pub record PhasesFollow : Type 0 where
   pub lines_before_top : refuses (codes "[a]" ∷ codes "x" ∷ []) 2 BadLine
   pub top_before_keys : refuses (codes "[a]" ∷ codes "type : cells" ∷ []) 0 NoTop

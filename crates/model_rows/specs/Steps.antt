@@ -17,6 +17,7 @@ two_generators =
     codes "[top]" ∷ codes "components : a@generator b@generator" ∷ codes "[b]"
     ∷ codes "period : 0:0:0:0" ∷ codes "[a]" ∷ codes "count : 0" ∷ []
 
+-- of two refusals of a phase the first that is met counts
 pub record StepsFollow : Type 0 where
   -- lines: the first that is met
   pub line_before_section : refuses (codes "[a]" ∷ codes "x" ∷ codes "[a]" ∷ []) 2 BadLine

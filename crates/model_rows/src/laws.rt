@@ -3,6 +3,7 @@ ghost use Rattle.model_rows.specs.Kinds.{KindsAreShown};
 ghost use Rattle.model_rows.specs.Phases.{PhasesFollow};
 ghost use Rattle.model_rows.specs.Steps.{StepsFollow};
 ghost use Rattle.model_rows.specs.Long.{LongFilesAreRefused};
+ghost use Rattle.model_rows.specs.Limits.{LimitsAreRefused};
 
 /// Kinds of refusals, each at its line.
 pub fn kinds_are_shown()
@@ -22,4 +23,10 @@ pub fn steps_follow()
 /// Files of more than 16777216 bytes are refused, whatever they hold.
 pub fn long_files_are_refused()
     ensures { LongFilesAreRefused }
+{}
+
+/// More than 65536 inputs or outputs of top are refused, and more than 65536 paths, whatever files
+/// there are.
+pub fn limits_are_refused()
+    ensures { LimitsAreRefused }
 {}

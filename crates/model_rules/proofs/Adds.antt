@@ -35,10 +35,6 @@ use Rattle.model_rules.specs.Parts.{names_in, number_in, numbered, rule_entries,
 pub drop_at : {A : Type 0} (xs : List A) (i : ℕ) (d : A) → i < length xs → drop i xs ≡ get_or xs i d ∷ drop (i + 1) xs
 drop_at xs i d lt = drop_more xs i d lt
 
-pub merged_none : (a : Option Refusal) → merged a None ≡ a
-merged_none None = refl
-merged_none (Some x) = refl
-
 -- ---- one part more
 
 pub adds_refused : {A : Type 0} (f : A → List Refusal) (here rest : List A) (first now all : Option Refusal) → now ≡ merged first (least (flat_map f here))

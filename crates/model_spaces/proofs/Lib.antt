@@ -1,7 +1,3 @@
-pub mod Kept
-pub mod Parts
-pub mod Places
-pub mod Gathered
 pub mod Laid
 pub mod Whole
 pub mod Ported

@@ -13,12 +13,14 @@ use Rattle.ma_lines.specs.Sections.{Section, section_of}
 use Rattle.model_text.specs.Keyed.{Item, entries_of, value_of, texts_of}
 use Rattle.model_text.specs.Spaces.{space_of, zones_of, rows_of, PortPlace, port_places}
 use Rattle.model_text.specs.Rules.{names_of, zone_item, port_item}
-use Rattle.model_text.specs.Trees.{delay_of, default_delay_of, initial_value_of, variables_of, ports_of, values_of}
+use Rattle.model_text.specs.Trees.{delay_of, default_delay_of, initial_value_of, variables_of}
+use Rattle.model_text.specs.Trees.{ports_of, values_of}
 use Rattle.model_walk.specs.Shown.{item_of}
 use Rattle.model_spaces.specs.declared.placed.PlacedGroup.{PlacedGroup}
 use Rattle.model_spaces.specs.declared.placed.PlacedRule.{PlacedRule}
 
--- a group's section, and what it says: its space, the names of its rules, what its zones and ports name
+-- a group's section, and what it says: its space, the names of its rules, what its zones and ports
+-- name
 pub record Placed : Type 0 where
   pub section : Section
   pub space : Space
@@ -82,4 +84,5 @@ shown g =
 
 -- the values before files are laid on
 abbrev pub values_before_files : Section → List Value
-values_before_files s = with_rows (space_of s) (filled (space_of s) (initial_value_of s)) (rows_of s)
+values_before_files s =
+    with_rows (space_of s) (filled (space_of s) (initial_value_of s)) (rows_of s)

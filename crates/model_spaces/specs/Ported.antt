@@ -1,5 +1,6 @@
 -- Private: ports of cells that are added entry by entry.
-use Rattle.std.specs.Prelude.{◌≡◌, ℕ, Option, Some, None, List, [], ◌∷◌, ◌++◌, map, fold, codes, if◌then◌else◌}
+use Rattle.std.specs.Prelude.{◌≡◌, ℕ, Option, Some, None, List, [], ◌∷◌, ◌++◌, map, fold, codes}
+use Rattle.std.specs.Prelude.{if◌then◌else◌}
 use Rattle.std.specs.List.{filter, filter_map, list_any}
 use Rattle.std.specs.Option.{option_and_then, option_map}
 use Rattle.std.specs.Str.{bytes_eq}
@@ -53,5 +54,6 @@ seen_after s seen es = fold with_port seen (map (place_in s) (port_entries es))
 
 -- the ports of these entries stand behind the others
 pub record AddsPorts (s : Section) (old new : List PlacedRule) (es : List Entry) : Type 0 where
-  pub places : map place_shown new ≡ map place_shown old ++ filter_map (place_in s) (port_entries es)
+  pub places : map place_shown new
+      ≡ map place_shown old ++ filter_map (place_in s) (port_entries es)
   pub rules : map rule_shown new ≡ map rule_shown old ++ filter_map (item_in s) (port_entries es)

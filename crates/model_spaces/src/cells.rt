@@ -5,8 +5,8 @@ ghost use Rattle.ma_lines.specs.Sections.{section_of};
 ghost use Rattle.model_text.specs.Spaces as S;
 ghost use Rattle.model_walk.specs.Shown.{refusal_of};
 
-use crate::sizes::cells;
 use ma_lines::Section;
+use model_groups::sizes::cells;
 use model_text::Kind;
 use model_walk::Refused;
 
@@ -15,7 +15,8 @@ const MOST_CELLS: u128 = 1048576;
 
 /// The first group with which all cells are too many.
 pub(crate) fn first_large(groups: &[&Section]) -> Option<Refused>
-    ensures { option_map refusal_of result ≡ S.first_large 0 (map (λ r. section_of r.now) groups.now) }
+    ensures { option_map refusal_of result
+        ≡ S.first_large 0 (map (λ r. section_of r.now) groups.now) }
 {
     let mut total: u128 = 0;
     for section in groups {

@@ -7,11 +7,11 @@ ghost use Rattle.model_text.specs.Spaces as S;
 ghost use Rattle.model_walk.specs.Shown.{refusal_of};
 ghost use Rattle.model_walk.specs.Least.{merged};
 
-use crate::offsets::{MOST_OFFSETS, offsets};
 use crate::ports::ports_refused;
 use crate::tested::{Tested, entries_refused};
 use cell_grid::Grid;
 use ma_lines::Section;
+use model_groups::offsets::{MOST_OFFSETS, offsets};
 use model_text::Kind;
 use model_walk::Refused;
 use model_walk::least::least;
@@ -25,7 +25,8 @@ pub(crate) fn space_refused(
     grid: &Grid,
 ) -> Result<Option<Refused>, OutOfMemory>
     requires { grid.now ≡ S.space_of (section_of section.now) }
-    ensures { IfOk result (λ why. option_map refusal_of why ≡ K.least (S.of_space (section_of section.now))) }
+    ensures { IfOk result (λ why. option_map refusal_of why
+        ≡ K.least (S.of_space (section_of section.now))) }
 {
     let neighbors = entries_refused(alloc, section, grid, Tested::Neighbors)?;
     let ports = ports_refused(alloc, section, grid)?;
@@ -44,7 +45,10 @@ fn least_of_six(
     e: Option<Refused>,
     f: Option<Refused>,
 ) -> Option<Refused>
-    ensures { option_map refusal_of result ≡ merged (merged (merged (merged (merged (option_map refusal_of a) (option_map refusal_of b)) (option_map refusal_of c)) (option_map refusal_of d)) (option_map refusal_of e)) (option_map refusal_of f) }
+    ensures { option_map refusal_of result
+        ≡ merged (merged (merged (merged (merged
+        (option_map refusal_of a) (option_map refusal_of b)) (option_map refusal_of c))
+        (option_map refusal_of d)) (option_map refusal_of e)) (option_map refusal_of f) }
 {
     least(least(least(least(least(a, b), c), d), e), f)
 }
@@ -55,7 +59,8 @@ fn too_many_offsets(
     grid: &Grid,
 ) -> Result<Option<Refused>, OutOfMemory>
     requires { grid.now ≡ S.space_of (section_of section.now) }
-    ensures { IfOk result (λ why. option_map refusal_of why ≡ K.least (S.too_many_offsets (section_of section.now))) }
+    ensures { IfOk result (λ why. option_map refusal_of why
+        ≡ K.least (S.too_many_offsets (section_of section.now))) }
 {
     let offsets = offsets(alloc, section, grid)?;
     if offsets.len() <= MOST_OFFSETS {

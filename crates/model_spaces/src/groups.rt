@@ -13,9 +13,9 @@ ghost use Rattle.model_spaces.specs.Right.{CanBeHeld, IsRight};
 
 use crate::group::space_refused;
 use crate::rows::values;
-use crate::sizes::space;
 use cell_grid::Initial;
 use ma_lines::Section;
+use model_groups::sizes::space;
 use model_walk::entries::is_group;
 use model_walk::least::least;
 use model_walk::{Refused, Walked};
@@ -27,7 +27,8 @@ pub(crate) fn groups<'a>(
     alloc: Global,
     walked: &Walked<'a>,
 ) -> Result<Vec<&'a Section>, OutOfMemory>
-    ensures { IfOk result (λ found. map (λ r. section_of r.now) found.items ≡ filter W.is_group (met_of walked.now).sections) }
+    ensures { IfOk result (λ found. map (λ r. section_of r.now) found.items
+        ≡ filter W.is_group (met_of walked.now).sections) }
 {
     let mut found = Vec::new(alloc);
     for section in &walked.sections {
@@ -37,7 +38,9 @@ pub(crate) fn groups<'a>(
 }
 
 fn add_group<'a>(section: &'a Section, found: &mut Vec<&'a Section>) -> Result<(), OutOfMemory>
-    ensures { OnOk result (map (λ r. section_of r.now) found.new.items ≡ map (λ r. section_of r.now) found.old.items ++ filter W.is_group (section_of section.now ∷ [])) }
+    ensures { OnOk result (map (λ r. section_of r.now) found.new.items
+        ≡ map (λ r. section_of r.now) found.old.items
+        ++ filter W.is_group (section_of section.now ∷ [])) }
 {
     if is_group(section) {
         found.push(section).map_err(AllocError::from)?;
@@ -51,7 +54,8 @@ pub(crate) fn all_refused(
     groups: &[&Section],
 ) -> Result<Option<Refused>, OutOfMemory>
     requires { AllByRecursion CanBeHeld (map (λ r. section_of r.now) groups.now) }
-    ensures { IfOk result (λ why. option_map refusal_of why ≡ K.least (flat_map S.of_space (map (λ r. section_of r.now) groups.now))) }
+    ensures { IfOk result (λ why. option_map refusal_of why
+        ≡ K.least (flat_map S.of_space (map (λ r. section_of r.now) groups.now))) }
 {
     let mut first = None;
     for section in groups {
@@ -62,7 +66,8 @@ pub(crate) fn all_refused(
 
 fn group_refused(alloc: Global, section: &Section) -> Result<Option<Refused>, OutOfMemory>
     requires { CanBeHeld (section_of section.now) }
-    ensures { IfOk result (λ why. option_map refusal_of why ≡ K.least (S.of_space (section_of section.now))) }
+    ensures { IfOk result (λ why. option_map refusal_of why
+        ≡ K.least (S.of_space (section_of section.now))) }
 {
     space_refused(alloc, section, &space(section))
 }
@@ -70,7 +75,8 @@ fn group_refused(alloc: Global, section: &Section) -> Result<Option<Refused>, Ou
 /// The values of these groups before files are laid on.
 pub(crate) fn all_values(alloc: Global, groups: &[&Section]) -> Result<Vec<Initial>, OutOfMemory>
     requires { AllByRecursion IsRight (map (λ r. section_of r.now) groups.now) }
-    ensures { IfOk result (λ all. all.items ≡ map values_before_files (map (λ r. section_of r.now) groups.now)) }
+    ensures { IfOk result (λ all. all.items
+        ≡ map values_before_files (map (λ r. section_of r.now) groups.now)) }
 {
     let mut all = Vec::new(alloc);
     for section in groups {

@@ -33,7 +33,8 @@ pub struct PlacedGroup<'a> {
     pub port_values: Vec<Value>,
 }
 
-/// The groups in declared order, and beside them the values of `initialvalue` and of the rows, which files are laid on later.
+/// The groups in declared order, and beside them the values of `initialvalue` and of the rows,
+/// which files are laid on later.
 #[derive(Drop)]
 pub struct Spaces<'a> {
     pub groups: Vec<PlacedGroup<'a>>,

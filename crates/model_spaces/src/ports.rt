@@ -11,12 +11,12 @@ ghost use Rattle.model_spaces.specs.Placed.{place_shown, rule_shown};
 ghost use Rattle.model_spaces.specs.Ported as spec;
 
 use crate::cell_ports::CellPorts;
-use crate::keyed::has_key;
 use crate::placed::PlacedRule;
 use cell_grid::Grid;
 use cell_grid::tuple_place::cell_in;
 use ma_lines::{Entry, Section};
 use model_forms::port_rule::port_rule_text;
+use model_groups::keyed::has_key;
 use model_text::Kind;
 use model_walk::Refused;
 use model_walk::least::least;
@@ -30,7 +30,9 @@ pub(crate) fn ports_refused(
     grid: &Grid,
 ) -> Result<Option<Refused>, OutOfMemory>
     requires { grid.now ≡ S.space_of (section_of section.now) }
-    ensures { IfOk result (λ why. option_map refusal_of why ≡ K.least (S.ports_refused (section_of section.now) [] (K.entries_of (codes "portintransition") (section_of section.now)))) }
+    ensures { IfOk result (λ why. option_map refusal_of why
+        ≡ K.least (S.ports_refused (section_of section.now) []
+        (K.entries_of (codes "portintransition") (section_of section.now)))) }
 {
     let mut seen = CellPorts::new(alloc);
     let mut first = None;
@@ -47,8 +49,11 @@ fn entry_refused<'a>(
     seen: &mut CellPorts<'a>,
 ) -> Result<Option<Refused>, OutOfMemory>
     requires { grid.now ≡ S.space_of (section_of section.now) }
-    ensures refused { IfOk result (λ why. option_map refusal_of why ≡ K.least (flat_map (spec.refused_after (section_of section.now) seen.old) (spec.port_entries (entry.now ∷ [])))) }
-    ensures seen { OnOk result (seen.new ≡ spec.seen_after (section_of section.now) seen.old (entry.now ∷ [])) }
+    ensures refused { IfOk result (λ why. option_map refusal_of why
+        ≡ K.least (flat_map (spec.refused_after (section_of section.now) seen.old)
+        (spec.port_entries (entry.now ∷ [])))) }
+    ensures seen { OnOk result (seen.new
+        ≡ spec.seen_after (section_of section.now) seen.old (entry.now ∷ [])) }
 {
     if !has_key(entry, b"portintransition") {
         return Ok(None);
@@ -70,8 +75,10 @@ fn is_new<'a>(
     seen: &mut CellPorts<'a>,
 ) -> Result<bool, OutOfMemory>
     requires { grid.now ≡ S.space_of (section_of section.now) }
-    ensures is_new { IfOk result (λ is_new. is_new ≡ S.is_new_place seen.old (S.port_place (section_of section.now) entry.now)) }
-    ensures seen { OnOk result (seen.new ≡ spec.with_port seen.old (spec.place_in (section_of section.now) entry.now)) }
+    ensures is_new { IfOk result (λ is_new. is_new
+        ≡ S.is_new_place seen.old (S.port_place (section_of section.now) entry.now)) }
+    ensures seen { OnOk result (seen.new
+        ≡ spec.with_port seen.old (spec.place_in (section_of section.now) entry.now)) }
 {
     let Some(rule) = port_rule(section, grid, entry) else {
         return Ok(false);
@@ -79,10 +86,12 @@ fn is_new<'a>(
     seen.insert(rule.port, rule.cell)
 }
 
-/// The port of an entry with the name of its rules; None where it has no form of one, or its cell is outside.
+/// The port of an entry with the name of its rules; None where it has no form of one, or its cell
+/// is outside.
 fn port_rule<'a>(section: &Section, grid: &Grid, entry: &'a Entry) -> Option<PlacedRule<'a>>
     requires { grid.now ≡ S.space_of (section_of section.now) }
-    ensures place { option_map place_shown result ≡ spec.place_in (section_of section.now) entry.now }
+    ensures place { option_map place_shown result
+        ≡ spec.place_in (section_of section.now) entry.now }
     ensures rules { option_map rule_shown result ≡ spec.item_in (section_of section.now) entry.now }
 {
     let _section = section;
@@ -103,9 +112,13 @@ pub(crate) fn port_rules<'a>(
     grid: &Grid,
 ) -> Result<Vec<PlacedRule<'a>>, OutOfMemory>
     requires space { grid.now ≡ S.space_of (section_of section.now) }
-    requires passes { S.ports_refused (section_of section.now) [] (K.entries_of (codes "portintransition") (section_of section.now)) ≡ [] }
-    ensures places { IfOk result (λ rules. map place_shown rules.items ≡ S.port_places (section_of section.now)) }
-    ensures rules { IfOk result (λ rules. map rule_shown rules.items ≡ filter_map (R.port_item (section_of section.now)) (K.entries_of (codes "portintransition") (section_of section.now))) }
+    requires passes { S.ports_refused (section_of section.now) []
+        (K.entries_of (codes "portintransition") (section_of section.now)) ≡ [] }
+    ensures places { IfOk result (λ rules. map place_shown rules.items
+        ≡ S.port_places (section_of section.now)) }
+    ensures rules { IfOk result (λ rules. map rule_shown rules.items
+        ≡ filter_map (R.port_item (section_of section.now))
+        (K.entries_of (codes "portintransition") (section_of section.now))) }
 {
     let mut rules = Vec::new(alloc);
     for entry in &section.entries {
@@ -122,7 +135,8 @@ fn add_rule<'a>(
     rules: &mut Vec<PlacedRule<'a>>,
 ) -> Result<(), OutOfMemory>
     requires { grid.now ≡ S.space_of (section_of section.now) }
-    ensures { OnOk result (spec.AddsPorts (section_of section.now) rules.old.items rules.new.items (entry.now ∷ [])) }
+    ensures { OnOk result (spec.AddsPorts (section_of section.now) rules.old.items rules.new.items
+        (entry.now ∷ [])) }
 {
     if !has_key(entry, b"portintransition") {
         return Ok(());

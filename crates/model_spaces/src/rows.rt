@@ -7,11 +7,11 @@ ghost use Rattle.ma_lines.specs.Sections.{section_of};
 ghost use Rattle.model_text.specs.Spaces as S;
 ghost use Rattle.model_spaces.specs.Placed.{values_before_files};
 
-use crate::keyed::has_key;
-use crate::sizes::initial_value;
 use cell_grid::rows::{is_row_digits, is_row_values};
 use cell_grid::{Grid, Initial};
 use ma_lines::{Entry, Section};
+use model_groups::keyed::has_key;
+use model_groups::sizes::initial_value;
 use quantity::OutOfMemory;
 use std::alloc::Global;
 
@@ -31,7 +31,8 @@ pub(crate) fn values(alloc: Global, section: &Section, grid: &Grid) -> Result<In
 fn with_entry(section: &Section, grid: &Grid, entry: &Entry, initial: Initial) -> Initial
     requires space { grid.now ≡ S.space_of (section_of section.now) }
     requires length { length initial ≡ cell_count grid.now }
-    ensures value { result ≡ fold (with_row grid.now) initial (filter_map (S.row_in (section_of section.now)) (entry.now ∷ [])) }
+    ensures value { result ≡ fold (with_row grid.now) initial
+        (filter_map (S.row_in (section_of section.now)) (entry.now ∷ [])) }
     ensures length { length result ≡ cell_count grid.now }
 {
     let _section = section;
@@ -47,7 +48,8 @@ fn with_entry(section: &Section, grid: &Grid, entry: &Entry, initial: Initial) -
 
 fn with_digits(grid: &Grid, text: &[u8], initial: Initial) -> Initial
     requires { length initial ≡ cell_count grid.now }
-    ensures value { result ≡ fold (with_row grid.now) initial (option_to_list (row_digits grid.now text.now)) }
+    ensures value { result
+        ≡ fold (with_row grid.now) initial (option_to_list (row_digits grid.now text.now)) }
     ensures length { length result ≡ cell_count grid.now }
 {
     if !is_row_digits(text, grid) {
@@ -61,7 +63,8 @@ fn with_digits(grid: &Grid, text: &[u8], initial: Initial) -> Initial
 
 fn with_values(grid: &Grid, text: &[u8], initial: Initial) -> Initial
     requires { length initial ≡ cell_count grid.now }
-    ensures value { result ≡ fold (with_row grid.now) initial (option_to_list (row_values grid.now text.now)) }
+    ensures value { result
+        ≡ fold (with_row grid.now) initial (option_to_list (row_values grid.now text.now)) }
     ensures length { length result ≡ cell_count grid.now }
 {
     if !is_row_values(text, grid) {

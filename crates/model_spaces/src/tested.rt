@@ -12,12 +12,12 @@ ghost use Rattle.model_text.specs.Spaces as S;
 ghost use Rattle.model_walk.specs.Shown.{refusal_of};
 ghost use Rattle.model_spaces.specs.Tested as spec;
 
-use crate::keyed::has_key;
 use cell_grid::rows::{is_row_digits, is_row_values};
 use cell_grid::tuple_place::offset_in;
 use cell_grid::{Grid, ZoneRefusal, Zones};
 use ma_lines::{Entry, Section};
 use model_forms::tuples::tuples_of;
+use model_groups::keyed::has_key;
 use model_text::Kind;
 use model_walk::Refused;
 use model_walk::least::least;
@@ -63,7 +63,8 @@ pub(crate) fn entries_refused(
     tested: Tested,
 ) -> Result<Option<Refused>, OutOfMemory>
     requires { grid.now ≡ S.space_of (section_of section.now) }
-    ensures { IfOk result (λ why. option_map refusal_of why ≡ K.least (spec.refused_among tested (section_of section.now) section.now.entries.items)) }
+    ensures { IfOk result (λ why. option_map refusal_of why
+        ≡ K.least (spec.refused_among tested (section_of section.now) section.now.entries.items)) }
 {
     let mut first = None;
     for entry in &section.entries {
@@ -80,7 +81,8 @@ fn entry_refused(
     entry: &Entry,
 ) -> Result<Option<Refused>, OutOfMemory>
     requires { grid.now ≡ S.space_of (section_of section.now) }
-    ensures { IfOk result (λ why. option_map refusal_of why ≡ K.least (spec.refused_among tested (section_of section.now) (entry.now ∷ []))) }
+    ensures { IfOk result (λ why. option_map refusal_of why
+        ≡ K.least (spec.refused_among tested (section_of section.now) (entry.now ∷ []))) }
 {
     if !has_key(entry, key(tested)) {
         return Ok(None);
@@ -102,7 +104,8 @@ fn is_right(
     entry: &Entry,
 ) -> Result<bool, OutOfMemory>
     requires { grid.now ≡ S.space_of (section_of section.now) }
-    ensures { IfOk result (λ right. right ≡ spec.is_right tested (section_of section.now) entry.now) }
+    ensures { IfOk result (λ right. right
+        ≡ spec.is_right tested (section_of section.now) entry.now) }
 {
     match tested {
         Tested::Neighbors => are_offsets(alloc, section, grid, entry),
@@ -118,7 +121,9 @@ fn are_offsets(
     entry: &Entry,
 ) -> Result<bool, OutOfMemory>
     requires { grid.now ≡ S.space_of (section_of section.now) }
-    ensures { IfOk result (λ right. right ≡ list_all (places.is_offset (S.space_of (section_of section.now))) (S.places_of (section_of section.now) entry.now)) }
+    ensures { IfOk result (λ right. right
+        ≡ list_all (places.is_offset (S.space_of (section_of section.now)))
+        (S.places_of (section_of section.now) entry.now)) }
 {
     match tuples_of(alloc, section.name.as_bytes(), entry.value.as_bytes())? {
         None => Ok(true),
@@ -145,7 +150,8 @@ fn is_zone(
     entry: &Entry,
 ) -> Result<bool, OutOfMemory>
     requires { grid.now ≡ S.space_of (section_of section.now) }
-    ensures { IfOk result (λ right. right ≡ is_some (zone_in (S.space_of (section_of section.now)) entry.now.value)) }
+    ensures { IfOk result (λ right. right
+        ≡ is_some (zone_in (S.space_of (section_of section.now)) entry.now.value)) }
 {
     let _section = section;
     let mut zones = Zones::new(alloc);

@@ -2,7 +2,7 @@ mod Basics
 mod Phases
 mod Walked
 mod Linked
-mod Keys
+pub mod Keys
 mod Offsets
 mod GroupOffsets
 mod Values
@@ -13,7 +13,7 @@ mod GroupRules
 mod Numbers
 mod GroupSound
 mod Steps
-mod Parts
+pub mod Parts
 mod Top
 mod Totals
 mod Bare

@@ -26,7 +26,8 @@ use Rattle.model_text.specs.ModelOf.{model, unless, link_limit_refused, routes_r
 -- what each phase between the lines and the initial files refuses, in their order
 abbrev pub phases : List Class → List Section → List (Option Refusal)
 phases classes ss =
-    top_refused ss ∷ tree_refused ss ∷ keys_refused ss ∷ cells_refused ss ∷ spaces_refused ss ∷ stock_refused classes ss ∷ rules_refused ss
+    top_refused ss ∷ tree_refused ss ∷ keys_refused ss ∷ cells_refused ss ∷ spaces_refused ss
+    ∷ stock_refused classes ss ∷ rules_refused ss
     ∷ links_refused ss ∷ link_limit_refused ss ∷ routes_refused ss ∷ []
 
 -- the first refusal
@@ -38,7 +39,8 @@ first_of (o ∷ os) = option_or o (first_of os)
 abbrev pub FirstPhaseDecides : Type 0
 FirstPhaseDecides =
     (ss : List Section) (files : Files) (classes : List Class) (drawing : Option Drawing) →
-    model_in ss files classes drawing ≡ unless (first_of (phases classes ss)) (λ _. with_files ss files drawing)
+    model_in ss files classes drawing
+    ≡ unless (first_of (phases classes ss)) (λ _. with_files ss files drawing)
 
 -- ---- what is accepted
 
@@ -56,7 +58,8 @@ pub record Passed (classes : List Class) (ss : List Section) : Type 0 where
   pub routes : routes_refused ss ≡ None
 
 -- the sections of a file that pass each phase, and whose tree it is
-pub record Accepted (bytes : Bytes) (files : Files) (classes : List Class) (drawing : Option Drawing) (t : Tree) : Type 0 where
+pub record Accepted (bytes : Bytes) (files : Files) (classes : List Class)
+    (drawing : Option Drawing) (t : Tree) : Type 0 where
   pub sections : List Section
   pub lines : sections_of bytes ≡ Ok sections
   pub passed : Passed classes sections
@@ -74,7 +77,9 @@ PassesEachPhase =
 
 -- no two components have one name, and none is named as top
 abbrev pub ComponentsDiffer : Type 0
-ComponentsDiffer = (ss : List Section) → tree_refused ss ≡ None → has_repeat (top ∷ map name_of (items_in (walk ss))) ≡ false
+ComponentsDiffer =
+    (ss : List Section) → tree_refused ss ≡ None
+    → has_repeat (top ∷ map name_of (items_in (walk ss))) ≡ false
 
 -- at most 4096 atomic components
 abbrev pub AtomicsFit : Type 0
@@ -85,13 +90,17 @@ AtomicsFit = (ss : List Section) → tree_refused ss ≡ None → length (atomic
 -- each link of a section is one that is accepted after those before it
 abbrev pub LinksAreAccepted : Type 0
 LinksAreAccepted =
-    (ss : List Section) → links_refused ss ≡ None → AllByRecursion (λ s. are_accepted (face_of ss s) [] (links_of s) ≡ true) (reached ss)
+    (ss : List Section) → links_refused ss ≡ None
+    → AllByRecursion (λ s. are_accepted (face_of ss s) [] (links_of s) ≡ true) (reached ss)
 
 -- ---- what all phases say of the components
 
--- each component is sound: its ports differ, its links are accepted in order, its groups are sound, and it has a child
+-- each component is sound: its ports differ, its links are accepted in order, its groups are sound,
+-- and it has a child
 abbrev pub PartsAreSound : Type 0
-PartsAreSound = (files : Files) (classes : List Class) (ss : List Section) → Passed classes ss → is_sound_part (tree_of files ss) ≡ true
+PartsAreSound =
+    (files : Files) (classes : List Class) (ss : List Section) → Passed classes ss
+    → is_sound_part (tree_of files ss) ≡ true
 
 -- ---- accepted models are sound
 

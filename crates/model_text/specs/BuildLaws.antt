@@ -1,4 +1,5 @@
--- What the phases before the count of paths say: what makes the model, part by part, and what its initial files leave as it is.
+-- What the phases before the count of paths say: what makes the model, part by part, and what its
+-- initial files leave as it is.
 use Rattle.std.specs.Prelude.{◌≡◌, ℕ, suc, ◌≤◌, true, false, Some, None, List, [], ◌∷◌, map, length, IfSome, codes}
 use Rattle.std.specs.List.{AllByRecursion}
 use Rattle.quantity.specs.Bytes.{Bytes}
@@ -41,18 +42,23 @@ pub record PassedLinks (classes : List Class) (ss : List Section) : Type 0 where
 abbrev pub SpacesCanBeHeld : Type 0
 SpacesCanBeHeld =
     (ss : List Section) → keys_refused ss ≡ None → cells_refused ss ≡ None →
-    AllByRecursion (λ s. CanHold (space_of s).rows (space_of s).columns (space_of s).planes) (groups ss)
+    AllByRecursion (λ s. CanHold (space_of s).rows (space_of s).columns (space_of s).planes)
+    (groups ss)
 
 -- the rules of each group may use no more names than a group may have
 abbrev pub NamesAreFew : Type 0
-NamesAreFew = (ss : List Section) → keys_refused ss ≡ None → spaces_refused ss ≡ None → AllByRecursion (λ s. AreFew (names_of s)) (groups ss)
+NamesAreFew =
+    (ss : List Section) → keys_refused ss ≡ None → spaces_refused ss ≡ None
+    → AllByRecursion (λ s. AreFew (names_of s)) (groups ss)
 
 -- ---- atomic components
 
 -- no parameter that may stand once stands again
 abbrev pub ParametersStandOnce : Type 0
 ParametersStandOnce =
-    (ss : List Section) → keys_refused ss ≡ None → AllByRecursion (λ i. IfSome (class_of_item i) (λ class. are_once class (params_of ss i) ≡ true)) (atomics ss)
+    (ss : List Section) → keys_refused ss ≡ None
+    → AllByRecursion
+    (λ i. IfSome (class_of_item i) (λ class. are_once class (params_of ss i) ≡ true)) (atomics ss)
 
 -- ---- the whole tree
 
@@ -65,7 +71,9 @@ pub record IsWithinLimits (t : Tree) : Type 0 where
 
 -- whatever its files
 abbrev pub TotalsAreWithinLimits : Type 0
-TotalsAreWithinLimits = (files : Files) (classes : List Class) (ss : List Section) → PassedLinks classes ss → IsWithinLimits (tree_of files ss)
+TotalsAreWithinLimits =
+    (files : Files) (classes : List Class) (ss : List Section) → PassedLinks classes ss
+    → IsWithinLimits (tree_of files ss)
 
 -- the files change no port, link or path
 pub record FilesChangeNoPath (files : Files) (ss : List Section) : Type 0 where
@@ -79,7 +87,8 @@ pub record FilesChangeNoPath (files : Files) (ss : List Section) : Type 0 where
 -- the tree with files is the tree without them, with the values of each group laid on it
 abbrev pub FilesAreLaid : Type 0
 FilesAreLaid =
-    (files : Files) (classes : List Class) (ss : List Section) → PassedLinks classes ss → tree_of files ss ≡ laid (map (initial_of files) (groups ss)) (tree_of no_files ss)
+    (files : Files) (classes : List Class) (ss : List Section) → PassedLinks classes ss
+    → tree_of files ss ≡ laid (map (initial_of files) (groups ss)) (tree_of no_files ss)
 
 -- whatever the files and the sections
 abbrev pub PathsStay : Type 0
@@ -89,7 +98,9 @@ PathsStay = (files : Files) (ss : List Section) → FilesChangeNoPath files ss
 
 -- the component of an item: that of the section behind it, or an atomic one
 abbrev pub component_at : ℕ → Files → List Section → Item → List Tree
-component_at n files ss i = elim (section_of ss i) [ None ↦ atomic_of ss i (class_of_item i) | Some t ↦ component_of n files ss t ]
+component_at n files ss i =
+    elim (section_of ss i)
+    [ None ↦ atomic_of ss i (class_of_item i) | Some t ↦ component_of n files ss t ]
 
 -- the same where it stands alone
 abbrev pub tree_at_item : ℕ → Files → List Section → Item → Tree
@@ -97,18 +108,31 @@ tree_at_item n files ss i = first_tree (component_at n files ss i)
 
 -- each step of the walk is that of a right section or item
 abbrev pub WalkIsMet : Type 0
-WalkIsMet = (files : Files) (classes : List Class) (ss : List Section) → PassedLinks classes ss → AllByRecursion (Met files ss) (walk ss)
+WalkIsMet =
+    (files : Files) (classes : List Class) (ss : List Section) → PassedLinks classes ss
+    → AllByRecursion (Met files ss) (walk ss)
 
 -- an item's component is that of its section, which is bare, or an atomic one of its class
 pub record ItemsAreMade : Type 0 where
-  pub section : (n : ℕ) (files : Files) (ss : List Section) (i : Item) (t : Section) → section_of ss i ≡ Some t → component_at n files ss i ≡ component_of n files ss t
-  pub class : (n : ℕ) (files : Files) (ss : List Section) (i : Item) (class : Class) → section_of ss i ≡ None → class_of_item i ≡ Some class
-      → component_at n files ss i ≡ atomic (name_of i) class (settings_of class (params_of ss i)) ∷ []
+  pub section : (n : ℕ) (files : Files) (ss : List Section) (i : Item) (t : Section)
+      → section_of ss i ≡ Some t → component_at n files ss i ≡ component_of n files ss t
+  pub class : (n : ℕ) (files : Files) (ss : List Section) (i : Item) (class : Class)
+      → section_of ss i ≡ None → class_of_item i ≡ Some class
+      → component_at n files ss i
+      ≡ atomic (name_of i) class (settings_of class (params_of ss i)) ∷ []
 
--- a group's component, and a coupled one with a component for each item, where the walk from it is met
+-- a group's component, and a coupled one with a component for each item, where the walk from it is
+-- met
 pub record SectionsAreMade : Type 0 where
-  pub group : (n : ℕ) (files : Files) (ss : List Section) (s : Section) → is_group s ≡ true → component_of (suc n) files ss s ≡ cells (group_of files ss s) ∷ []
-  pub coupled_of : (n : ℕ) (files : Files) (ss : List Section) (around : List Bytes) (line : ℕ) (s : Section) → is_group s ≡ false → AllByRecursion (Met files ss) (walk_from (suc n) ss around line s)
-      → component_of (suc n) files ss s ≡ coupled s.name (texts_of (codes "in") s) (texts_of (codes "out") s) (trees (map (tree_at_item n files ss) (children_of s))) (links_of s) ∷ []
-  pub alone : (n : ℕ) (files : Files) (ss : List Section) (around : List Bytes) (line : ℕ) (s : Section) → AllByRecursion (Met files ss) (walk_from (suc n) ss around line s)
-      → AllByRecursion (λ i. component_at n files ss i ≡ tree_at_item n files ss i ∷ []) (children_of s)
+  pub group : (n : ℕ) (files : Files) (ss : List Section) (s : Section) → is_group s ≡ true
+      → component_of (suc n) files ss s ≡ cells (group_of files ss s) ∷ []
+  pub coupled_of : (n : ℕ) (files : Files) (ss : List Section) (around : List Bytes) (line : ℕ)
+      (s : Section) → is_group s ≡ false
+      → AllByRecursion (Met files ss) (walk_from (suc n) ss around line s)
+      → component_of (suc n) files ss s
+      ≡ coupled s.name (texts_of (codes "in") s) (texts_of (codes "out") s)
+      (trees (map (tree_at_item n files ss) (children_of s))) (links_of s) ∷ []
+  pub alone : (n : ℕ) (files : Files) (ss : List Section) (around : List Bytes) (line : ℕ)
+      (s : Section) → AllByRecursion (Met files ss) (walk_from (suc n) ss around line s)
+      → AllByRecursion (λ i. component_at n files ss i ≡ tree_at_item n files ss i ∷ [])
+      (children_of s)

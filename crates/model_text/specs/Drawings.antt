@@ -25,4 +25,5 @@ has_plane plane (Some g) = nat_lt plane (plane_count g.space)
 -- no such plane
 abbrev pub drawing_refused : Option Drawing → Tree → Option Refusal
 drawing_refused None t = None
-drawing_refused (Some d) t = if has_plane d.plane (group_named d.group t) then None else Some (refusal 0 NoSuchPlane)
+drawing_refused (Some d) t =
+    if has_plane d.plane (group_named d.group t) then None else Some (refusal 0 NoSuchPlane)

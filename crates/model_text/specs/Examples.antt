@@ -45,7 +45,13 @@ abbrev pub offset : ℤ → ℤ → Offset
 offset row column = record { row = row; column = column; plane = pos 0 }
 
 abbrev pub gives : ℕ → Expr → Rule
-gives v condition = record { gives = (0, number (whole v)) ∷ []; delay = number (whole 100); condition = condition; sets = [] }
+gives v condition =
+    record {
+      gives = (0, number (whole v)) ∷ [];
+      delay = number (whole 100);
+      condition = condition;
+      sets = [];
+    }
 
 abbrev pub line_group : Group
 line_group =
@@ -58,7 +64,9 @@ line_group =
       initial = whole 0 ∷ whole 1 ∷ whole 0 ∷ [];
       zones = [];
       zone_rules = [];
-      rule_sets = (gives 1 (two (Cmp Equal) (counted Ones) (number (whole 1))) ∷ gives 0 (truth True) ∷ []) ∷ [];
+      rule_sets =
+          (gives 1 (two (Cmp Equal) (counted Ones) (number (whole 1))) ∷ gives 0 (truth True) ∷ [])
+          ∷ [];
       port_rules = [];
       ins = [];
       outs = [];
@@ -74,15 +82,18 @@ line_tree = coupled (codes "top") [] [] (cons (cells line_group) nil) []
 
 pub record LineIsRead : Type 0 where
   pub tree : read line_model ≡ model line_tree
-  pub upper : read (map str_to_ascii_uppercase (with_line 5 (codes "dim : (1,3) % x") line_model)) ≡ model line_tree
+  pub upper : read (map str_to_ascii_uppercase (with_line 5 (codes "dim : (1,3) % x") line_model))
+      ≡ model line_tree
 
 -- ---- atomic components
 
 -- a table of two states
 abbrev pub light_model : Bytes → List Bytes
 light_model hold =
-    codes "[top]" ∷ codes "components : l@table" ∷ codes "in : p" ∷ codes "out : o" ∷ codes "link : p a@l" ∷ codes "link : out@l o" ∷ codes "[l]"
-    ∷ codes "states : red green" ∷ hold ∷ codes "hold : green 00:00:00:050 2 red" ∷ codes "take : green a 9 red" ∷ []
+    codes "[top]" ∷ codes "components : l@table" ∷ codes "in : p" ∷ codes "out : o"
+    ∷ codes "link : p a@l" ∷ codes "link : out@l o" ∷ codes "[l]"
+    ∷ codes "states : red green" ∷ hold ∷ codes "hold : green 00:00:00:050 2 red"
+    ∷ codes "take : green a 9 red" ∷ []
 
 abbrev pub settings_in : ModelOf → List (List ℤ)
 settings_in (model (coupled name ins outs (cons (atomic n c settings) ts) links)) = settings ∷ []
@@ -90,10 +101,13 @@ settings_in a = []
 
 pub record TableIsRead : Type 0 where
   pub settings : settings_in (read (light_model (codes "hold : red 00:00:00:030 1 green"))) ≡
-      (pos 2 ∷ pos 0 ∷ pos 30 ∷ pos 100000 ∷ pos 1 ∷ pos 50 ∷ pos 200000 ∷ pos 0 ∷ pos 1 ∷ pos 0 ∷ pos 900000 ∷ pos 0 ∷ []) ∷ []
+      (pos 2 ∷ pos 0 ∷ pos 30 ∷ pos 100000 ∷ pos 1 ∷ pos 50 ∷ pos 200000 ∷ pos 0 ∷ pos 1 ∷ pos 0
+      ∷ pos 900000 ∷ pos 0 ∷ []) ∷ []
   pub no_hold : settings_in (read (light_model (codes "initial : green"))) ≡
-      (pos 2 ∷ pos 1 ∷ negsuc 0 ∷ pos 0 ∷ pos 0 ∷ pos 50 ∷ pos 200000 ∷ pos 0 ∷ pos 1 ∷ pos 0 ∷ pos 900000 ∷ pos 0 ∷ []) ∷ []
-  pub queue : read (codes "[top]" ∷ codes "components : q@queue" ∷ []) ≡ model (coupled (codes "top") [] [] (cons (atomic (codes "q") Queue (pos 0 ∷ [])) nil) [])
+      (pos 2 ∷ pos 1 ∷ negsuc 0 ∷ pos 0 ∷ pos 0 ∷ pos 50 ∷ pos 200000 ∷ pos 0 ∷ pos 1 ∷ pos 0
+      ∷ pos 900000 ∷ pos 0 ∷ []) ∷ []
+  pub queue : read (codes "[top]" ∷ codes "components : q@queue" ∷ [])
+      ≡ model (coupled (codes "top") [] [] (cons (atomic (codes "q") Queue (pos 0 ∷ [])) nil) [])
 
 pub record QueueIsRead : Type 0 where
   pub tree : read queue_model ≡ model twice_and_once
@@ -122,18 +136,26 @@ pub record LifeIsRead : Type 0 where
   pub group : map sizes (group_in (read blinker)) ≡ (9, 25, 1) ∷ []
   pub lines : entries_in (sections_of (file blinker)) ≡
       ((2, codes "components") ∷ [])
-      ∷ ((4, codes "type") ∷ (5, codes "width") ∷ (6, codes "height") ∷ (7, codes "delay") ∷ (8, codes "defaultdelaytime") ∷ (9, codes "border") ∷ (10, codes "neighbors")
-      ∷ (11, codes "neighbors") ∷ (12, codes "neighbors") ∷ (13, codes "initialvalue") ∷ (14, codes "initialrowvalue") ∷ (15, codes "localtransition") ∷ [])
+      ∷ ((4, codes "type") ∷ (5, codes "width") ∷ (6, codes "height") ∷ (7, codes "delay")
+      ∷ (8, codes "defaultdelaytime") ∷ (9, codes "border") ∷ (10, codes "neighbors")
+      ∷ (11, codes "neighbors") ∷ (12, codes "neighbors") ∷ (13, codes "initialvalue")
+      ∷ (14, codes "initialrowvalue") ∷ (15, codes "localtransition") ∷ [])
       ∷ ((17, codes "rule") ∷ (19, codes "rule") ∷ (20, codes "rule") ∷ []) ∷ []
-  pub values : map (λ (g : Group). g.initial) (group_in (read blinker)) ≡ map whole (0 ∷ 0 ∷ 0 ∷ 0 ∷ 0 ∷ 0 ∷ 0 ∷ 0 ∷ 0 ∷ 0 ∷ 0 ∷ 1 ∷ 1 ∷ 1 ∷ 0 ∷ 0 ∷ 0 ∷ 0 ∷ 0 ∷ 0 ∷ 0 ∷ 0 ∷ 0 ∷ 0 ∷ 0 ∷ []) ∷ []
+  pub values : map (λ (g : Group). g.initial) (group_in (read blinker))
+      ≡ map whole
+      (0 ∷ 0 ∷ 0 ∷ 0 ∷ 0 ∷ 0 ∷ 0 ∷ 0 ∷ 0 ∷ 0 ∷ 0 ∷ 1 ∷ 1 ∷ 1 ∷ 0 ∷ 0 ∷ 0 ∷ 0 ∷ 0 ∷ 0 ∷ 0 ∷ 0 ∷ 0
+      ∷ 0 ∷ 0 ∷ []) ∷ []
 
 -- ---- groups with zones, ports and links
 
 abbrev pub zoned : List Bytes
 zoned =
-    codes "[top]" ∷ codes "components : g" ∷ codes "[g]" ∷ codes "type : cell" ∷ codes "dim : (2,2)" ∷ codes "neighbors : (0,1)(0, 0) g(0,1)" ∷ codes "initialrow : 1 ? -2"
-    ∷ codes "localtransition : r" ∷ codes "zone : z { (0,0)..(1,0) (1,1) }" ∷ codes "portInTransition : v@g(1, 1)  p" ∷ codes "link : in v@g(0,0)"
-    ∷ codes "in : in" ∷ codes "zone : r { (0,1) }" ∷ codes "[r]" ∷ codes "[p]" ∷ codes "[z]" ∷ codes "rule : 0 100 { t }" ∷ []
+    codes "[top]" ∷ codes "components : g" ∷ codes "[g]" ∷ codes "type : cell" ∷ codes "dim : (2,2)"
+    ∷ codes "neighbors : (0,1)(0, 0) g(0,1)" ∷ codes "initialrow : 1 ? -2"
+    ∷ codes "localtransition : r" ∷ codes "zone : z { (0,0)..(1,0) (1,1) }"
+    ∷ codes "portInTransition : v@g(1, 1)  p" ∷ codes "link : in v@g(0,0)"
+    ∷ codes "in : in" ∷ codes "zone : r { (0,1) }" ∷ codes "[r]" ∷ codes "[p]" ∷ codes "[z]"
+    ∷ codes "rule : 0 100 { t }" ∷ []
 
 pub record Shape : Type 0 where
   pub offsets : List Offset
@@ -163,5 +185,7 @@ pub record GroupsAreRead : Type 0 where
     port_rules = record { port = codes "v"; cell = 3; rules = 2 } ∷ [];
     links = record { from = Own (codes "in"); to = Cell (codes "v") 0 } ∷ [];
   } ∷ []
-  pub port_group : map (λ (g : Group). g.links) (group_in (read port_model)) ≡ (record { from = Own (codes "in"); to = Cell (codes "v") 0 } ∷ []) ∷ []
-  pub made : map sizes (group_in (model_of (made_text 5) no_files boxes None).found) ≡ (9, 25, 1) ∷ []
+  pub port_group : map (λ (g : Group). g.links) (group_in (read port_model))
+      ≡ (record { from = Own (codes "in"); to = Cell (codes "v") 0 } ∷ []) ∷ []
+  pub made : map sizes (group_in (model_of (made_text 5) no_files boxes None).found)
+      ≡ (9, 25, 1) ∷ []

@@ -17,8 +17,10 @@ use Rattle.model_text.specs.Examples.{boxes, group_in}
 
 abbrev pub planes : List Bytes
 planes =
-    codes "[top]" ∷ codes "components : g" ∷ codes "[g]" ∷ codes "type : cell" ∷ codes "dim : (1,2,2)" ∷ codes "initialvalue : 1"
-    ∷ codes "initialcellsvalue : V.val" ∷ codes "localtransition : r" ∷ codes "[r]" ∷ codes "rule : 0 100 { t }" ∷ []
+    codes "[top]" ∷ codes "components : g" ∷ codes "[g]" ∷ codes "type : cell"
+    ∷ codes "dim : (1,2,2)" ∷ codes "initialvalue : 1"
+    ∷ codes "initialcellsvalue : V.val" ∷ codes "localtransition : r" ∷ codes "[r]"
+    ∷ codes "rule : 0 100 { t }" ∷ []
 
 -- the same with a map file
 abbrev pub with_map : List Bytes
@@ -28,7 +30,9 @@ abbrev pub one_file : Bytes → Bytes → Files
 one_file name bytes asked = if bytes_eq asked name then Some bytes else None
 
 abbrev pub two_files : Bytes → Bytes → Files
-two_files cells map asked = if bytes_eq asked (codes "V.val") then Some cells else if bytes_eq asked (codes "M.map") then Some map else None
+two_files cells map asked =
+    if bytes_eq asked (codes "V.val") then Some cells
+    else if bytes_eq asked (codes "M.map") then Some map else None
 
 abbrev pub draw : ℕ → Option Drawing
 draw plane = Some (record { group = codes "g"; plane = plane })
@@ -43,19 +47,33 @@ abbrev pub stops : List Bytes → ModelOf → ModelRead
 stops looked found = record { looked = looked; found = found }
 
 pub record FilesAreLaidOn : Type 0 where
-  pub values : map (λ (g : Group). g.initial) (group_in (read_with planes (one_file (codes "V.val") cells_content) (draw 1)).found) ≡
+  pub values : map (λ (g : Group). g.initial)
+      (group_in (read_with planes (one_file (codes "V.val") cells_content) (draw 1)).found) ≡
       (whole 1 ∷ Num (negsuc 39999) ∷ whole 1 ∷ whole 12 ∷ []) ∷ []
-  pub looked : (read_with planes (one_file (codes "V.val") cells_content) (draw 1)).looked ≡ codes "V.val" ∷ []
-  pub over_a_map : map (λ (g : Group). g.initial) (group_in (read_with with_map (two_files cells_content (codes "5 6 7 ?")) None).found) ≡
+  pub looked : (read_with planes (one_file (codes "V.val") cells_content) (draw 1)).looked
+      ≡ codes "V.val" ∷ []
+  pub over_a_map : map (λ (g : Group). g.initial)
+      (group_in (read_with with_map (two_files cells_content (codes "5 6 7 ?")) None).found) ≡
       (whole 5 ∷ Num (negsuc 39999) ∷ whole 7 ∷ whole 12 ∷ []) ∷ []
-  pub map_first : (read_with with_map (two_files cells_content (codes "5 6 7 ?")) None).looked ≡ codes "M.map" ∷ codes "V.val" ∷ []
+  pub map_first : (read_with with_map (two_files cells_content (codes "5 6 7 ?")) None).looked
+      ≡ codes "M.map" ∷ codes "V.val" ∷ []
 
 pub record FilesAreRefused : Type 0 where
-  pub no_plane : read_with planes (one_file (codes "V.val") cells_content) (draw 2) ≡ stops (codes "V.val" ∷ []) (refused (refusal 0 NoSuchPlane))
-  pub no_group : read_with planes (one_file (codes "V.val") cells_content) (Some (record { group = codes "r"; plane = 0 })) ≡ stops (codes "V.val" ∷ []) (refused (refusal 0 NoSuchPlane))
-  pub no_file : read_with planes no_files None ≡ stops (codes "V.val" ∷ []) (missing (codes "V.val"))
-  pub off : read_with planes (one_file (codes "V.val") (codes "(0,0) = 1")) None ≡ stops (codes "V.val" ∷ []) (refused (refusal 7 BadInitial))
-  pub no_map : read_with with_map (one_file (codes "V.val") cells_content) None ≡ stops (codes "M.map" ∷ []) (missing (codes "M.map"))
-  pub short_map : read_with with_map (two_files cells_content (codes "1 2 3")) None ≡ stops (codes "M.map" ∷ []) (refused (refusal 6 BadInitial))
-  pub files_before_drawing : read_with planes no_files (draw 2) ≡ stops (codes "V.val" ∷ []) (missing (codes "V.val"))
-  pub rules_before_files : read_with (with_line 8 (codes "localtransition : q") planes) no_files None ≡ stops [] (refused (refusal 8 NoSection))
+  pub no_plane : read_with planes (one_file (codes "V.val") cells_content) (draw 2)
+      ≡ stops (codes "V.val" ∷ []) (refused (refusal 0 NoSuchPlane))
+  pub no_group : read_with planes (one_file (codes "V.val") cells_content)
+      (Some (record { group = codes "r"; plane = 0 }))
+      ≡ stops (codes "V.val" ∷ []) (refused (refusal 0 NoSuchPlane))
+  pub no_file : read_with planes no_files None
+      ≡ stops (codes "V.val" ∷ []) (missing (codes "V.val"))
+  pub off : read_with planes (one_file (codes "V.val") (codes "(0,0) = 1")) None
+      ≡ stops (codes "V.val" ∷ []) (refused (refusal 7 BadInitial))
+  pub no_map : read_with with_map (one_file (codes "V.val") cells_content) None
+      ≡ stops (codes "M.map" ∷ []) (missing (codes "M.map"))
+  pub short_map : read_with with_map (two_files cells_content (codes "1 2 3")) None
+      ≡ stops (codes "M.map" ∷ []) (refused (refusal 6 BadInitial))
+  pub files_before_drawing : read_with planes no_files (draw 2)
+      ≡ stops (codes "V.val" ∷ []) (missing (codes "V.val"))
+  pub rules_before_files : read_with
+      (with_line 8 (codes "localtransition : q") planes) no_files None
+      ≡ stops [] (refused (refusal 8 NoSection))

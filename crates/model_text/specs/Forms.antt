@@ -65,7 +65,8 @@ is_word (c ∷ cs) = is_ascii_alphabetic c && list_all is_of_word cs && has_leng
 
 -- so many different words
 abbrev pub are_words : ℕ → Bytes → Bool
-are_words most text = has_length 1 most (words text) && list_all is_word (words text) && not (has_repeat (words text))
+are_words most text =
+    has_length 1 most (words text) && list_all is_word (words text) && not (has_repeat (words text))
 
 -- at most 3 different words, none of them out
 abbrev pub are_ports : Bytes → Bool
@@ -81,7 +82,8 @@ is_of_group group t = is_empty t.name || bytes_eq t.name group
 abbrev pub tuples_of : Bytes → Bytes → Option (List NamedTuple)
 tuples_of group text =
     option_and_then (λ ts. then_some (list_all (is_of_group group) ts) ts)
-    (option_and_then (λ parts. all_there (map (λ part. named_tuple (trimmed part)) parts)) (parts_of text))
+    (option_and_then (λ parts. all_there (map (λ part. named_tuple (trimmed part)) parts))
+    (parts_of text))
 
 -- ---- port@group(tuple) rules
 
@@ -94,7 +96,9 @@ pub record PortRuleText : Type 0 where
 -- port@group( and the numbers of a tuple
 abbrev pub port_and_place : Bytes → Bytes → Option (Bytes × List ℤ)
 port_and_place group text =
-    option_and_then (λ t. then_some (is_name (before_first (is_byte 64) text) && bytes_eq t.name group) (before_first (is_byte 64) text, t.place))
+    option_and_then
+    (λ t. then_some (is_name (before_first (is_byte 64) text) && bytes_eq t.name group)
+    (before_first (is_byte 64) text, t.place))
     (named_tuple (after_first (is_byte 64) text))
 
 -- a blank is the first byte
@@ -106,7 +110,9 @@ begins_with_blank (c ∷ cs) = is_blank c
 abbrev pub port_rule_text : Bytes → Bytes → Option PortRuleText
 port_rule_text group text =
     let rules = after_first (is_byte 41) text in
-    option_and_then (λ p. then_some (begins_with_blank rules && is_name (trimmed rules)) (record { port = p.0; place = p.1; rules = trimmed rules }))
+    option_and_then
+    (λ p. then_some (begins_with_blank rules && is_name (trimmed rules))
+    (record { port = p.0; place = p.1; rules = trimmed rules }))
     (port_and_place group (before_first (is_byte 41) text))
 
 -- ---- the ends of a link
@@ -115,11 +121,13 @@ port_rule_text group text =
 abbrev pub without_blanks : Bytes → Bytes
 without_blanks text = filter (λ c. not (is_blank c)) text
 
--- what stands behind an opening parenthesis: where a tuple ends at its first closing one, without the tuple's blanks
+-- what stands behind an opening parenthesis: where a tuple ends at its first closing one, without
+-- the tuple's blanks
 abbrev pub with_whole_tuple : Bytes → Bytes
 with_whole_tuple text =
     let inner = before_first (is_byte 41) text in
-    if list_any (is_byte 41) text && is_some (tuple (40 ∷ inner ++ 41 ∷ [])) then without_blanks inner ++ 41 ∷ after_first (is_byte 41) text else text
+    if list_any (is_byte 41) text && is_some (tuple (40 ∷ inner ++ 41 ∷ []))
+    then without_blanks inner ++ 41 ∷ after_first (is_byte 41) text else text
 
 -- the text of these parts, which are parted by opening parentheses
 abbrev pub with_whole_tuples : List Bytes → Bytes

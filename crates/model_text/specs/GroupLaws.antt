@@ -24,7 +24,8 @@ pub record RightOffsets (s : Section) : Type 0 where
 
 -- of each group, once the spaces pass
 abbrev pub OffsetsAreRight : Type 0
-OffsetsAreRight = (ss : List Section) → spaces_refused ss ≡ None → AllByRecursion RightOffsets (groups ss)
+OffsetsAreRight =
+    (ss : List Section) → spaces_refused ss ≡ None → AllByRecursion RightOffsets (groups ss)
 
 -- as many initial values as cells
 abbrev pub ValuesFit : Type 0
@@ -39,13 +40,16 @@ pub record RightSizes (s : Section) : Type 0 where
 abbrev pub SizesAreRight : Type 0
 SizesAreRight = (ss : List Section) → keys_refused ss ≡ None → AllByRecursion RightSizes (groups ss)
 
--- at most 8 variables and 3 further ports of different names, none of them out, with a value for each
+-- at most 8 variables and 3 further ports of different names, none of them out, with a value for
+-- each
 pub record RightNames (s : Section) : Type 0 where
   pub variables : length (variables_of s) ≤ 8
-  pub variable_values : length (values_of (value_of (codes "statevalues") s) (variables_of s)) ≡ length (variables_of s)
+  pub variable_values : length (values_of (value_of (codes "statevalues") s) (variables_of s))
+      ≡ length (variables_of s)
   pub variables_differ : has_repeat (variables_of s) ≡ false
   pub ports : length (ports_of s) ≤ 3
-  pub port_values : length (values_of (value_of (codes "portvalues") s) (ports_of s)) ≡ length (ports_of s)
+  pub port_values : length (values_of (value_of (codes "portvalues") s) (ports_of s))
+      ≡ length (ports_of s)
   pub ports_differ : has_repeat (out ∷ ports_of s) ≡ false
 
 -- of each group, once the keys pass
@@ -55,15 +59,22 @@ NamesAreRight = (ss : List Section) → keys_refused ss ≡ None → AllByRecurs
 -- a rule set at least, a number of one for each zone, and numbers of sets and cells in range
 pub record RightNumbers (ss : List Section) (s : Section) : Type 0 where
   pub sets : 1 ≤ length (rule_sets_of ss s)
-  pub zones : list_all (λ k. nat_lt k (length (rule_sets_of ss s))) (map (λ (z : Region). rule_set_number s z.name) (zones_of s)) ≡ true
-  pub ports : list_all (λ (p : PortRule). nat_lt p.rules (length (rule_sets_of ss s)) && nat_lt p.cell (cell_count (space_of s))) (filter_map (port_rule_of s) (port_places s)) ≡ true
+  pub zones : list_all (λ k. nat_lt k (length (rule_sets_of ss s)))
+      (map (λ (z : Region). rule_set_number s z.name) (zones_of s)) ≡ true
+  pub ports : list_all
+      (λ (p : PortRule). nat_lt p.rules (length (rule_sets_of ss s))
+      && nat_lt p.cell (cell_count (space_of s))) (filter_map (port_rule_of s) (port_places s))
+      ≡ true
 
 -- of each group, once the keys and the rules pass
 abbrev pub NumbersAreRight : Type 0
-NumbersAreRight = (ss : List Section) → keys_refused ss ≡ None → rules_refused ss ≡ None → AllByRecursion (RightNumbers ss) (groups ss)
+NumbersAreRight =
+    (ss : List Section) → keys_refused ss ≡ None → rules_refused ss ≡ None
+    → AllByRecursion (RightNumbers ss) (groups ss)
 
 -- the groups of an accepted model are sound
 abbrev pub GroupsAreSound : Type 0
 GroupsAreSound =
-    (files : Files) (ss : List Section) → keys_refused ss ≡ None → spaces_refused ss ≡ None → rules_refused ss ≡ None →
+    (files : Files) (ss : List Section) → keys_refused ss ≡ None → spaces_refused ss ≡ None
+    → rules_refused ss ≡ None →
     AllByRecursion (λ s. is_sound_group (group_of files ss s) ≡ true) (groups ss)

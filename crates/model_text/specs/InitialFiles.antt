@@ -26,8 +26,10 @@ file_at is_right e = record { line = e.line; name = e.value; is_right = is_right
 -- map before cells
 abbrev pub files_of_group : Section → List InitialFile
 files_of_group s =
-    map (file_at (λ bytes. is_some (map_file (space_of s) bytes))) (option_to_list (first_entry (codes "initialmapvalue") s))
-    ++ map (file_at (λ bytes. is_some (cells_file (space_of s) bytes))) (option_to_list (first_entry (codes "initialcellsvalue") s))
+    map (file_at (λ bytes. is_some (map_file (space_of s) bytes)))
+    (option_to_list (first_entry (codes "initialmapvalue") s))
+    ++ map (file_at (λ bytes. is_some (cells_file (space_of s) bytes)))
+    (option_to_list (first_entry (codes "initialcellsvalue") s))
 
 -- those of all groups, in their order
 abbrev pub initial_files : List Section → List InitialFile
@@ -64,4 +66,5 @@ first_file_stop files (f ∷ fs) = option_or (file_stops files f) (first_file_st
 -- the names that are looked for: up to the first file that stops
 abbrev pub looked_for : Files → List InitialFile → List Bytes
 looked_for files [] = []
-looked_for files (f ∷ fs) = f.name ∷ (if is_some (file_stops files f) then [] else looked_for files fs)
+looked_for files (f ∷ fs) =
+    f.name ∷ (if is_some (file_stops files f) then [] else looked_for files fs)

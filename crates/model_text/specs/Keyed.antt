@@ -37,7 +37,9 @@ pub record Item : Type 0 where
 
 -- the words of all entries of a key
 abbrev pub items_of : Bytes → Section → List Item
-items_of key s = flat_map (λ (e : Entry). map (λ w. record { line = e.line; text = w }) (words e.value)) (entries_of key s)
+items_of key s =
+    flat_map (λ (e : Entry). map (λ w. record { line = e.line; text = w }) (words e.value))
+    (entries_of key s)
 
 -- the same without lines
 abbrev pub texts_of : Bytes → Section → List Bytes
@@ -47,7 +49,8 @@ texts_of key s = map (λ (i : Item). i.text) (items_of key s)
 
 -- on a lesser line, or on the same one with a lesser number
 abbrev pub comes_before : Refusal → Refusal → Bool
-comes_before a b = nat_lt a.line b.line || ((a.line == b.line) && nat_lt (number_of a.kind) (number_of b.kind))
+comes_before a b =
+    nat_lt a.line b.line || ((a.line == b.line) && nat_lt (number_of a.kind) (number_of b.kind))
 
 -- the first of two that comes before the other
 abbrev pub lesser : Refusal → Option Refusal → Refusal

@@ -21,8 +21,10 @@ use Rattle.model_text.specs.Forms.{is_size, is_dim, is_delay_time, is_value_text
 -- the keys that may stand once in a group
 abbrev pub group_keys : List Bytes
 group_keys =
-    codes "type" ∷ codes "dim" ∷ codes "height" ∷ codes "width" ∷ codes "delay" ∷ codes "defaultdelaytime" ∷ codes "border" ∷ codes "initialvalue"
-    ∷ codes "initialmapvalue" ∷ codes "initialcellsvalue" ∷ codes "localtransition" ∷ codes "statevariables" ∷ codes "statevalues"
+    codes "type" ∷ codes "dim" ∷ codes "height" ∷ codes "width" ∷ codes "delay"
+    ∷ codes "defaultdelaytime" ∷ codes "border" ∷ codes "initialvalue"
+    ∷ codes "initialmapvalue" ∷ codes "initialcellsvalue" ∷ codes "localtransition"
+    ∷ codes "statevariables" ∷ codes "statevalues"
     ∷ codes "neighborports" ∷ codes "portvalues" ∷ []
 
 -- the keys that may stand once in a section
@@ -33,7 +35,8 @@ section_keys s = if is_group s then group_keys else codes "type" ∷ []
 abbrev pub again : List Bytes → List Bytes → List Entry → List Refusal
 again once before [] = []
 again once before (e ∷ es) =
-    (if is_among once e.key && is_among before e.key then refusal e.line DuplicateKey ∷ [] else []) ++ again once (e.key ∷ before) es
+    (if is_among once e.key && is_among before e.key then refusal e.line DuplicateKey ∷ [] else [])
+    ++ again once (e.key ∷ before) es
 
 -- ---- keys that are missing
 
@@ -47,7 +50,9 @@ has_space s = has_key (codes "dim") s || (has_key (codes "height") s && has_key 
 
 -- a group that lacks its space or its rules
 abbrev pub missing : Section → List Refusal
-missing s = if has_space s && has_key (codes "localtransition") s then [] else refusal s.line MissingKey ∷ []
+missing s =
+    if has_space s && has_key (codes "localtransition") s then []
+    else refusal s.line MissingKey ∷ []
 
 -- ---- values off their form
 
@@ -55,7 +60,8 @@ missing s = if has_space s && has_key (codes "localtransition") s then [] else r
 abbrev pub values_fit : (Bytes → Bool) → Option Bytes → Bytes → Bool
 values_fit is_right None text = false
 values_fit is_right (Some names) text =
-    list_all is_value_text (words text) && (not (is_right names) || (length (words text) == length (words names)))
+    list_all is_value_text (words text)
+    && (not (is_right names) || (length (words text) == length (words names)))
 
 -- the keys of every section, each with the form of its values
 abbrev pub forms : Section → List (Bytes × (Bytes → Bool))
@@ -73,8 +79,10 @@ group_forms s =
     ∷ (codes "initialmapvalue", is_file_name) ∷ (codes "initialcellsvalue", is_file_name)
     ∷ (codes "localtransition", is_name)
     ∷ (codes "portintransition", λ text. is_some (port_rule_text s.name text))
-    ∷ (codes "statevariables", are_words 8) ∷ (codes "statevalues", values_fit (are_words 8) (value_of (codes "statevariables") s))
-    ∷ (codes "neighborports", are_ports) ∷ (codes "portvalues", values_fit are_ports (value_of (codes "neighborports") s))
+    ∷ (codes "statevariables", are_words 8)
+    ∷ (codes "statevalues", values_fit (are_words 8) (value_of (codes "statevariables") s))
+    ∷ (codes "neighborports", are_ports)
+    ∷ (codes "portvalues", values_fit are_ports (value_of (codes "neighborports") s))
     ∷ forms s
 
 -- a value that is off the form of its key
@@ -84,7 +92,9 @@ is_off (Some is_right) text = not (is_right text)
 
 -- the entries whose values are off their form
 abbrev pub off_form : List (Bytes × (Bytes → Bool)) → List Entry → List Refusal
-off_form table es = map (λ (e : Entry). refusal e.line BadValue) (filter (λ (e : Entry). is_off (looked_up table e.key) e.value) es)
+off_form table es =
+    map (λ (e : Entry). refusal e.line BadValue)
+    (filter (λ (e : Entry). is_off (looked_up table e.key) e.value) es)
 
 -- dim beside height or width, at the line of dim
 abbrev pub double_space : Section → List Refusal
@@ -96,7 +106,9 @@ double_space s =
 -- words that stand before
 abbrev pub repeated : List Bytes → List Item → List Refusal
 repeated before [] = []
-repeated before (i ∷ is) = (if is_among before i.text then refusal i.line BadValue ∷ [] else []) ++ repeated (i.text ∷ before) is
+repeated before (i ∷ is) =
+    (if is_among before i.text then refusal i.line BadValue ∷ [] else [])
+    ++ repeated (i.text ∷ before) is
 
 -- ---- the phase
 
@@ -107,7 +119,8 @@ of_group s = missing s ++ off_form (group_forms s) s.entries ++ double_space s
 -- what is refused of the keys of a section
 abbrev pub of_section : Section → List Refusal
 of_section s =
-    again (section_keys s) [] s.entries ++ repeated [] (items_of (codes "in") s) ++ repeated [] (items_of (codes "out") s)
+    again (section_keys s) [] s.entries ++ repeated [] (items_of (codes "in") s)
+    ++ repeated [] (items_of (codes "out") s)
     ++ (if is_group s then of_group s else off_form (forms s) s.entries)
 
 -- parameters of the class that may stand once

@@ -10,10 +10,12 @@ use Rattle.model_text.specs.RefusalExamples.{refuses}
 -- a group of one cell, whose output o has this link at line 7
 abbrev pub linked : Bytes → List Bytes
 linked value =
-    codes "[top]" ∷ codes "components : g" ∷ codes "[g]" ∷ codes "type : cell" ∷ codes "dim : (1,1)" ∷ codes "out : o" ∷ (codes "link : " ++ value)
+    codes "[top]" ∷ codes "components : g" ∷ codes "[g]" ∷ codes "type : cell" ∷ codes "dim : (1,1)"
+    ∷ codes "out : o" ∷ (codes "link : " ++ value)
     ∷ codes "localtransition : r" ∷ codes "[r]" ∷ []
 
--- a tuple is one piece with the text beside it, its blanks included; any other parenthesis is a byte like others
+-- a tuple is one piece with the text beside it, its blanks included; any other parenthesis is a
+-- byte like others
 pub record EndsAreCut : Type 0 where
   pub left_open : refuses (linked (codes "out@g(0,0 o")) 7 UnknownPort
   pub opened_twice : refuses (linked (codes "out@g((0,0) o")) 7 UnknownPort
@@ -21,5 +23,6 @@ pub record EndsAreCut : Type 0 where
   pub within_another : refuses (linked (codes "out@g(0,(0) 0) o")) 7 BadValue
   pub no_comma : refuses (linked (codes "out@g(0 0) o")) 7 BadValue
   pub blank_after_sign : refuses (linked (codes "out@g(- 0,0) o")) 7 BadValue
-  pub blanks_in_a_tuple : map (λ (g : Group). g.links) (group_in (read (linked (codes "out@g( 0 , 0 ) o")))) ≡
+  pub blanks_in_a_tuple : map (λ (g : Group). g.links)
+      (group_in (read (linked (codes "out@g( 0 , 0 ) o")))) ≡
       (record { from = Cell (codes "out") 0; to = Own (codes "o") } ∷ []) ∷ []

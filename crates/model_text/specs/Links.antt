@@ -43,22 +43,29 @@ own_end text = then_some (is_name text) (Own text)
 
 -- port@child
 abbrev pub child_end : Bytes → Option End
-child_end text = then_some (is_name (port_part text) && is_name (rest_part text)) (Child (port_part text) (rest_part text))
+child_end text =
+    then_some (is_name (port_part text) && is_name (rest_part text))
+    (Child (port_part text) (rest_part text))
 
 -- the one tuple behind a group's name
 abbrev pub one_tuple : Section → List Bytes → Option NamedTuple
-one_tuple s (part ∷ []) = option_and_then (λ t. then_some (bytes_eq t.name s.name) t) (named_tuple part)
+one_tuple s (part ∷ []) =
+    option_and_then (λ t. then_some (bytes_eq t.name s.name) t) (named_tuple part)
 one_tuple s parts = None
 
 -- port@group and a tuple
 abbrev pub cell_end : Section → Bytes → Option End
 cell_end s text =
-    option_and_then (λ t. option_map (Cell (port_part text)) (option_and_then (cell_in (space_of s)) (then_some (is_name (port_part text)) t.place)))
+    option_and_then
+    (λ t. option_map (Cell (port_part text))
+    (option_and_then (cell_in (space_of s)) (then_some (is_name (port_part text)) t.place)))
     (option_and_then (one_tuple s) (parts_of (rest_part text)))
 
 -- port, port@child, or in a group port@group and a tuple
 abbrev pub end_in : Section → Bytes → Option End
-end_in s text = if list_any (is_byte 64) text then (if is_group s then cell_end s text else child_end text) else own_end text
+end_in s text =
+    if list_any (is_byte 64) text then (if is_group s then cell_end s text else child_end text)
+    else own_end text
 
 -- ---- links
 
@@ -103,7 +110,9 @@ inputs_of_class (Some class) = class_ports class
 -- the inputs of a child
 abbrev pub inputs_of : List Section → Option Item → List Bytes
 inputs_of ss None = []
-inputs_of ss (Some i) = if is_atomic i then inputs_of_class (class_of_item i) else ports_in (codes "in") (section_of ss i)
+inputs_of ss (Some i) =
+    if is_atomic i then inputs_of_class (class_of_item i)
+    else ports_in (codes "in") (section_of ss i)
 
 -- the outputs of a child
 abbrev pub outputs_of : List Section → Option Item → List Bytes
@@ -137,7 +146,8 @@ at_line e (Some kind) = refusal e.line kind ∷ []
 abbrev pub links_refused_after : Face → Section → List Link → List Entry → List Refusal
 links_refused_after f s before [] = []
 links_refused_after f s before (e ∷ es) =
-    at_line e (entry_refused f before (link_of s e)) ++ links_refused_after f s (before ++ filter_map (link_of s) (e ∷ [])) es
+    at_line e (entry_refused f before (link_of s e))
+    ++ links_refused_after f s (before ++ filter_map (link_of s) (e ∷ [])) es
 
 -- what is refused of the links of a section
 abbrev pub of_links : List Section → Section → List Refusal

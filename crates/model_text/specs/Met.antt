@@ -1,4 +1,5 @@
--- What is known of each step of the walk of a model that the phases up to the limit of links don't refuse.
+-- What is known of each step of the walk of a model that the phases up to the limit of links don't
+-- refuse.
 use Rattle.std.specs.Prelude.{◌≡◌, true, false, not, ◌&&◌, nat_le, None, List, [], map, length, codes}
 use Rattle.std.specs.List.{filter}
 use Rattle.std.specs.Option.{is_some}
@@ -13,7 +14,8 @@ use Rattle.model_text.specs.Stock.{class_of_item}
 use Rattle.model_text.specs.Links.{links_of, face_of}
 use Rattle.model_text.specs.Trees.{group_of}
 
--- a section whose ports differ, whose links are accepted in order, and which is a sound group where it is one
+-- a section whose ports differ, whose links are accepted in order, and which is a sound group where
+-- it is one
 pub record RightSection (files : Files) (ss : List Section) (s : Section) : Type 0 where
   pub ins : has_repeat (texts_of (codes "in") s) ≡ false
   pub outs : has_repeat (texts_of (codes "out") s) ≡ false
@@ -21,7 +23,8 @@ pub record RightSection (files : Files) (ss : List Section) (s : Section) : Type
   pub group : is_group s ≡ true → is_sound_group (group_of files ss s) ≡ true
 
 -- what an item is that isn't refused after these items, between the names of the sections around it
-pub record Right (ss : List Section) (before : List Item) (around : List Bytes) (i : Item) : Type 0 where
+pub record Right (ss : List Section) (before : List Item) (around : List Bytes)
+    (i : Item) : Type 0 where
   pub form : not (is_item i) ≡ false
   pub not_top : bytes_eq (name_of i) top ≡ false
   pub not_around : is_among around (name_of i) ≡ false
@@ -39,5 +42,6 @@ HasClass i = is_some (class_of_item i) ≡ true
 
 -- a section that is right, or an item that is right and has a class where it is atomic
 abbrev pub Met : Files → List Section → Step → Type 0
-Met files ss (at_section line deep s) = (section_refused line deep s ≡ None) × RightSection files ss s
+Met files ss (at_section line deep s) =
+    (section_refused line deep s ≡ None) × RightSection files ss s
 Met files ss (at_item around i) = RightItem ss around i × (is_atomic i ≡ true → HasClass i)

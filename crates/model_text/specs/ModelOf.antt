@@ -1,4 +1,5 @@
--- The model of a file, the name of a missing file, or the refusal: the first phase that refuses decides.
+-- The model of a file, the name of a missing file, or the refusal: the first phase that refuses
+-- decides.
 use Rattle.std.specs.Prelude.{Bool, ◌||◌, nat_lt, Option, Some, None, List, [], length, if◌then◌else◌}
 use Rattle.std.specs.declared.result.Result.{Result}
 use Rattle.std.specs.declared.result.Result.TheVariants.{Ok, Err}
@@ -45,15 +46,19 @@ unless (Some r) next = refuses r
 
 -- more than 16384 links, or more than 65536 inputs or outputs of top
 abbrev pub has_too_many_links : List Section → Tree → Bool
-has_too_many_links ss t = nat_lt 16384 (link_count ss) || nat_lt 65536 (length (ins_of t)) || nat_lt 65536 (length (outs_of t))
+has_too_many_links ss t =
+    nat_lt 16384 (link_count ss) || nat_lt 65536 (length (ins_of t))
+    || nat_lt 65536 (length (outs_of t))
 
 -- both are of the model before its files are read, which change no link
 abbrev pub link_limit_refused : List Section → Option Refusal
-link_limit_refused ss = if has_too_many_links ss (tree_of no_files ss) then Some (refusal 0 TooLarge) else None
+link_limit_refused ss =
+    if has_too_many_links ss (tree_of no_files ss) then Some (refusal 0 TooLarge) else None
 
 -- more than 65536 paths
 abbrev pub routes_refused : List Section → Option Refusal
-routes_refused ss = if nat_lt 65536 (path_count (tree_of no_files ss)) then Some (refusal 0 TooManyRoutes) else None
+routes_refused ss =
+    if nat_lt 65536 (path_count (tree_of no_files ss)) then Some (refusal 0 TooManyRoutes) else None
 
 -- ---- the initial files, and then the drawing
 
@@ -99,7 +104,8 @@ abbrev pub length_refused : Bytes → Option Refusal
 length_refused bytes = if is_long bytes then Some (refusal 0 TooLong) else None
 
 -- the phases over the sections, or the refused line
-abbrev pub after_lines : Result (List Section) LineRefusal → Files → List Class → Option Drawing → ModelRead
+abbrev pub after_lines : Result (List Section) LineRefusal → Files → List Class → Option Drawing
+    → ModelRead
 after_lines (Ok ss) files classes drawing = model_in ss files classes drawing
 after_lines (Err r) files classes drawing = refuses (refusal_of_line r)
 

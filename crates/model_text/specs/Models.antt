@@ -6,42 +6,57 @@ use Rattle.source_text.specs.Examples.{file}
 
 abbrev pub line_model : List Bytes
 line_model =
-    codes "[top]" ∷ codes "components : line" ∷ codes "[line]" ∷ codes "type : cell" ∷ codes "dim : (1,3)" ∷ codes "delay : transport"
-    ∷ codes "defaultDelayTime : 100" ∷ codes "border : wrapped" ∷ codes "neighbors : line(0,-1) line(0,0) line(0,1)" ∷ codes "initialvalue : 0"
-    ∷ codes "initialrowvalue : 0 010" ∷ codes "localtransition : r" ∷ codes "[r]" ∷ codes "rule : 1 100 { truecount = 1 }"
+    codes "[top]" ∷ codes "components : line" ∷ codes "[line]" ∷ codes "type : cell"
+    ∷ codes "dim : (1,3)" ∷ codes "delay : transport"
+    ∷ codes "defaultDelayTime : 100" ∷ codes "border : wrapped"
+    ∷ codes "neighbors : line(0,-1) line(0,0) line(0,1)" ∷ codes "initialvalue : 0"
+    ∷ codes "initialrowvalue : 0 010" ∷ codes "localtransition : r" ∷ codes "[r]"
+    ∷ codes "rule : 1 100 { truecount = 1 }"
     ∷ codes "rule : 0 100 { t }" ∷ []
 
 -- Life in a space of these sizes, with these lines for its first values
 abbrev pub life_model : Bytes → List Bytes → List Bytes
 life_model size rows =
-    codes "[Top]" ∷ codes "components : Life" ∷ codes "[Life]          % Conway" ∷ codes "type : cell" ∷ (codes "width : " ++ size)
-    ∷ (codes "height : " ++ size) ∷ codes "delay : transport" ∷ codes "defaultDelayTime : 100" ∷ codes "border : wrapped"
-    ∷ codes "neighbors : life(-1,-1) life(-1,0) life(-1,1)" ∷ codes "neighbors : life(0,-1) life(0,0) life(0,1)"
+    codes "[Top]" ∷ codes "components : Life" ∷ codes "[Life]          % Conway"
+    ∷ codes "type : cell" ∷ (codes "width : " ++ size)
+    ∷ (codes "height : " ++ size) ∷ codes "delay : transport" ∷ codes "defaultDelayTime : 100"
+    ∷ codes "border : wrapped"
+    ∷ codes "neighbors : life(-1,-1) life(-1,0) life(-1,1)"
+    ∷ codes "neighbors : life(0,-1) life(0,0) life(0,1)"
     ∷ codes "neighbors : life(1,-1) life(1,0) life(1,1)" ∷ codes "initialvalue : 0"
     ∷ (rows
-    ++ (codes "localtransition : life-rule" ∷ codes "[life-rule]" ∷ codes "rule : 1 100 { (0,0) = 1 and"
-    ∷ codes "   (trueCount = 3 or trueCount = 4) }" ∷ codes "rule : 1 100 { (0,0) = 0 and trueCount = 3 }" ∷ codes "rule : 0 100 { t }" ∷ []))
+    ++ (codes "localtransition : life-rule" ∷ codes "[life-rule]"
+    ∷ codes "rule : 1 100 { (0,0) = 1 and"
+    ∷ codes "   (trueCount = 3 or trueCount = 4) }"
+    ∷ codes "rule : 1 100 { (0,0) = 0 and trueCount = 3 }" ∷ codes "rule : 0 100 { t }" ∷ []))
 
 abbrev pub blinker : List Bytes
 blinker = life_model (codes "5") (codes "initialrowvalue : 2 01110" ∷ [])
 
 abbrev pub port_model : List Bytes
 port_model =
-    codes "[top]" ∷ codes "components : g" ∷ codes "in : p" ∷ codes "link : p in@g" ∷ codes "[g]" ∷ codes "type : cell" ∷ codes "dim : (1,1)"
-    ∷ codes "delay : transport" ∷ codes "defaultDelayTime : 100" ∷ codes "border : nowrapped" ∷ codes "initialvalue : 0" ∷ codes "in : in"
-    ∷ codes "link : in v@g(0,0)" ∷ codes "localtransition : r" ∷ codes "[r]" ∷ codes "rule : 0 100 { t }" ∷ []
+    codes "[top]" ∷ codes "components : g" ∷ codes "in : p" ∷ codes "link : p in@g" ∷ codes "[g]"
+    ∷ codes "type : cell" ∷ codes "dim : (1,1)"
+    ∷ codes "delay : transport" ∷ codes "defaultDelayTime : 100" ∷ codes "border : nowrapped"
+    ∷ codes "initialvalue : 0" ∷ codes "in : in"
+    ∷ codes "link : in v@g(0,0)" ∷ codes "localtransition : r" ∷ codes "[r]"
+    ∷ codes "rule : 0 100 { t }" ∷ []
 
 -- one cell that sees itself, with these lines behind its neighbours and these rules
 abbrev pub cell_model : List Bytes → List Bytes → List Bytes
 cell_model keys rules =
-    codes "[top]" ∷ codes "components : g" ∷ codes "[g]" ∷ codes "type : cell" ∷ codes "dim : (1,1)" ∷ codes "neighbors : g(0,0)"
+    codes "[top]" ∷ codes "components : g" ∷ codes "[g]" ∷ codes "type : cell" ∷ codes "dim : (1,1)"
+    ∷ codes "neighbors : g(0,0)"
     ∷ (keys ++ (codes "initialvalue : 0" ∷ codes "localtransition : r" ∷ codes "[r]" ∷ rules))
 
 abbrev pub queue_model : List Bytes
 queue_model =
-    codes "[top]" ∷ codes "components : s h@generator q@queue" ∷ codes "out : o" ∷ codes "link : out@h in@q" ∷ codes "link : a@s in@q"
-    ∷ codes "link : b@s in@q" ∷ codes "link : out@q o" ∷ codes "[s]" ∷ codes "components : g@generator" ∷ codes "out : a b"
-    ∷ codes "link : out@g a" ∷ codes "link : out@g b" ∷ codes "[g]" ∷ codes "value : 7" ∷ codes "count : 1" ∷ codes "[h]" ∷ codes "value : 8"
+    codes "[top]" ∷ codes "components : s h@generator q@queue" ∷ codes "out : o"
+    ∷ codes "link : out@h in@q" ∷ codes "link : a@s in@q"
+    ∷ codes "link : b@s in@q" ∷ codes "link : out@q o" ∷ codes "[s]"
+    ∷ codes "components : g@generator" ∷ codes "out : a b"
+    ∷ codes "link : out@g a" ∷ codes "link : out@g b" ∷ codes "[g]" ∷ codes "value : 7"
+    ∷ codes "count : 1" ∷ codes "[h]" ∷ codes "value : 8"
     ∷ codes "count : 1" ∷ []
 
 -- ---- changes of a model
@@ -59,7 +74,8 @@ abbrev pub made_digit : ℕ → ℕ → ℕ
 made_digit i j = if (i % 5 == 2) && ((j % 5 == 1) || (j % 5 == 2) || (j % 5 == 3)) then 49 else 48
 
 abbrev pub made_row : ℕ → ℕ → Bytes
-made_row n i = codes "initialrowvalue : " ++ decimal i ++ (32 ∷ map (made_digit i) (range_with_len 0 n))
+made_row n i =
+    codes "initialrowvalue : " ++ decimal i ++ (32 ∷ map (made_digit i) (range_with_len 0 n))
 
 unfoldable pub made_text : ℕ → Bytes
 made_text n = file (life_model (decimal n) (map (made_row n) (range_with_len 0 n)))

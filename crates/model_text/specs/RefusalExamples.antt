@@ -31,12 +31,17 @@ pub record LineIsRefused : Type 0 where
   pub section_again : refuses (line_model ++ codes "[line]" ∷ []) 16 DuplicateSection
   pub no_rules : refuses (without_line 12 line_model) 3 MissingKey
   pub absent_rules : refuses (with_line 12 (codes "localtransition : q") line_model) 12 NoSection
-  pub random : refuses (with_line 14 (codes "rule : { uniform(0,1) } 100 { t }") line_model) 14 RandomRefused
-  pub stranger : refuses (with_line 14 (codes "rule : { (0,2) } 100 { t }") line_model) 14 NotANeighbour
+  pub random : refuses
+      (with_line 14 (codes "rule : { uniform(0,1) } 100 { t }") line_model) 14 RandomRefused
+  pub stranger : refuses
+      (with_line 14 (codes "rule : { (0,2) } 100 { t }") line_model) 14 NotANeighbour
   pub sort : refuses (with_line 14 (codes "rule : { (0,0) + t } 100 { t }") line_model) 14 BadSort
-  pub unknown : refuses (with_line 14 (codes "rule : { power(2,3) } 100 { t }") line_model) 14 UnknownFunction
+  pub unknown : refuses
+      (with_line 14 (codes "rule : { power(2,3) } 100 { t }") line_model) 14 UnknownFunction
   pub short : refuses (with_line 14 (codes "rule : 1 100") line_model) 14 BadRule
-  pub off_form : refuses (with_line 8 (codes "border : round") (with_line 11 (codes "initialrowvalue : 3 010") line_model)) 8 BadValue
+  pub off_form : refuses
+      (with_line 8 (codes "border : round")
+      (with_line 11 (codes "initialrowvalue : 3 010") line_model)) 8 BadValue
   pub row : refuses (with_line 11 (codes "initialrowvalue : 1 010") line_model) 11 BadInitial
   pub far : refuses (with_line 9 (codes "neighbors : (0,65) (0,1)") line_model) 9 BadValue
   pub other_group : refuses (with_line 9 (codes "neighbors : lime(0,1)") line_model) 9 BadValue
@@ -55,10 +60,16 @@ pub record CellIsRefused : Type 0 where
   pub sort : refuses (cell_rule (codes "{ (0,0) + t } 100 { t }")) 10 BadSort
   pub unknown : refuses (cell_rule (codes "{ power(2,3) } 100 { t }")) 10 UnknownFunction
   pub left_open : refuses (cell_rule (codes "1 100 { t")) 10 BadLine
-  pub no_variable : refuses (cell_model (codes "statevariables : n" ∷ []) (codes "rule : { $z } 100 { t }" ∷ [])) 11 UnknownVariable
-  pub no_port : refuses (cell_model (codes "neighborports : p" ∷ []) (codes "rule : { ~q := 1; } 100 { t }" ∷ [])) 11 UnknownNeighbourPort
-  pub values_alone : refuses (cell_model (codes "statevalues : 3" ∷ []) (codes "rule : 0 100 { t }" ∷ [])) 7 BadValue
-  pub too_few_values : refuses (cell_model (codes "statevariables : a b" ∷ codes "statevalues : 3" ∷ []) []) 8 BadValue
+  pub no_variable : refuses
+      (cell_model (codes "statevariables : n" ∷ []) (codes "rule : { $z } 100 { t }" ∷ [])) 11
+      UnknownVariable
+  pub no_port : refuses
+      (cell_model (codes "neighborports : p" ∷ []) (codes "rule : { ~q := 1; } 100 { t }" ∷ []))
+      11 UnknownNeighbourPort
+  pub values_alone : refuses
+      (cell_model (codes "statevalues : 3" ∷ []) (codes "rule : 0 100 { t }" ∷ [])) 7 BadValue
+  pub too_few_values : refuses
+      (cell_model (codes "statevariables : a b" ∷ codes "statevalues : 3" ∷ []) []) 8 BadValue
   pub port_out : refuses (cell_model (codes "neighborports : p out" ∷ []) []) 7 BadValue
 
 -- ---- sections within sections
@@ -75,7 +86,8 @@ chain (n ∷ ns) = (91 ∷ named n ++ 93 ∷ []) ∷ (codes "components : " ++ n
 abbrev pub deep : ℕ → List Bytes
 deep n =
     codes "[top]" ∷ (codes "components : " ++ named 1)
-    ∷ (chain (range_with_len 1 (n - 1)) ++ (91 ∷ named n ++ 93 ∷ []) ∷ codes "components : q@queue" ∷ [])
+    ∷ (chain (range_with_len 1 (n - 1)) ++ (91 ∷ named n ++ 93 ∷ []) ∷ codes "components : q@queue"
+    ∷ [])
 
 abbrev pub is_model : ModelOf → Bool
 is_model (model t) = true
@@ -91,31 +103,56 @@ pub record DepthIsBounded : Type 0 where
 pub record ComponentsAreRefused : Type 0 where
   pub no_top : refuses [] 0 NoTop
   pub no_item : refuses (codes "[top]" ∷ codes "components :" ∷ []) 1 MissingKey
-  pub itself : refuses (codes "[top]" ∷ codes "components : q@queue" ∷ codes "link : out@q in@q" ∷ []) 3 SelfLink
-  pub through : refuses (codes "[top]" ∷ codes "components : q@queue" ∷ codes "in : a" ∷ codes "out : b" ∷ codes "link : a b" ∷ []) 5 PassThrough
-  pub out_of_stock : refuses (codes "[top]" ∷ codes "components : a@queue b@queue" ∷ codes "components : c@queue" ∷ []) 3 OutOfStock
+  pub itself : refuses
+      (codes "[top]" ∷ codes "components : q@queue" ∷ codes "link : out@q in@q" ∷ []) 3 SelfLink
+  pub through : refuses
+      (codes "[top]" ∷ codes "components : q@queue" ∷ codes "in : a" ∷ codes "out : b"
+      ∷ codes "link : a b" ∷ []) 5 PassThrough
+  pub out_of_stock : refuses
+      (codes "[top]" ∷ codes "components : a@queue b@queue" ∷ codes "components : c@queue" ∷ []) 3
+      OutOfStock
   pub no_class : refuses (codes "[top]" ∷ codes "components : a@server" ∷ []) 2 UnknownClass
-  pub cycle : refuses (codes "[top]" ∷ codes "components : a" ∷ codes "[a]" ∷ codes "components : b@queue a" ∷ []) 4 ComponentCycle
+  pub cycle : refuses
+      (codes "[top]" ∷ codes "components : a" ∷ codes "[a]" ∷ codes "components : b@queue a" ∷ [])
+      4 ComponentCycle
   pub again : refuses (codes "[top]" ∷ codes "components : a@queue a@cpu" ∷ []) 2 DuplicateComponent
   pub no_section : refuses (codes "[top]" ∷ codes "components : a" ∷ []) 2 UnknownComponent
   pub top_group : refuses (codes "[top]" ∷ codes "type : cell" ∷ []) 2 BadValue
   pub no_form : refuses (codes "[top]" ∷ codes "components : a@" ∷ []) 2 BadValue
-  pub no_period : refuses (codes "[top]" ∷ codes "components : q@generator" ∷ codes "[q]" ∷ codes "period : 0:0:0:0" ∷ []) 4 BadParameter
-  pub no_port : refuses (codes "[top]" ∷ codes "components : q@queue" ∷ codes "link : out@q a" ∷ []) 3 UnknownPort
-  pub same_link : refuses (codes "[top]" ∷ codes "components : q@queue" ∷ codes "out : a" ∷ codes "link : out@q a" ∷ codes "link : out@q  a" ∷ []) 5 DuplicateLink
+  pub no_period : refuses
+      (codes "[top]" ∷ codes "components : q@generator" ∷ codes "[q]" ∷ codes "period : 0:0:0:0"
+      ∷ []) 4 BadParameter
+  pub no_port : refuses
+      (codes "[top]" ∷ codes "components : q@queue" ∷ codes "link : out@q a" ∷ []) 3 UnknownPort
+  pub same_link : refuses
+      (codes "[top]" ∷ codes "components : q@queue" ∷ codes "out : a" ∷ codes "link : out@q a"
+      ∷ codes "link : out@q  a" ∷ []) 5 DuplicateLink
 
 pub record TablesAreRefused : Type 0 where
   pub no_state : refuses (light_model (codes "hold : blue 00:00:00:030 1 red")) 9 BadParameter
   pub state_again : refuses (light_model (codes "hold : green 00:00:00:030 1 red")) 10 BadParameter
-  pub bad_states : refuses (with_line 8 (codes "states : red red") (light_model (codes "hold : blue 00:00:00:030 1 red"))) 8 BadParameter
+  pub bad_states : refuses
+      (with_line 8 (codes "states : red red")
+      (light_model (codes "hold : blue 00:00:00:030 1 red"))) 8 BadParameter
 
 pub record SectionsAreRefused : Type 0 where
-  pub parameter_again : refuses (codes "[top]" ∷ codes "components : q@queue" ∷ codes "[q]" ∷ codes "preparation : x" ∷ codes "preparation : 0:0:0:1" ∷ []) 5 DuplicateKey
-  pub other_key_again : is_model (read (codes "[top]" ∷ codes "components : q@queue" ∷ codes "[q]" ∷ codes "delay : x" ∷ codes "delay : y" ∷ [])) ≡ true
-  pub port_again : refuses (codes "[top]" ∷ codes "components : q@queue" ∷ codes "in : a b" ∷ codes "in : a" ∷ []) 4 BadValue
-  pub type_again : refuses (codes "[top]" ∷ codes "components : q@queue" ∷ codes "type : coupled" ∷ codes "type : coupled" ∷ []) 4 DuplicateKey
-  pub no_type : refuses (codes "[top]" ∷ codes "components : q@queue" ∷ codes "type : cells" ∷ []) 3 BadValue
-  pub unreached : is_model (read (codes "[top]" ∷ codes "components : q@queue" ∷ codes "[r]" ∷ codes "type : cells" ∷ [])) ≡ true
+  pub parameter_again : refuses
+      (codes "[top]" ∷ codes "components : q@queue" ∷ codes "[q]" ∷ codes "preparation : x"
+      ∷ codes "preparation : 0:0:0:1" ∷ []) 5 DuplicateKey
+  pub other_key_again : is_model
+      (read (codes "[top]" ∷ codes "components : q@queue" ∷ codes "[q]" ∷ codes "delay : x"
+      ∷ codes "delay : y" ∷ [])) ≡ true
+  pub port_again : refuses
+      (codes "[top]" ∷ codes "components : q@queue" ∷ codes "in : a b" ∷ codes "in : a" ∷ []) 4
+      BadValue
+  pub type_again : refuses
+      (codes "[top]" ∷ codes "components : q@queue" ∷ codes "type : coupled"
+      ∷ codes "type : coupled" ∷ []) 4 DuplicateKey
+  pub no_type : refuses
+      (codes "[top]" ∷ codes "components : q@queue" ∷ codes "type : cells" ∷ []) 3 BadValue
+  pub unreached : is_model
+      (read (codes "[top]" ∷ codes "components : q@queue" ∷ codes "[r]" ∷ codes "type : cells"
+      ∷ [])) ≡ true
 
 -- ---- files cut off, and limits
 
@@ -129,7 +166,8 @@ pub record CutFilesAreRefused : Type 0 where
 
 -- a value in so many parentheses
 abbrev pub nested : ℕ → List Bytes
-nested n = cell_rule (codes "{ " ++ replicate n 40 ++ codes "1" ++ replicate n 41 ++ codes " } 100 { t }")
+nested n =
+    cell_rule (codes "{ " ++ replicate n 40 ++ codes "1" ++ replicate n 41 ++ codes " } 100 { t }")
 
 -- a rule of a section, at line 9
 abbrev pub some_rule : Entry
@@ -138,10 +176,14 @@ some_rule = record { line = 9; key = codes "rule"; value = codes "0 100 { t }" }
 -- so many different offsets
 abbrev pub many_offsets : ℕ → List Bytes
 many_offsets n =
-    with_line 6 (codes "neighbors : " ++ flat_map (λ k. codes "(" ++ decimal (k / 60) ++ codes "," ++ decimal (k % 60) ++ codes ")") (range_with_len 0 n)) (cell_rule (codes "0 100 { t }"))
+    with_line 6
+    (codes "neighbors : "
+    ++ flat_map (λ k. codes "(" ++ decimal (k / 60) ++ codes "," ++ decimal (k % 60) ++ codes ")")
+    (range_with_len 0 n)) (cell_rule (codes "0 100 { t }"))
 
 pub record LimitsAreKept : Type 0 where
-  pub cells : refuses (with_line 5 (codes "dim : (1024,1025)") (cell_rule (codes "0 100 { t }"))) 3 TooLarge
+  pub cells : refuses
+      (with_line 5 (codes "dim : (1024,1025)") (cell_rule (codes "0 100 { t }"))) 3 TooLarge
   pub most_nested : is_model (read (nested 64)) ≡ true
   pub nested_deeper : refuses (nested 65) 10 TooLarge
   pub most_offsets : is_model (read (many_offsets 128)) ≡ true
@@ -149,8 +191,10 @@ pub record LimitsAreKept : Type 0 where
   pub most_rules : too_many (replicate 1024 some_rule) ≡ []
   pub more_rules : too_many (replicate 1025 some_rule) ≡ refusal 9 TooLarge ∷ []
   pub delay : refuses (with_line 7 (codes "defaultdelaytime : 360000000") line_model) 7 BadValue
-  pub most_variables : is_model (read (cell_model (codes "statevariables : a b c d e f g h" ∷ []) [])) ≡ true
-  pub more_variables : refuses (cell_model (codes "statevariables : a b c d e f g h i" ∷ []) []) 7 BadValue
+  pub most_variables : is_model
+      (read (cell_model (codes "statevariables : a b c d e f g h" ∷ []) [])) ≡ true
+  pub more_variables : refuses
+      (cell_model (codes "statevariables : a b c d e f g h i" ∷ []) []) 7 BadValue
   pub more_ports : refuses (cell_model (codes "neighborports : a b c d" ∷ []) []) 7 BadValue
 
 -- ---- groups, and the order of phases
@@ -163,6 +207,12 @@ pub record GroupsAreRefused : Type 0 where
   pub itself : refuses (with_line 13 (codes "link : out@g(0,0) v@g(0,0)") port_model) 13 SelfLink
   pub second_rule : refuses (with_line 13 (codes "portintransition : v@g(1,1) r") zoned) 13 BadValue
   pub no_blank : refuses (with_line 10 (codes "portintransition : v@g(1,1)p") zoned) 10 BadValue
-  pub keys_before_spaces : refuses (with_line 5 (codes "dim : (0,1)") (with_line 6 (codes "neighbors : (0,0,0)") zoned)) 5 BadValue
-  pub spaces_before_rules : refuses (with_line 13 (codes "zone : r { (2,1) }") (with_line 8 (codes "localtransition : q") zoned)) 13 BadZone
-  pub least_line : refuses (with_line 13 (codes "zone : r { (2,1) }") (with_line 7 (codes "initialrow : 1 ?") zoned)) 7 BadInitial
+  pub keys_before_spaces : refuses
+      (with_line 5 (codes "dim : (0,1)") (with_line 6 (codes "neighbors : (0,0,0)") zoned)) 5
+      BadValue
+  pub spaces_before_rules : refuses
+      (with_line 13 (codes "zone : r { (2,1) }")
+      (with_line 8 (codes "localtransition : q") zoned)) 13 BadZone
+  pub least_line : refuses
+      (with_line 13 (codes "zone : r { (2,1) }") (with_line 7 (codes "initialrow : 1 ?") zoned)) 7
+      BadInitial

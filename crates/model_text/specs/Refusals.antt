@@ -5,8 +5,8 @@ use Rattle.ma_lines.specs.declared.section.LineRefusal.TheVariants as L
 use Rattle.ma_lines.specs.declared.section.LineRefusal.{LineRefusal}
 use Rattle.model_tree.specs.declared.refusal.LinkRefusal.TheVariants as K
 use Rattle.model_tree.specs.declared.refusal.LinkRefusal.{LinkRefusal}
-use Rattle.rule_syntax.specs.declared.refusal.RuleRefusal.TheVariants as R
-use Rattle.rule_syntax.specs.declared.refusal.RuleRefusal.{RuleRefusal}
+use Rattle.rule_words.specs.declared.refusal.RuleRefusal.TheVariants as R
+use Rattle.rule_words.specs.declared.refusal.RuleRefusal.{RuleRefusal}
 use Rattle.model_text.specs.declared.kind.Kind.{Kind}
 use Rattle.model_text.specs.declared.kind.Kind.TheVariants.{BadLine, DuplicateSection, NoTop, DuplicateKey, MissingKey, BadValue, UnknownComponent, DuplicateComponent, ComponentCycle, UnknownClass, OutOfStock, BadParameter, UnknownPort, SelfLink, PassThrough, DuplicateLink, TooManyRoutes, BadRule, BadSort, RandomRefused, UnknownFunction, NotANeighbour, BadZone, BadInitial, TooLarge, TooLong, NoSection, NoSuchPlane, UnknownVariable, UnknownNeighbourPort}
 

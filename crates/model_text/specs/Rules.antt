@@ -15,7 +15,7 @@ use Rattle.model_text.specs.declared.kind.Kind.TheVariants.{TooLarge, NoSection}
 use Rattle.model_text.specs.Refusals.{Refusal, refusal, kind_of_rule}
 use Rattle.ma_lines.specs.declared.section.Entry.{Entry}
 use Rattle.ma_lines.specs.Sections.{Section}
-use Rattle.rule_syntax.specs.declared.refusal.RuleRefusal.{RuleRefusal}
+use Rattle.rule_words.specs.declared.refusal.RuleRefusal.{RuleRefusal}
 use Rattle.rule_tree.specs.Scope.{Names}
 use Rattle.rule_syntax.specs.RuleOf.{rule_of}
 use Rattle.model_text.specs.Keyed.{section_named, entries_of, texts_of, Item, least}
@@ -51,7 +51,8 @@ port_item s e = option_map (λ (p : PortPlace). name_at e p.rules) (port_place s
 abbrev pub rules_named : Section → List Item
 rules_named s =
     map (λ (e : Entry). name_at e e.value) (entries_of (codes "localtransition") s)
-    ++ filter_map (zone_item s) (entries_of (codes "zone") s) ++ filter_map (port_item s) (entries_of (codes "portintransition") s)
+    ++ filter_map (zone_item s) (entries_of (codes "zone") s)
+    ++ filter_map (port_item s) (entries_of (codes "portintransition") s)
 
 -- each once: that of localtransition is number 0
 abbrev pub rule_sets_named : Section → List Bytes
@@ -81,7 +82,9 @@ too_many rules = map (λ (e : Entry). refusal e.line TooLarge) (take 1 (drop 102
 
 -- what is refused of the rules of a section
 abbrev pub of_rules : Names → Section → List Refusal
-of_rules names s = flat_map (rule_refused names) (entries_of (codes "rule") s) ++ too_many (entries_of (codes "rule") s)
+of_rules names s =
+    flat_map (rule_refused names) (entries_of (codes "rule") s)
+    ++ too_many (entries_of (codes "rule") s)
 
 -- the sections of these names
 abbrev pub sections_named : List Section → List Bytes → List Section
@@ -90,7 +93,8 @@ sections_named ss names = filter_map (section_named ss) names
 -- what is refused of the rules of a group
 abbrev pub of_group_rules : List Section → Section → List Refusal
 of_group_rules ss s =
-    flat_map (absent ss) (rules_named s) ++ flat_map (of_rules (names_of s)) (sections_named ss (rule_sets_named s))
+    flat_map (absent ss) (rules_named s)
+    ++ flat_map (of_rules (names_of s)) (sections_named ss (rule_sets_named s))
 
 -- the least refusal of all rules
 abbrev pub rules_refused : List Section → Option Refusal
@@ -100,7 +104,8 @@ rules_refused ss = least (flat_map (of_group_rules ss) (groups ss))
 
 -- the rules of a section
 abbrev pub rules_in : Names → Section → List Rule
-rules_in names s = filter_map (λ (e : Entry). result_ok (rule_of names e.value)) (entries_of (codes "rule") s)
+rules_in names s =
+    filter_map (λ (e : Entry). result_ok (rule_of names e.value)) (entries_of (codes "rule") s)
 
 -- the rule sets of a group, by number
 abbrev pub rule_sets_of : List Section → Section → List (List Rule)

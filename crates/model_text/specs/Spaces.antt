@@ -27,12 +27,20 @@ use Rattle.cell_grid.specs.Initial.{Row, row_digits, row_values}
 
 -- not wrapped, unless the group says so
 abbrev pub border_of : Section → Border
-border_of s = if is_value (codes "wrapped") (value_of (codes "border") s) then Wrapped else NoWrapped
+border_of s =
+    if is_value (codes "wrapped") (value_of (codes "border") s) then Wrapped else NoWrapped
 
 -- of rows, columns and perhaps planes
 abbrev pub space_of_sizes : Border → List ℤ → Space
-space_of_sizes b (r ∷ c ∷ []) = record { rows = unsigned_abs r; columns = unsigned_abs c; planes = None; border = b }
-space_of_sizes b (r ∷ c ∷ p ∷ rest) = record { rows = unsigned_abs r; columns = unsigned_abs c; planes = Some (unsigned_abs p); border = b }
+space_of_sizes b (r ∷ c ∷ []) =
+    record { rows = unsigned_abs r; columns = unsigned_abs c; planes = None; border = b }
+space_of_sizes b (r ∷ c ∷ p ∷ rest) =
+    record {
+      rows = unsigned_abs r;
+      columns = unsigned_abs c;
+      planes = Some (unsigned_abs p);
+      border = b;
+    }
 space_of_sizes b sizes = record { rows = 0; columns = 0; planes = None; border = b }
 
 -- the size under a key
@@ -42,7 +50,8 @@ size_of key s = pos (unwrap_or (option_and_then (whole_number 7) (value_of key s
 -- by dim, or else by height and width
 abbrev pub sizes_of : Section → List ℤ
 sizes_of s =
-    unwrap_or (option_and_then tuple (value_of (codes "dim") s)) (size_of (codes "height") s ∷ size_of (codes "width") s ∷ [])
+    unwrap_or (option_and_then tuple (value_of (codes "dim") s))
+    (size_of (codes "height") s ∷ size_of (codes "width") s ∷ [])
 
 -- the space of a group
 abbrev pub space_of : Section → Space
@@ -55,7 +64,8 @@ abbrev pub first_large : ℕ → List Section → Option Refusal
 first_large cells [] = None
 first_large cells (g ∷ gs) =
     let more = cells + cell_count (space_of g) in
-    option_or (if nat_lt 1048576 more then Some (refusal g.line TooLarge) else None) (first_large more gs)
+    option_or (if nat_lt 1048576 more then Some (refusal g.line TooLarge) else None)
+    (first_large more gs)
 
 -- more than 1048576 cells in all groups
 abbrev pub cells_refused : List Section → Option Refusal
@@ -75,7 +85,10 @@ distinct_offsets (o ∷ os) = o ∷ filter (λ p. not (same_offset o p)) (distin
 -- the offsets of a group, without those off its space
 abbrev pub offsets_of : Section → List Offset
 offsets_of s =
-    distinct_offsets (map offset_of (filter (is_offset (space_of s)) (flat_map (places_of s) (entries_of (codes "neighbors") s))))
+    distinct_offsets
+    (map offset_of
+    (filter (is_offset (space_of s))
+    (flat_map (places_of s) (entries_of (codes "neighbors") s))))
 
 -- ---- rules for ports
 
@@ -88,7 +101,10 @@ pub record PortPlace : Type 0 where
 -- that of an entry
 abbrev pub port_place : Section → Entry → Option PortPlace
 port_place s e =
-    option_map (λ (p : PortRuleText). record { port = p.port; cell = cell_in (space_of s) p.place; rules = p.rules }) (port_rule_text s.name e.value)
+    option_map
+    (λ (p : PortRuleText).
+    record { port = p.port; cell = cell_in (space_of s) p.place; rules = p.rules })
+    (port_rule_text s.name e.value)
 
 -- those of a group
 abbrev pub port_places : Section → List PortPlace
@@ -113,7 +129,8 @@ is_new_place before (Some p) = is_some p.cell && not (list_any (same_place p) be
 abbrev pub ports_refused : Section → List PortPlace → List Entry → List Refusal
 ports_refused s before [] = []
 ports_refused s before (e ∷ es) =
-    at_entry e BadValue (is_new_place before (port_place s e)) ++ ports_refused s (before ++ filter_map (port_place s) (e ∷ [])) es
+    at_entry e BadValue (is_new_place before (port_place s e))
+    ++ ports_refused s (before ++ filter_map (port_place s) (e ∷ [])) es
 
 -- ---- the phase
 
@@ -139,9 +156,11 @@ too_many_offsets s = if nat_lt 128 (length (offsets_of s)) then refusal s.line T
 -- what is refused of the space of a group
 abbrev pub of_space : Section → List Refusal
 of_space s =
-    each_entry (codes "neighbors") s (λ e. at_entry e BadValue (list_all (is_offset (space_of s)) (places_of s e)))
+    each_entry (codes "neighbors") s
+    (λ e. at_entry e BadValue (list_all (is_offset (space_of s)) (places_of s e)))
     ++ ports_refused s [] (entries_of (codes "portintransition") s)
-    ++ each_entry (codes "zone") s (λ e. at_entry e BadZone (is_some (zone_in (space_of s) e.value)))
+    ++ each_entry (codes "zone") s
+    (λ e. at_entry e BadZone (is_some (zone_in (space_of s) e.value)))
     ++ each_entry (codes "initialrowvalue") s (λ e. at_entry e BadInitial (is_some (row_in s e)))
     ++ each_entry (codes "initialrow") s (λ e. at_entry e BadInitial (is_some (row_in s e)))
     ++ too_many_offsets s

@@ -47,18 +47,24 @@ box_refused classes taken (Some class) =
 -- at the least line of a parameter that is off its form
 abbrev pub params_refused : List Section → Item → Option Refusal
 params_refused ss i =
-    option_and_then (λ class. option_map (λ line. refusal line BadParameter) (first_line_off class (params_of ss i))) (class_of_item i)
+    option_and_then
+    (λ class.
+    option_map (λ line. refusal line BadParameter) (first_line_off class (params_of ss i)))
+    (class_of_item i)
 
 -- no class, no box, or a parameter off its form
 abbrev pub component_refused : List Section → List Class → List Class → Item → Option Refusal
 component_refused ss classes taken i =
-    option_or (option_map (refusal i.line) (box_refused classes taken (class_of_item i))) (params_refused ss i)
+    option_or (option_map (refusal i.line) (box_refused classes taken (class_of_item i)))
+    (params_refused ss i)
 
 -- the first component that is refused, after boxes of these classes are taken
-abbrev pub first_component_refused : List Section → List Class → List Class → List Item → Option Refusal
+abbrev pub first_component_refused : List Section → List Class → List Class → List Item
+    → Option Refusal
 first_component_refused ss classes taken [] = None
 first_component_refused ss classes taken (i ∷ is) =
-    option_or (component_refused ss classes taken i) (first_component_refused ss classes (taken ++ filter_map class_of_item (i ∷ [])) is)
+    option_or (component_refused ss classes taken i)
+    (first_component_refused ss classes (taken ++ filter_map class_of_item (i ∷ [])) is)
 
 -- the first atomic component that is refused
 abbrev pub stock_refused : List Class → List Section → Option Refusal

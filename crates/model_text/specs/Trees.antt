@@ -28,32 +28,43 @@ use Rattle.model_text.specs.Links.{links_of}
 
 -- transport, unless the group says inertial
 abbrev pub delay_of : Section → DelayKind
-delay_of s = if is_value (codes "inertial") (value_of (codes "delay") s) then Inertial else Transport
+delay_of s =
+    if is_value (codes "inertial") (value_of (codes "delay") s) then Inertial else Transport
 
 -- 100 ms, unless the group says another
 abbrev pub default_delay_of : Section → ℕ
-default_delay_of s = unwrap_or (option_and_then (whole_number 9) (value_of (codes "defaultdelaytime") s)) 100
+default_delay_of s =
+    unwrap_or (option_and_then (whole_number 9) (value_of (codes "defaultdelaytime") s)) 100
 
 -- `?`, unless the group says another
 abbrev pub initial_value_of : Section → Value
-initial_value_of s = unwrap_or (option_and_then value_in (value_of (codes "initialvalue") s)) Undefined
+initial_value_of s =
+    unwrap_or (option_and_then value_in (value_of (codes "initialvalue") s)) Undefined
 
 -- the values of the map file
 abbrev pub map_of : Files → Section → Option (List Value)
-map_of files s = option_and_then (map_file (space_of s)) (option_and_then files (value_of (codes "initialmapvalue") s))
+map_of files s =
+    option_and_then (map_file (space_of s))
+    (option_and_then files (value_of (codes "initialmapvalue") s))
 
 -- the cells and values of the cells file
 abbrev pub cells_of : Files → Section → Option (List (ℕ × Value))
-cells_of files s = option_and_then (cells_file (space_of s)) (option_and_then files (value_of (codes "initialcellsvalue") s))
+cells_of files s =
+    option_and_then (cells_file (space_of s))
+    (option_and_then files (value_of (codes "initialcellsvalue") s))
 
 -- first initialvalue, then the row entries by line, the map file and the cells file
 abbrev pub initial_of : Files → Section → List Value
 initial_of files s =
-    with_cells (with_map (with_rows (space_of s) (filled (space_of s) (initial_value_of s)) (rows_of s)) (map_of files s)) (cells_of files s)
+    with_cells
+    (with_map (with_rows (space_of s) (filled (space_of s) (initial_value_of s)) (rows_of s))
+    (map_of files s)) (cells_of files s)
 
 -- the rules of a port, where its cell is in the space
 abbrev pub port_rule_of : Section → PortPlace → Option PortRule
-port_rule_of s p = option_map (λ cell. record { port = p.port; cell = cell; rules = rule_set_number s p.rules }) p.cell
+port_rule_of s p =
+    option_map
+    (λ cell. record { port = p.port; cell = cell; rules = rule_set_number s p.rules }) p.cell
 
 -- the values of a key, or ? for each of these names
 abbrev pub values_of : Option Bytes → List Bytes → List Value
@@ -110,7 +121,11 @@ component_of (suc n) files ss s =
     (if is_group s then cells (group_of files ss s)
     else
     coupled s.name (texts_of (codes "in") s) (texts_of (codes "out") s)
-    (trees (flat_map (λ (i : Item). elim (section_of ss i) [ None ↦ atomic_of ss i (class_of_item i) | Some t ↦ component_of n files ss t ]) (children_of s)))
+    (trees (flat_map
+    (λ (i : Item).
+    elim (section_of ss i)
+    [ None ↦ atomic_of ss i (class_of_item i) | Some t ↦ component_of n files ss t ])
+    (children_of s)))
     (links_of s))
     ∷ []
 

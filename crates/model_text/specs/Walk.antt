@@ -1,4 +1,5 @@
--- The walk from top: sections and items in the order in which they are met, and the first that is refused.
+-- The walk from top: sections and items in the order in which they are met, and the first that is
+-- refused.
 use Rattle.std.specs.Prelude.{ℕ, zero, suc, Bool, true, false, not, ◌&&◌, ◌||◌, nat_le, Option, Some, None, List, [], ◌∷◌, ◌++◌, map, length, if◌then◌else◌, codes}
 use Rattle.std.specs.List.{filter, filter_map, flat_map, list_any, before_first, after_first}
 use Rattle.std.specs.Option.{option_map, option_or, is_some}
@@ -24,7 +25,9 @@ is_group s = is_value (codes "cell") (value_of (codes "type") s)
 
 -- a type that is neither word, or a group as top
 abbrev pub is_wrong_type : Section → Entry → Bool
-is_wrong_type s e = not (bytes_eq e.value (codes "coupled") || (bytes_eq e.value (codes "cell") && not (bytes_eq s.name top)))
+is_wrong_type s e =
+    not (bytes_eq e.value (codes "coupled")
+    || (bytes_eq e.value (codes "cell") && not (bytes_eq s.name top)))
 
 -- the items that a section names, which a group has none of
 abbrev pub children_of : Section → List Item
@@ -68,7 +71,8 @@ walk_from (suc n) ss around line s =
     at_section line false s
     ∷ flat_map (λ (i : Item).
     at_item (s.name ∷ around) i
-    ∷ elim (below ss (s.name ∷ around) i) [ None ↦ [] | Some t ↦ walk_from n ss (s.name ∷ around) i.line t ]) (children_of s)
+    ∷ elim (below ss (s.name ∷ around) i)
+    [ None ↦ [] | Some t ↦ walk_from n ss (s.name ∷ around) i.line t ]) (children_of s)
 
 -- from a section that is there
 abbrev pub walk_at : List Section → Option Section → List Step
@@ -129,18 +133,21 @@ abbrev pub section_refused : ℕ → Bool → Section → Option Refusal
 section_refused line is_too_deep s =
     if is_too_deep then Some (refusal line TooLarge)
     else option_or (type_refused s (first_entry (codes "type") s))
-    (if not (is_group s) && is_empty (children_of s) then Some (refusal s.line MissingKey) else None)
+    (if not (is_group s) && is_empty (children_of s) then Some (refusal s.line MissingKey)
+    else None)
 
 -- a step after these items
 abbrev pub step_refused : List Section → List Item → Step → Option Refusal
 step_refused ss before (at_section line deep s) = section_refused line deep s
-step_refused ss before (at_item around i) = option_map (refusal i.line) (item_refused ss before around i)
+step_refused ss before (at_item around i) =
+    option_map (refusal i.line) (item_refused ss before around i)
 
 -- the first step that is refused, after these items
 abbrev pub first_step_refused : List Section → List Item → List Step → Option Refusal
 first_step_refused ss before [] = None
 first_step_refused ss before (step ∷ steps) =
-    option_or (step_refused ss before step) (first_step_refused ss (before ++ items_in (step ∷ [])) steps)
+    option_or (step_refused ss before step)
+    (first_step_refused ss (before ++ items_in (step ∷ [])) steps)
 
 -- no section top
 abbrev pub top_refused : List Section → Option Refusal

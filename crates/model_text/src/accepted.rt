@@ -37,17 +37,20 @@ pub fn accepted_groups_have_a_value_for_each_cell()
     ensures { ValuesFit }
 {}
 
-/// The groups of an accepted model have at least one cell, and a default delay of at most 99:59:59:999.
+/// The groups of an accepted model have at least one cell, and a default delay of at most
+/// 99:59:59:999.
 pub fn accepted_groups_have_right_sizes()
     ensures { SizesAreRight }
 {}
 
-/// The groups of an accepted model have at most 8 variables and 3 further ports, with different names and a value for each.
+/// The groups of an accepted model have at most 8 variables and 3 further ports, with different
+/// names and a value for each.
 pub fn accepted_groups_have_right_names()
     ensures { NamesAreRight }
 {}
 
-/// The groups of an accepted model have a rule set, and each number of a rule set or cell is in range.
+/// The groups of an accepted model have a rule set, and each number of a rule set or cell is in
+/// range.
 pub fn accepted_groups_have_right_numbers()
     ensures { NumbersAreRight }
 {}

@@ -1,4 +1,5 @@
-// Laws of models before their paths are counted and their files are read: what makes a model, part by part.
+// Laws of models before their paths are counted and their files are read: what makes a model, part
+// by part.
 ghost use Rattle.model_text.specs.BuildLaws.{SpacesCanBeHeld, NamesAreFew, ParametersStandOnce, TotalsAreWithinLimits, PathsStay, FilesAreLaid, WalkIsMet, ItemsAreMade, SectionsAreMade};
 
 /// A space of the sizes of each group can be held once the keys and the number of cells pass.
@@ -16,7 +17,8 @@ pub fn parameters_stand_once()
     ensures { ParametersStandOnce }
 {}
 
-/// Once all phases up to the limit of links pass, the components are sound and all totals within the limits, with any files.
+/// Once all phases up to the limit of links pass, the components are sound and all totals within
+/// the limits, with any files.
 pub fn totals_are_within_limits()
     ensures { TotalsAreWithinLimits }
 {}
@@ -31,7 +33,8 @@ pub fn files_are_laid()
     ensures { FilesAreLaid }
 {}
 
-/// What a component is, item by item, and that the walk of a model that passes all phases up to the limit of links meets right sections and items.
+/// What a component is, item by item, and that the walk of a model that passes all phases up to the
+/// limit of links meets right sections and items.
 pub fn components_are_made_item_by_item()
     ensures walk { WalkIsMet }
     ensures items { ItemsAreMade }

@@ -44,7 +44,8 @@ pub fn cell_is_refused()
     ensures { CellIsRefused }
 {}
 
-/// A tuple in a link is one piece with the text beside it, and other parentheses are bytes like others.
+/// A tuple in a link is one piece with the text beside it, and other parentheses are bytes like
+/// others.
 pub fn ends_are_cut()
     ensures { EndsAreCut }
 {}

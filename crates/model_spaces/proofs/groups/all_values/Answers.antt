@@ -2,7 +2,7 @@ use Rattle.std.proofs.Common.{Bor, subst, sym}
 use Rattle.ma_lines.specs.declared.section.Section as code
 use Rattle.ma_lines.specs.Sections.{section_of}
 use Rattle.model_spaces.specs.Right.{CanBeHeld, IsRight}
-use Rattle.model_spaces.proofs.Kept.{all_at}
+use Rattle.model_groups.proofs.Kept.{all_at}
 use Rattle.model_spaces.proofs.groups.all_values.Goals as goal
 
 pub group_values-requires : goal.group_values-requires

@@ -1,0 +1,4 @@
+pub mod Around
+pub mod Lent
+pub mod PortEnds
+pub mod Faces

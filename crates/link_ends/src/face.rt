@@ -1,0 +1,147 @@
+// The face of a section: the ports at which its links may begin and end.
+ghost use Rattle.std.specs.Prelude.{◌≡◌, [], map, codes, IfOk, OnOk};
+ghost use Rattle.std.specs.List.{flat_map};
+ghost use Rattle.source_text.specs.Shown.{texts};
+ghost use Rattle.ma_lines.specs.Sections.{section_of};
+ghost use Rattle.model_text.specs.Keyed.{texts_of};
+ghost use Rattle.model_text.specs.Walk as W;
+ghost use Rattle.model_text.specs.Links as L;
+ghost use Rattle.model_walk.specs.Shown.{item_of};
+ghost use Rattle.link_ends.specs.Around.{IsSpaceOf};
+ghost use Rattle.link_ends.specs.Lent.{end_of, with_ends};
+ghost use Rattle.link_ends.specs.PortEnds.{own_ends, child_ends, output_ends, input_ends};
+ghost use Rattle.link_ends.specs.PortEnds.{first_items, source_ends, target_ends, cells_of};
+ghost use Rattle.link_ends.specs.Faces.{sources_of, targets_of};
+
+use crate::child::{first_children, inputs, outputs, ports};
+use crate::lent::{LentEnd, add_end};
+use cell_grid::Grid;
+use indexmap::IndexSet;
+use ma_lines::{Section, Sections};
+use model_walk::Item;
+use model_walk::item::name_of;
+use quantity::OutOfMemory;
+use std::alloc::Global;
+
+/// Where the links of a section may begin and end, and how many cells they may name.
+#[derive(Drop)]
+pub struct Face<'a> {
+    /// The inputs of the section and the outputs of its children, each once.
+    pub sources: IndexSet<LentEnd<'a>>,
+    /// The outputs of the section and the inputs of its children, each once.
+    pub targets: IndexSet<LentEnd<'a>>,
+    /// How many cells there are; 0 in a coupled component.
+    pub cells: u32,
+}
+
+/// The face of a section. Of children of one name the first counts.
+pub fn face_of<'a>(
+    alloc: Global,
+    sections: &'a Sections,
+    section: &'a Section,
+    grid: Option<&Grid>,
+) -> Result<Face<'a>, OutOfMemory>
+    requires { IsSpaceOf (section_of section.now) grid }
+    ensures sources { let s = section_of section.now in
+        IfOk result (λ face. sources_of face
+        ≡ source_ends sections.now s (first_items (W.children_of s))) }
+    ensures targets { let s = section_of section.now in
+        IfOk result (λ face. targets_of face
+        ≡ target_ends sections.now s (first_items (W.children_of s))) }
+    ensures cells { IfOk result (λ face. face.cells ≡ cells_of (section_of section.now)) }
+{
+    let children = first_children(alloc, section)?;
+    let sources = sources(alloc, sections, section, &children)?;
+    let targets = targets(alloc, sections, section, &children)?;
+    Ok(Face {
+        sources,
+        targets,
+        cells: cells(section, grid),
+    })
+}
+
+fn cells(section: &Section, grid: Option<&Grid>) -> u32
+    requires { IsSpaceOf (section_of section.now) grid }
+    ensures { result ≡ cells_of (section_of section.now) }
+{
+    let _section = section;
+    match grid {
+        None => 0,
+        Some(grid) => grid.cells(),
+    }
+}
+
+/// The inputs of a section and the outputs of these children.
+fn sources<'a>(
+    alloc: Global,
+    sections: &'a Sections,
+    section: &'a Section,
+    children: &[Item<'a>],
+) -> Result<IndexSet<LentEnd<'a>>, OutOfMemory>
+    ensures { IfOk result (λ ends. map end_of ends.keys
+        ≡ source_ends sections.now (section_of section.now) (map item_of children.now)) }
+{
+    let mut ends = own(alloc, section, b"in")?;
+    for child in children {
+        let ports = outputs(alloc, sections, child)?;
+        add_of_child(name_of(child), &ports, &mut ends)?;
+    }
+    Ok(ends)
+}
+
+/// The outputs of a section and the inputs of these children.
+fn targets<'a>(
+    alloc: Global,
+    sections: &'a Sections,
+    section: &'a Section,
+    children: &[Item<'a>],
+) -> Result<IndexSet<LentEnd<'a>>, OutOfMemory>
+    ensures { IfOk result (λ ends. map end_of ends.keys
+        ≡ target_ends sections.now (section_of section.now) (map item_of children.now)) }
+{
+    let mut ends = own(alloc, section, b"out")?;
+    for child in children {
+        let ports = inputs(alloc, sections, child)?;
+        add_of_child(name_of(child), &ports, &mut ends)?;
+    }
+    Ok(ends)
+}
+
+/// The ports of a section under a key.
+fn own<'a>(
+    alloc: Global,
+    section: &'a Section,
+    key: &[u8],
+) -> Result<IndexSet<LentEnd<'a>>, OutOfMemory>
+    ensures { IfOk result (λ ends. map end_of ends.keys
+        ≡ with_ends [] (own_ends (texts_of key.now (section_of section.now)))) }
+{
+    let ports = ports(alloc, section, key)?;
+    own_ends(alloc, &ports)
+}
+
+fn own_ends<'a>(alloc: Global, ports: &[&'a [u8]]) -> Result<IndexSet<LentEnd<'a>>, OutOfMemory>
+    ensures { IfOk result (λ ends. map end_of ends.keys
+        ≡ with_ends [] (own_ends (texts ports.now))) }
+{
+    let mut ends = IndexSet::new(alloc);
+    for port in ports {
+        add_end(LentEnd::Own(*port), &mut ends)?;
+    }
+    Ok(ends)
+}
+
+/// Adds ports of a child.
+fn add_of_child<'a>(
+    child: &'a [u8],
+    ports: &[&'a [u8]],
+    ends: &mut IndexSet<LentEnd<'a>>,
+) -> Result<(), OutOfMemory>
+    ensures { OnOk result (map end_of ends.new.keys
+        ≡ with_ends (map end_of ends.old.keys) (child_ends child.now (texts ports.now))) }
+{
+    for port in ports {
+        add_end(LentEnd::Child(*port, child), ends)?;
+    }
+    Ok(())
+}

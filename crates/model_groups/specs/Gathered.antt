@@ -1,0 +1,32 @@
+-- Private: offsets that are gathered one by one.
+use Rattle.std.specs.Prelude.{◌||◌, nat_lt, List, [], ◌∷◌, ◌++◌, map, length, ℤ, fold, codes}
+use Rattle.std.specs.Prelude.{if◌then◌else◌}
+use Rattle.std.specs.List.{filter, flat_map, list_any}
+use Rattle.std.specs.Str.{bytes_eq}
+use Rattle.quantity.specs.declared.place.Offset.{Offset}
+use Rattle.cell_grid.specs.Space.{Space}
+use Rattle.cell_grid.specs.Places.{is_offset}
+use Rattle.rule_tree.specs.Scope.{offset_of, same_offset}
+use Rattle.ma_lines.specs.declared.section.Entry.{Entry}
+use Rattle.ma_lines.specs.Sections.{Section}
+use Rattle.model_text.specs.Spaces.{space_of, places_of}
+
+-- one more offset, unless it is there already or there are more than 128
+abbrev pub taken : List Offset → Offset → List Offset
+taken found o =
+    if nat_lt 128 (length found) || list_any (λ p. same_offset p o) found then found
+    else found ++ o ∷ []
+
+-- offsets after these, one after another
+abbrev pub gathered : List Offset → List Offset → List Offset
+gathered found os = fold taken found os
+
+-- the offsets among places
+abbrev pub offsets_among : Space → List (List ℤ) → List Offset
+offsets_among space places = map offset_of (filter (is_offset space) places)
+
+-- the offsets in the entries
+abbrev pub offsets_in : Section → List Entry → List Offset
+offsets_in s es =
+    offsets_among (space_of s)
+    (flat_map (places_of s) (filter (λ (e : Entry). bytes_eq e.key (codes "neighbors")) es))

@@ -1,0 +1,2 @@
+pub mod Zoned
+pub mod Gathered

@@ -1,0 +1,111 @@
+// The values of keys, and the words of values as names and as values of cells.
+ghost use Rattle.std.specs.Prelude.{◌≡◌, ◌++◌, length, map, option_to_list, IfOk, OnOk};
+ghost use Rattle.std.specs.List.{filter_map};
+ghost use Rattle.std.specs.Option.{option_map};
+ghost use Rattle.std.specs.Str.{bytes_eq};
+ghost use Rattle.quantity.specs.Bytes.{words};
+ghost use Rattle.quantity.specs.Literals.{value_in};
+ghost use Rattle.ma_lines.specs.Sections.{section_of};
+ghost use Rattle.model_text.specs.Keyed as K;
+ghost use Rattle.model_text.specs.Trees.{values_of};
+ghost use Rattle.model_walk.specs.Shown.{item_of};
+
+use ma_lines::{Entry, Section};
+use model_walk::Item;
+use model_walk::entries::{first_entry, items};
+use quantity::{Name, NameRefusal, OutOfMemory, Value};
+use source_text::words::next_word;
+use std::alloc::{AllocError, Global};
+
+/// The first value of a key.
+pub fn value_of<'a>(section: &'a Section, key: &[u8]) -> Option<&'a [u8]>
+    ensures { option_map (λ v. v.now) result ≡ K.value_of key.now (section_of section.now) }
+{
+    let entry = first_entry(section, key)?;
+    Some(entry.value.as_bytes())
+}
+
+/// Whether a key has just this value.
+pub fn has_value(section: &Section, key: &[u8], value: &[u8]) -> bool
+    ensures { result ≡ K.is_value value.now (K.value_of key.now (section_of section.now)) }
+{
+    match first_entry(section, key) {
+        None => false,
+        Some(entry) => value == entry.value.as_bytes(),
+    }
+}
+
+/// Whether an entry has this key.
+pub fn has_key(entry: &Entry, key: &[u8]) -> bool
+    ensures { result ≡ bytes_eq entry.now.key key.now }
+{
+    entry.key.as_bytes() == key
+}
+
+/// The words of a key as names. That they are names is the keys' phase's to say.
+pub fn names(alloc: Global, section: &Section, key: &[u8]) -> Result<Vec<Name>, OutOfMemory>
+    ensures { IfOk result (λ names. names.items ≡ K.texts_of key.now (section_of section.now)) }
+{
+    let words = items(alloc, section, key)?;
+    Ok(all_names(alloc, &words)?)
+}
+
+fn all_names(alloc: Global, words: &[Item<'_>]) -> Result<Vec<Name>, OutOfMemory>
+    ensures { IfOk result (λ names. names.items ≡ map (λ w. w.text.now) words.now) }
+{
+    let mut names = Vec::new(alloc);
+    for word in words {
+        names
+            .push(name(alloc, word.text)?)
+            .map_err(AllocError::from)?;
+    }
+    Ok(names)
+}
+
+fn name(alloc: Global, text: &[u8]) -> Result<Name, OutOfMemory>
+    ensures { IfOk result (λ name. name ≡ text.now) }
+{
+    match Name::parse(alloc, text) {
+        Ok(name) => Ok(name),
+        Err(NameRefusal::Bad) | Err(NameRefusal::Memory) => Err(OutOfMemory),
+    }
+}
+
+/// The values of a key, or `?` for each of so many names where the key isn't there.
+pub fn values(
+    alloc: Global,
+    section: &Section,
+    key: &[u8],
+    names: &[Name],
+) -> Result<Vec<Value>, OutOfMemory>
+    ensures { IfOk result (λ values. values.items
+        ≡ values_of (K.value_of key.now (section_of section.now)) names.now) }
+{
+    match value_of(section, key) {
+        None => Ok(vec![in alloc; Value::Undefined; names.len()]?),
+        Some(text) => values_in(alloc, text),
+    }
+}
+
+/// The words that are values.
+fn values_in(alloc: Global, text: &[u8]) -> Result<Vec<Value>, OutOfMemory>
+    ensures { IfOk result (λ values. values.items ≡ filter_map value_in (words text.now)) }
+{
+    let mut values = Vec::new(alloc);
+    let mut rest = text;
+    while let Some((word, behind)) = next_word(rest) {
+        add_value(word, &mut values)?;
+        rest = behind;
+    }
+    Ok(values)
+}
+
+fn add_value(word: &[u8], values: &mut Vec<Value>) -> Result<(), OutOfMemory>
+    ensures { OnOk result (values.new.items
+        ≡ values.old.items ++ option_to_list (value_in word.now)) }
+{
+    if let Some(value) = Value::parse(word) {
+        values.push(value).map_err(AllocError::from)?;
+    }
+    Ok(())
+}
