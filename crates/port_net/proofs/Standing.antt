@@ -23,7 +23,8 @@ use Rattle.port_net.specs.declared.ports.Inside.TheVariants as inside
 use Rattle.port_net.specs.declared.arrivals.Arrivals.{Arrivals}
 use Rattle.port_net.specs.Shown.{shown, Gives, Join, Extends, leaf_list, picked, one_if}
 use Rattle.port_net.specs.Arriving.{nodes_to}
-use Rattle.port_net.specs.Outside.{is_at, InputsAre, PortsAre, given_in, GivesOut, AreOutputs, AllOutputs, InsideIs, place_from, comes_out}
+use Rattle.port_net.specs.Outside.{is_at, InputsAre, PortsAre, given_in, GivesOut, AreOutputs, AllOutputs, InsideIs, comes_out}
+use Rattle.port_net.specs.Named.{place_from}
 use Rattle.port_net.proofs.Stood.{gives-kept, join-kept}
 
 -- ---- what is known stays known
@@ -49,7 +50,7 @@ outputs-kept a b (c ∷ cs) first [] g h = absurd h
 outputs-kept a b (c ∷ cs) first (o ∷ os) g h = (are-kept a b c first o g h.0, outputs-kept a b cs (first + o.leaves) os g h.1)
 
 pub inside-kept : (a b : List Node) (i : Inside) (first : ℕ) → Extends a b → InsideIs a i first → InsideIs b i first
-inside-kept a b (inside.Children cs os) first g h = outputs-kept a b cs.now first os.now g h
+inside-kept a b (inside.Children cs os) first g h = outputs-kept a b cs.now.list.now first os.now g h
 inside-kept a b (inside.Cells leaf) first g h = tt
 
 -- ---- one port

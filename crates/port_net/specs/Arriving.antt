@@ -24,6 +24,7 @@ abbrev pub kept_at : (End → Bool) → List (Place × Vec ℕ Global) → List 
 kept_at into [] = []
 kept_at into (e ∷ es) = if into (end_of e.0) then e.1.items else kept_at into es
 
+-- the nodes of the links that lead into an end
 abbrev pub nodes_to : Arrivals → (End → Bool) → List ℕ
 nodes_to a into = kept_at into a.by_place.entries
 
@@ -34,13 +35,17 @@ pub record IsTestFor (into : End → Bool) (x : End) : Type 0 where
 
 -- the nodes are those of the links, at each end in their order
 abbrev pub Arrive : List Link → List ℕ → Arrivals → Type 0
-Arrive links nodes a = (into : End → Bool) (x : End) → IsTestFor into x → nodes_to a into ≡ picked into links nodes
+Arrive links nodes a =
+    (into : End → Bool) (x : End) → IsTestFor into x → nodes_to a into ≡ picked into links nodes
 
 -- a node more at an end, if there is one
 abbrev pub Adds : Arrivals → Arrivals → End → Option ℕ → Type 0
-Adds old new to node = (into : End → Bool) (x : End) → IsTestFor into x → nodes_to new into ≡ nodes_to old into ++ one_if (into to) node
+Adds old new to node =
+    (into : End → Bool) (x : End) → IsTestFor into x
+    → nodes_to new into ≡ nodes_to old into ++ one_if (into to) node
 
 -- the nodes at each end show what the links that lead there bring
 abbrev pub Brings : List Word → List Node → Arrivals → (Link → List P.Source) → List Link → Type 0
 Brings ins ns a from links =
-    (into : End → Bool) (x : End) → IsTestFor into x → Join ins ns (nodes_to a into) (flat_map from (filter (λ (l : Link). into l.to) links))
+    (into : End → Bool) (x : End) → IsTestFor into x
+    → Join ins ns (nodes_to a into) (flat_map from (filter (λ (l : Link). into l.to) links))

@@ -49,6 +49,7 @@ pub record IsParted (n : Net) : Type 0 where
   pub within : AreWithin n.ports.items n.leaves.items
   pub whole : flat_map (part_at n.ports.items) n.leaves.items ≡ n.ports.items
 
+-- a net of these nodes is the model's
 pub record IsNetOf (t : Tree) (n : Net) : Type 0 where
   pub parted : IsParted n
   pub routes : RoutesOf t (flat_of_net n)

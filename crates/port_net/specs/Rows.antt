@@ -17,17 +17,22 @@ use Rattle.port_net.specs.Arriving.{nodes_to}
 use Rattle.port_net.specs.Outside.{PortsAre, AllOutputs}
 
 -- these lists stand at the ports of the leaves so far
-pub record Shows (ins : List Word) (g : Growing) (lists : List (List (List P.Source))) : Type 0 where
+pub record Shows (ins : List Word) (g : Growing)
+    (lists : List (List (List P.Source))) : Type 0 where
   pub within : AreWithin g.ports.items g.leaves.items
   pub whole : flat_map (part_at g.ports.items) g.leaves.items ≡ g.ports.items
-  pub shown : (more : List Node) → map (λ leaf. map (shown ins (g.nodes.items ++ more)) (part_at g.ports.items leaf)) g.leaves.items ≡ lists
+  pub shown : (more : List Node)
+      → map (λ leaf. map (shown ins (g.nodes.items ++ more)) (part_at g.ports.items leaf))
+      g.leaves.items ≡ lists
 
 -- leaves with these lists were put behind those that were there
 abbrev pub Grows : List Word → Growing → Growing → List (List (List P.Source)) → Type 0
-Grows ins old new lists = (before : List (List (List P.Source))) → Shows ins old before → Shows ins new (before ++ lists)
+Grows ins old new lists =
+    (before : List (List (List P.Source))) → Shows ins old before → Shows ins new (before ++ lists)
 
 -- what reaches the leaves of some components, where these lists stand at the inputs of each
-abbrev pub taken_by : List Component → (ℕ → List ℤ) → ℕ → (Word → Word → List P.Source) → List (List (List P.Source))
+abbrev pub taken_by : List Component → (ℕ → List ℤ) → ℕ → (Word → Word → List P.Source)
+    → List (List (List P.Source))
 taken_by [] settings first own = []
 taken_by (c ∷ cs) settings first own =
     P.taken_in (part_of c settings) first leaf_list (own (name_of (part_of c settings)))
@@ -39,14 +44,16 @@ taken_by (c ∷ cs) settings first own =
 abbrev pub Takes : Component → ℕ → Ports → Growing → Growing → Type 0
 Takes c first own old new =
     (ins : List Word) (settings : ℕ → List ℤ) (lists : Word → List P.Source)
-    → PortsAre ins old.nodes.items own lists → Grows ins old new (P.taken_in (part_of c settings) first leaf_list lists)
+    → PortsAre ins old.nodes.items own lists
+    → Grows ins old new (P.taken_in (part_of c settings) first leaf_list lists)
 
 -- those of some components, where links bring these lists to the inputs of each
 abbrev pub TakeAll : List Component → List Outputs → Arrivals → Growing → Growing → Type 0
 TakeAll cs outs links old new =
     (ins : List Word) (settings : ℕ → List ℤ) (first : ℕ) (own : Word → Word → List P.Source)
     → AllOutputs old.nodes.items cs first outs
-    → ((child port : Word) → Join ins old.nodes.items (nodes_to links (P.is_child port child)) (own child port))
+    → ((child port : Word)
+    → Join ins old.nodes.items (nodes_to links (P.is_child port child)) (own child port))
     → Grows ins old new (taken_by cs settings first own)
 
 -- those of cells whose ports have these names, where links bring these lists to the ports of each
@@ -56,5 +63,6 @@ cell_rows lists names = map (λ (p : ℕ × List Word). map (lists p.0) p.1) (en
 abbrev pub TakeCells : List (List Word) → Arrivals → Growing → Growing → Type 0
 TakeCells names links old new =
     (ins : List Word) (lists : ℕ → Word → List P.Source)
-    → ((cell : ℕ) (port : Word) → Join ins old.nodes.items (nodes_to links (P.is_cell port cell)) (lists cell port))
+    → ((cell : ℕ) (port : Word)
+    → Join ins old.nodes.items (nodes_to links (P.is_cell port cell)) (lists cell port))
     → Grows ins old new (cell_rows lists names)

@@ -2,6 +2,7 @@
 #![tactic(auto)]
 
 mod arrivals;
+mod children;
 mod growing;
 pub mod making;
 pub mod net;

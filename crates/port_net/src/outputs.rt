@@ -7,7 +7,7 @@ ghost use Rattle.port_net.specs.Outside.{AreOutputs, AllOutputs, leaves_of};
 use crate::arrivals::Arrivals;
 use crate::net::Node;
 use crate::ports::{Inside, Outputs, Ports};
-use crate::sources::arrivals;
+use crate::sources::{arrivals, coupled_arrivals};
 use model_tree::{CellGroup, Component, Coupled};
 use quantity::OutOfMemory;
 use std::alloc::{AllocError, Global};
@@ -46,8 +46,7 @@ pub(crate) fn outputs_of_coupled(
     ensures ok { IfOk result (λ out. AreOutputs nodes.new.items (in_tree.Coupled coupled.now) first out) }
 {
     let outs = outputs_of_all(alloc, &coupled.children, first, nodes)?;
-    let inside = Inside::Children(&coupled.children, &outs);
-    let links = arrivals(alloc, &coupled.links, &Ports::Nothing, &inside, nodes)?;
+    let links = coupled_arrivals(alloc, coupled, &Ports::Nothing, &outs, nodes)?;
     let leaves = total(&outs)?;
     Ok(Outputs {
         first,

@@ -1,6 +1,6 @@
 // What stands at ports, as nodes.
 use crate::arrivals::Arrivals;
-use model_tree::Component;
+use crate::children::Children;
 use quantity::Name;
 
 /// What a component gives: its first leaf, how many leaves it has, and the nodes of what its links bring
@@ -32,7 +32,7 @@ pub(crate) enum Ports<'k, 'n> {
 
 /// What is inside a component: children with their outputs, or cells, the first of which is this leaf.
 #[derive(Clone, Copy)]
-pub(crate) enum Inside<'c, 'o> {
-    Children(&'c [Component], &'o [Outputs]),
+pub(crate) enum Inside<'i, 'c> {
+    Children(&'i Children<'c>, &'i [Outputs]),
     Cells(u32),
 }

@@ -1,22 +1,23 @@
 // What reaches the leaves, from top down.
-ghost use Rattle.std.specs.Prelude.{◌≡◌, List, [], ◌∷◌, map, IfOk, OnOk};
+ghost use Rattle.std.specs.Prelude.{◌≡◌, List, [], ◌∷◌, map, OnOk};
 ghost use Rattle.model_tree.specs.declared.component.Component.TheVariants as in_tree;
 ghost use Rattle.model_tree.specs.Tree.{Word};
-ghost use Rattle.model_tree.specs.Pull.{Source as AnySource, class_ports};
+ghost use Rattle.model_tree.specs.Pull.{Source as AnySource};
 ghost use Rattle.port_net.specs.Shown.{Extends};
 ghost use Rattle.port_net.specs.Outside.{PortsAre};
 ghost use Rattle.port_net.specs.Rows.{Grows, Takes, TakeAll, TakeCells};
 
 use crate::arrivals::Arrivals;
+use crate::children::name_of;
 use crate::growing::Growing;
 use crate::nodes::counted;
 use crate::outputs::outputs_of_all;
 use crate::ports::{At, Inside, Outputs, Ports};
-use crate::sources::{arrivals, name_of, out_at, row};
-use atomic_face::Class;
+use crate::sources::{arrivals, coupled_arrivals, out_at, row};
+use model_tree::input_names::inputs_of_class;
 use model_tree::{Atomic, CellGroup, Component, Coupled};
 use quantity::{Name, OutOfMemory};
-use std::alloc::{AllocError, Global};
+use std::alloc::Global;
 
 /// The leaves of a component whose first leaf has this number, behind the others.
 #[cycle(put)]
@@ -50,8 +51,7 @@ pub(crate) fn put_coupled(
     ensures takes { OnOk result (Takes (in_tree.Coupled coupled.now) first own.now net.old net.new) }
 {
     let outs = outputs_of_all(alloc, &coupled.children, first, &mut net.nodes)?;
-    let inside = Inside::Children(&coupled.children, &outs);
-    let links = arrivals(alloc, &coupled.links, own, &inside, &mut net.nodes)?;
+    let links = coupled_arrivals(alloc, coupled, own, &outs, &mut net.nodes)?;
     put_all(alloc, &coupled.children, &outs, &links, net)
 }
 
@@ -88,7 +88,7 @@ fn put_atomic(
     ensures extends { OnOk result (Extends net.old.nodes.items net.new.nodes.items) }
     ensures takes { OnOk result (Takes (in_tree.Atomic atomic.now) first own.now net.old net.new) }
 {
-    let names = ports_of_class(alloc, atomic.class)?;
+    let names = inputs_of_class(alloc, atomic.class)?;
     put_leaf(alloc, own, &names, net)
 }
 
@@ -142,29 +142,4 @@ fn put_cells(
         put_leaf(alloc, &own, cell_names, net)?;
     }
     Ok(())
-}
-
-/// The names of the input ports of a class.
-fn ports_of_class(alloc: Global, class: Class) -> Result<Vec<Name>, OutOfMemory>
-    ensures { IfOk result (λ names. names.items ≡ class_ports class) }
-{
-    match class {
-        Class::Queue => names_of(alloc, &[b"in", b"done"]),
-        Class::Generator => names_of(alloc, &[]),
-        Class::Cpu => names_of(alloc, &[b"in"]),
-        Class::Counter => names_of(alloc, &[b"in", b"reset"]),
-        Class::Table => names_of(alloc, &[b"a", b"b", b"c", b"d"]),
-    }
-}
-
-/// The names that are written so.
-fn names_of(alloc: Global, texts: &[&[u8]]) -> Result<Vec<Name>, OutOfMemory>
-    ensures { IfOk result (λ names. names.items ≡ map (λ text. text.now) texts.now) }
-{
-    let mut names = Vec::new(alloc);
-    for text in texts {
-        let name = Name::parse(alloc, text).map_err(|_| OutOfMemory)?;
-        names.push(name).map_err(AllocError::from)?;
-    }
-    Ok(names)
 }

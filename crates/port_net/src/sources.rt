@@ -1,18 +1,19 @@
 // The nodes of what stands at ports, and of what links bring.
-ghost use Rattle.std.specs.Prelude.{◌≡◌, ◌<◌, ℕ, ℤ, List, Some, map, length, IfOk, IfSome, OnOk, slice_get};
-ghost use Rattle.model_tree.specs.Tree.{Word, name_of};
-ghost use Rattle.model_tree.specs.Causes.{OfComponent};
+ghost use Rattle.std.specs.Prelude.{◌≡◌, ℕ, ℤ, List, Some, map, IfOk, IfSome, OnOk, slice_get};
+ghost use Rattle.model_tree.specs.Tree.{Word};
 ghost use Rattle.model_tree.specs.Pull.{Source as AnySource};
 ghost use Rattle.port_net.specs.Shown.{Extends, Gives, AllGive};
 ghost use Rattle.port_net.specs.Arriving.{Brings};
-ghost use Rattle.port_net.specs.Outside.{PortsAre, InsideIs, AllOutputs, GivesOut, cell_lists, child_lists};
-ghost use Rattle.port_net.specs.Outside.{brought_by, stands_at, given_in, place_from, comes_out};
+ghost use Rattle.port_net.specs.Outside.{PortsAre, InsideIs, AllOutputs, GivesOut, cell_lists};
+ghost use Rattle.port_net.specs.Outside.{child_lists, brought_by, stands_at, coupled_at};
+ghost use Rattle.port_net.specs.Outside.{given_in, comes_out};
 
 use crate::arrivals::{Arrivals, same};
+use crate::children::Children;
 use crate::net::Node;
 use crate::nodes::{counted, give, join};
 use crate::ports::{At, Inside, Outputs, Ports};
-use model_tree::{Component, End, Link};
+use model_tree::{Component, Coupled, End, Link};
 use quantity::{Name, OutOfMemory};
 use std::alloc::{AllocError, Global};
 
@@ -26,7 +27,8 @@ pub(crate) fn node_at(
     ensures extends { OnOk result (Extends nodes.old.items nodes.new.items) }
     ensures gives { IfOk result
         (λ k. (ins : List Word) (lists : Word → List AnySource)
-        → PortsAre ins nodes.old.items ports.now lists → Gives ins nodes.new.items k (lists port.now)) }
+        → PortsAre ins nodes.old.items ports.now lists
+        → Gives ins nodes.new.items k (lists port.now)) }
 {
     match ports {
         Ports::Nothing => join(nodes, Vec::new(alloc)),
@@ -69,6 +71,27 @@ pub(crate) fn row(
         ks.push(k).map_err(AllocError::from)?;
     }
     Ok(ks)
+}
+
+/// The nodes of what the links of a coupled component bring, whose children give these.
+pub(crate) fn coupled_arrivals(
+    alloc: Global,
+    coupled: &Coupled,
+    own: &Ports<'_, '_>,
+    outs: &[Outputs],
+    nodes: &mut Vec<Node>,
+) -> Result<Arrivals, OutOfMemory>
+    ensures extends { OnOk result (Extends nodes.old.items nodes.new.items) }
+    ensures brings { IfOk result
+        (λ a. (ins : List Word) (lists : Word → List AnySource) (first : ℕ) (settings : ℕ → List ℤ)
+        → PortsAre ins nodes.old.items own.now lists
+        → AllOutputs nodes.old.items coupled.now.children.items first outs.now
+        → Brings ins nodes.new.items a (coupled_at coupled.now settings first lists)
+        coupled.now.links.items) }
+{
+    let children = Children::new(alloc, &coupled.children)?;
+    let inside = Inside::Children(&children, outs);
+    arrivals(alloc, &coupled.links, own, &inside, nodes)
 }
 
 /// The nodes of what links bring, by where they lead.
@@ -177,7 +200,7 @@ fn child_node(
 /// The same among these children.
 fn named_node(
     alloc: Global,
-    children: &[Component],
+    children: &Children<'_>,
     outs: &[Outputs],
     port: &Name,
     child: &Name,
@@ -186,14 +209,15 @@ fn named_node(
     ensures extends { OnOk result (Extends nodes.old.items nodes.new.items) }
     ensures gives { IfOk result
         (λ k. (ins : List Word) (first : ℕ) (settings : ℕ → List ℤ)
-        → AllOutputs nodes.old.items children.now first outs.now
-        → Gives ins nodes.new.items k (given_in children.now settings first port.now child.now)) }
+        → AllOutputs nodes.old.items children.now.list.now first outs.now
+        → Gives ins nodes.new.items k
+        (given_in children.now.list.now settings first port.now child.now)) }
 {
-    match place_of(children, child) {
+    match children.place(child) {
         None => join(nodes, Vec::new(alloc)),
         Some(place) => match out_at(outs, place) {
             None => Err(OutOfMemory),
-            Some(out) => out_node(alloc, &children[place], out, port, nodes),
+            Some(out) => out_node(alloc, &children.list[place], out, port, nodes),
         },
     }
 }
@@ -206,30 +230,6 @@ pub(crate) fn out_at(outs: &[Outputs], place: usize) -> Option<&Outputs>
         Some(&outs[place])
     } else {
         None
-    }
-}
-
-/// The place of the first child of a name.
-fn place_of(children: &[Component], name: &Name) -> Option<usize>
-    ensures place { (settings : ℕ → List ℤ) → result ≡ place_from children.now settings name.now 0 }
-    ensures within { IfSome result (λ place. place < length children.now) }
-{
-    for (i, child) in children.iter().enumerate() {
-        if same(name_of(child), name) {
-            return Some(i);
-        }
-    }
-    None
-}
-
-/// The name of a component.
-pub(crate) fn name_of(component: &Component) -> &Name
-    ensures { OfComponent component.now (λ t. result.now ≡ name_of t) }
-{
-    match component {
-        Component::Coupled(c) => &c.name,
-        Component::Cells(g) => &g.name,
-        Component::Atomic(a) => &a.name,
     }
 }
 

@@ -18,5 +18,6 @@ count_of (Joins ks) before = sum_of ks.items before
 abbrev pub kept_count : List Node → ℕ → ℕ
 kept_count ns k = min (length (list_of ns k)) 65537
 
+-- the number of paths below each node
 abbrev pub AreCounts : List Node → List ℕ → Type 0
 AreCounts ns counts = counts ≡ map (kept_count ns) (range_with_len 0 (length ns))

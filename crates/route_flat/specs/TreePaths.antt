@@ -13,6 +13,7 @@ use Rattle.route_flat.specs.Ways.{paths_of, leaf_paths, top_paths}
 abbrev pub TreePath : Type 0
 TreePath = ℕ × ℕ × P.Source
 
+-- a path from a source to a leaf's port
 abbrev pub tree_path : ℕ → ℕ → P.Source → TreePath
 tree_path leaf port source = (leaf, port, source)
 
@@ -21,6 +22,7 @@ abbrev pub made_to : {X : Type 0} → (ℕ → ℕ → P.Source → X) → Targe
 made_to make (target.Leaf leaf port) source = make leaf port.0 source
 made_to make (target.TopOut out) source = make 0 out source
 
+-- what is made of a path's ends
 abbrev pub made_of : {X : Type 0} → (ℕ → ℕ → P.Source → X) → List Word → Path → X
 made_of make ins p = made_to make p.to (named ins p.from)
 

@@ -42,9 +42,11 @@ abbrev pub ways_of : Flat → List Way
 ways_of r =
     flat_map ways_to_leaf (enumerate_from 0 r.ports) ++ flat_map ways_to_top (enumerate_from 0 r.tops)
 
+-- the path of a way
 abbrev pub path_in : Way → Path
 path_in w = w.path
 
+-- the paths of a net
 abbrev pub paths_of : Flat → List Path
 paths_of r = map path_in (ways_of r)
 

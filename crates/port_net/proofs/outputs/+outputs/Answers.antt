@@ -2,11 +2,9 @@ use Rattle.std.proofs.Common.{rules, ◌≡◌, ◌<◌, ◌+◌, ◌++◌, [], 
 use Rattle.std.proofs.lemmas.Grind.{common_steps}
 use Rattle.std.proofs.lemmas.List.{take_more}
 use Rattle.model_tree.specs.declared.component.Component.{Component}
-use Rattle.model_tree.specs.declared.link.Link.{Link}
 use Rattle.model_tree.specs.Pull as P
 use Rattle.port_net.specs.declared.ports.Outputs.{Outputs}
-use Rattle.port_net.specs.Arriving.{Brings}
-use Rattle.port_net.specs.Outside.{AllOutputs, leaves_of, given_in}
+use Rattle.port_net.specs.Outside.{AllOutputs, leaves_of}
 use Rattle.port_net.proofs.Stood.{extends-on}
 use Rattle.port_net.proofs.Coming.{coupled-gives, coupled-leaves, outputs-more, leaves-more}
 use Rattle.port_net.proofs.outputs.+outputs.Goals as goal
@@ -29,18 +27,13 @@ outputs_of_all-loop-child-preserved t c =
 pub outputs_of_coupled-returns-clause-ok : goal.outputs_of_coupled-returns-clause-ok
 outputs_of_coupled-returns-clause-ok t c =
     let mid = c.outputs_of_all.new.nodes.items in
-    let new = c.arrivals.new.nodes.items in
+    let new = c.coupled_arrivals.new.nodes.items in
     let known : AllOutputs c.outputs_of_all.new.nodes.items c.args.coupled.now.children.items c.args.first c.in_ok-outs.outs.items =
     subst (λ (cs : List Component). AllOutputs c.outputs_of_all.new.nodes.items cs c.args.first c.in_ok-outs.outs.items) c.deref.ensures.value c.in_ok-outs.ensures.ok in
-    let here : AllOutputs c.outputs_of_all.new.nodes.items c.deref-2.result.now c.args.first c.deref-3.result.now =
-    subst (λ (cs : List Component). AllOutputs c.outputs_of_all.new.nodes.items cs c.args.first c.deref-3.result.now) (sym c.deref-2.ensures.value)
-    (subst (λ (os : List Outputs). AllOutputs c.outputs_of_all.new.nodes.items c.args.coupled.now.children.items c.args.first os) (sym c.deref-3.ensures.value) known) in
+    let here : AllOutputs c.outputs_of_all.new.nodes.items c.args.coupled.now.children.items c.args.first c.deref-2.result.now =
+    subst (λ (os : List Outputs). AllOutputs c.outputs_of_all.new.nodes.items c.args.coupled.now.children.items c.args.first os) (sym c.deref-2.ensures.value) known in
     record {
       first = refl;
-      leaves = λ settings. c.in_ok-leaves.ensures ∙ ap leaves_of c.deref-5.ensures.value ∙ coupled-leaves mid c.args.coupled.now c.args.first c.in_ok-outs.outs.items settings known;
-      gives = λ ins settings port.
-          coupled-gives new c.args.coupled.now c.args.first settings ins c.in_ok-links.links port
-          (subst (λ (ls : List Link). Brings ins new c.in_ok-links.links (λ (l : Link). P.at_source l.from P.nothing (given_in c.args.coupled.now.children.items settings c.args.first) P.nothing) ls) c.deref-4.ensures.value
-          (subst (λ (cs : List Component). Brings ins new c.in_ok-links.links (λ (l : Link). P.at_source l.from P.nothing (given_in cs settings c.args.first) P.nothing) c.deref-4.result.now) c.deref-2.ensures.value
-          (c.in_ok-links.ensures.brings ins P.nothing c.args.first settings (λ p. refl) here)));
+      leaves = λ settings. c.in_ok-leaves.ensures ∙ ap leaves_of c.deref-3.ensures.value ∙ coupled-leaves mid c.args.coupled.now c.args.first c.in_ok-outs.outs.items settings known;
+      gives = λ ins settings port. coupled-gives new c.args.coupled.now c.args.first settings ins c.in_ok-links.links port (c.in_ok-links.ensures.brings ins P.nothing c.args.first settings (λ p. refl) here);
     }

@@ -56,8 +56,8 @@ pub put_coupled-returns-clause-extends : goal.put_coupled-returns-clause-extends
 put_coupled-returns-clause-extends t c =
     on_ok_weaker c.put_all.result
     (λ more.
-    extends-on c.args.net.now.nodes.items c.arrivals.new.nodes.items c.put_all.new.net.nodes.items
-    (extends-on c.args.net.now.nodes.items c.outputs_of_all.new.nodes.items c.arrivals.new.nodes.items c.in_ok-outs.ensures.extends c.in_ok-links.ensures.extends) more)
+    extends-on c.args.net.now.nodes.items c.coupled_arrivals.new.nodes.items c.put_all.new.net.nodes.items
+    (extends-on c.args.net.now.nodes.items c.outputs_of_all.new.nodes.items c.coupled_arrivals.new.nodes.items c.in_ok-outs.ensures.extends c.in_ok-links.ensures.extends) more)
     c.put_all.ensures.extends
 
 pub put_coupled-returns-clause-takes : goal.put_coupled-returns-clause-takes
@@ -66,23 +66,21 @@ put_coupled-returns-clause-takes t c =
     (λ h ins settings lists own.
     let old = c.args.net.now.nodes.items in
     let mid = c.outputs_of_all.new.nodes.items in
-    let new = c.arrivals.new.nodes.items in
+    let new = c.coupled_arrivals.new.nodes.items in
     let top = c.args.coupled.now in
     let from = λ (cs : List Component) (l : Link). P.at_source l.from lists (given_in cs settings c.args.first) P.nothing in
     let longer : Extends old new = extends-on old mid new c.in_ok-outs.ensures.extends c.in_ok-links.ensures.extends in
     let known : AllOutputs mid top.children.items c.args.first c.in_ok-outs.outs.items = subst (λ (cs : List Component). AllOutputs mid cs c.args.first c.in_ok-outs.outs.items) c.deref.ensures.value c.in_ok-outs.ensures.ok in
-    let known2 : AllOutputs mid c.deref-2.result.now c.args.first c.deref-3.result.now =
-    subst (λ (cs : List Component). AllOutputs mid cs c.args.first c.deref-3.result.now) (sym c.deref-2.ensures.value) (subst (λ (os : List Outputs). AllOutputs mid top.children.items c.args.first os) (sym c.deref-3.ensures.value) known) in
-    let known3 : AllOutputs new c.deref-5.result.now c.args.first c.deref-6.result.now =
-    subst (λ (cs : List Component). AllOutputs new cs c.args.first c.deref-6.result.now) (sym c.deref-5.ensures.value)
-    (subst (λ (os : List Outputs). AllOutputs new top.children.items c.args.first os) (sym c.deref-6.ensures.value) (outputs-kept mid new top.children.items c.args.first c.in_ok-outs.outs.items c.in_ok-links.ensures.extends known)) in
+    let known2 : AllOutputs mid top.children.items c.args.first c.deref-2.result.now =
+    subst (λ (os : List Outputs). AllOutputs mid top.children.items c.args.first os) (sym c.deref-2.ensures.value) known in
+    let known3 : AllOutputs new c.deref-3.result.now c.args.first c.deref-4.result.now =
+    subst (λ (cs : List Component). AllOutputs new cs c.args.first c.deref-4.result.now) (sym c.deref-3.ensures.value)
+    (subst (λ (os : List Outputs). AllOutputs new top.children.items c.args.first os) (sym c.deref-4.ensures.value) (outputs-kept mid new top.children.items c.args.first c.in_ok-outs.outs.items c.in_ok-links.ensures.extends known)) in
     let given : Brings ins new c.in_ok-links.links (from top.children.items) top.links.items =
-    subst (λ (ls : List Link). Brings ins new c.in_ok-links.links (from top.children.items) ls) c.deref-4.ensures.value
-    (subst (λ (cs : List Component). Brings ins new c.in_ok-links.links (from cs) c.deref-4.result.now) c.deref-2.ensures.value
-    (c.in_ok-links.ensures.brings ins lists c.args.first settings (ports-kept ins old mid c.args.own.now lists c.in_ok-outs.ensures.extends own) known2)) in
-    grows-as ins c.args.net.now c.put_all.new.net (taken_by c.deref-5.result.now settings c.args.first (own_of top settings c.args.first lists)) _
-    (ap (λ (cs : List Component). taken_by cs settings c.args.first (own_of top settings c.args.first lists)) c.deref-5.ensures.value ∙ taken-Coupled top settings c.args.first (own_of top settings c.args.first lists))
-    (grows-on ins c.args.net.now _ c.put_all.new.net [] (taken_by c.deref-5.result.now settings c.args.first (own_of top settings c.args.first lists)) (nodes-put c.args.net.now _ ins longer refl refl)
+    c.in_ok-links.ensures.brings ins lists c.args.first settings (ports-kept ins old mid c.args.own.now lists c.in_ok-outs.ensures.extends own) known2 in
+    grows-as ins c.args.net.now c.put_all.new.net (taken_by c.deref-3.result.now settings c.args.first (own_of top settings c.args.first lists)) _
+    (ap (λ (cs : List Component). taken_by cs settings c.args.first (own_of top settings c.args.first lists)) c.deref-3.ensures.value ∙ taken-Coupled top settings c.args.first (own_of top settings c.args.first lists))
+    (grows-on ins c.args.net.now _ c.put_all.new.net [] (taken_by c.deref-3.result.now settings c.args.first (own_of top settings c.args.first lists)) (nodes-put c.args.net.now _ ins longer refl refl)
     (h ins settings c.args.first (own_of top settings c.args.first lists) known3
     (coupled-takes top settings c.args.first ins new c.in_ok-links.links lists given))))
     c.put_all.ensures.takes
