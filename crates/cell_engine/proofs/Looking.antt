@@ -11,7 +11,7 @@ use Rattle.quantity.specs.declared.value.Value.TheVariants.{Undefined}
 use Rattle.rule_eval.specs.declared.view.View.{View}
 use Rattle.rule_eval.specs.Seen.{IsView, offsets_of, neighbours_of, sight_of}
 use Rattle.cell_grid.specs.Space.{Space, cell_count, neighbour, place_of, dims_of}
-use Rattle.cell_grid.specs.Neighbourhoods.{Neighbourhood, further, neighbours, AreDifferences}
+use Rattle.cell_reach.specs.Neighbourhoods.{Neighbourhood, further, neighbours, AreDifferences}
 use Rattle.cell_grid.proofs.Opposites.{neighbour-inside}
 use Rattle.model_tree.specs.Tree.{Group}
 use Rattle.run_model.specs.CellStep.{PortState, CellState}

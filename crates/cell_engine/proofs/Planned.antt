@@ -14,7 +14,7 @@ use Rattle.rule_tree.specs.Scope.{is_sound}
 use Rattle.rule_eval.specs.RuleCodes.{codes_of}
 use Rattle.cell_grid.specs.Space.{Space, cell_count}
 use Rattle.cell_grid.specs.Zones.{zone_of}
-use Rattle.cell_grid.specs.Neighbourhoods.{Neighbourhood}
+use Rattle.cell_reach.specs.Neighbourhoods.{Neighbourhood}
 use Rattle.model_tree.specs.declared.group.PortRule.{PortRule}
 use Rattle.model_tree.specs.Tree.{Group}
 use Rattle.model_tree.specs.Sound.{extent, is_near_offset, offsets_differ, places_differ, has_right_names, has_right_rules, is_sound_group}

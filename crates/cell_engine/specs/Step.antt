@@ -14,7 +14,7 @@ use Rattle.rule_tree.specs.Chosen.{chosen}
 use Rattle.rule_eval.specs.RuleCodes.{Codes, codes_of, rule_depth}
 use Rattle.rule_eval.specs.declared.view.View.{View}
 use Rattle.cell_grid.specs.Space.{place_of, dims_of}
-use Rattle.cell_grid.specs.Neighbourhoods.{Neighbourhood, further, neighbours}
+use Rattle.cell_reach.specs.Neighbourhoods.{Neighbourhood, further, neighbours}
 use Rattle.model_tree.specs.declared.group.PortRule.{PortRule}
 use Rattle.model_tree.specs.Tree.{Word, Group}
 use Rattle.model_tree.specs.Pull.{cell_ports}

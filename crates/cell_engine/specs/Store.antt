@@ -3,7 +3,7 @@ use Rattle.std.specs.Prelude.{◌≡◌, ℕ, ◌+◌, ◌*◌, ◌≤◌, ◌<�
 use Rattle.std.specs.List.{All}
 use Rattle.rule_eval.specs.RuleCodes.{rule_depth}
 use Rattle.cell_grid.specs.Space.{cell_count}
-use Rattle.cell_grid.specs.Neighbourhoods.{Neighbourhood}
+use Rattle.cell_reach.specs.Neighbourhoods.{Neighbourhood}
 use Rattle.model_tree.specs.declared.group.PortRule.{PortRule}
 use Rattle.cell_engine.specs.declared.desk.Desk.{Desk}
 use Rattle.cell_engine.specs.Layout.{Layout}

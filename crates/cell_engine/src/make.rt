@@ -11,7 +11,7 @@ ghost use Rattle.cell_table.specs.Table.{starting};
 ghost use Rattle.cell_engine.specs.Layout.{StandsFor, set_of};
 
 use crate::plan::Plan;
-use cell_grid::Reach;
+use cell_reach::Reach;
 use cell_table::CellTable;
 use model_tree::{CellGroup, PortRule};
 use quantity::OutOfMemory;

@@ -1,5 +1,6 @@
 // What a store keeps of its group.
-use cell_grid::{Grid, Reach};
+use cell_grid::Grid;
+use cell_reach::Reach;
 use model_tree::PortRule;
 use quantity::{DelayKind, Time};
 use rule_eval::RuleCode;

@@ -4,7 +4,7 @@ ghost use Rattle.std.specs.Prelude.{pos, ◌+ℤ◌, ◌≤ℤ◌, ◌<ℤ◌, v
 ghost use Rattle.std.specs.List.{All, flat_map};
 ghost use Rattle.quantity.specs.declared.value.Value.{Value as AnyValue};
 ghost use Rattle.cell_grid.specs.Space.{cell_count};
-ghost use Rattle.cell_grid.specs.Neighbourhoods.{further, neighbours};
+ghost use Rattle.cell_reach.specs.Neighbourhoods.{further, neighbours};
 ghost use Rattle.cell_table.specs.Table.{IsTable};
 ghost use Rattle.cell_table.specs.Told.{cell_at};
 ghost use Rattle.cell_engine.specs.Step.{given_by, out_of, out_further};

@@ -54,16 +54,13 @@ pub(crate) fn by_rules(
     }
 }
 
-/// The time that is so much later, for a delay that a rule may have. No other comes here, but what
-/// evaluation promises of a delay is said only of rules that stand for the codes.
+/// The time that is so much later.
 fn later(t: Time, delay: Time) -> Time
-    requires { t ≤ 359999999 }
-    ensures { delay ≤ 359999999 → result ≡ t + delay }
+    requires time { t ≤ 359999999 }
+    requires delay { delay ≤ 359999999 }
+    ensures { result ≡ t + delay }
 {
-    match Time::new(t.ms() + delay.ms()) {
-        Some(at) => at,
-        None => t,
-    }
+    t.after(delay)
 }
 
 /// Why a cell stops, where its rules do.
@@ -78,6 +75,7 @@ fn stop_of(stop: RuleStop) -> CellStop
 }
 
 /// A cell takes values after a delay, and its variables have these values.
+#[inline(always)]
 fn take_made(
     table: &mut CellTable,
     i: u32,
@@ -105,6 +103,7 @@ fn take_made(
 }
 
 /// A cell takes values after a delay, as if in their written order.
+#[inline(always)]
 pub(crate) fn take(
     table: &mut CellTable,
     i: u32,

@@ -95,6 +95,7 @@ impl CellStore {
     }
 
     /// The next time of a cell. It takes no memory and counts no visit.
+    #[inline(always)]
     pub fn next(&self, i: u32) -> Option<Time>
         requires { i < length self.now.cells }
         ensures { result ≡ cell_next (cell_at self.now.cells i) }

@@ -114,6 +114,7 @@ impl CellTable {
     }
 
     /// The time of the first pair of a port, if there are any.
+    #[inline(always)]
     pub fn next(&self, i: u32, p: usize) -> Option<Time>
         requires cell { i < length self.now.cells }
         ensures { result ≡ first_time (port_at self.now i p).pairs }
@@ -198,6 +199,7 @@ impl CellTable {
     }
 
     /// The least time for which a value waits at a port.
+    #[inline(always)]
     pub fn next_of(&self, i: u32) -> Option<Time>
         requires cell { i < length self.now.cells }
         ensures { result ≡ cell_next (cell_at self.now.cells i) }
@@ -206,6 +208,16 @@ impl CellTable {
         if width == 1 {
             return self.next(i, 0);
         }
+        self.next_of_ports(i)
+    }
+
+    /// The same, over all ports.
+    #[inline(never)]
+    fn next_of_ports(&self, i: u32) -> Option<Time>
+        requires cell { i < length self.now.cells }
+        ensures { result ≡ cell_next (cell_at self.now.cells i) }
+    {
+        let _width = self.width();
         let a = self.next(i, 0);
         let b = self.next(i, 1);
         let c = self.next(i, 2);
@@ -239,6 +251,7 @@ impl CellTable {
     }
 
     /// A port takes a value that waits for this time, unless it is the one that it computed last.
+    #[inline(always)]
     fn take_port(
         &mut self,
         i: u32,
@@ -262,6 +275,7 @@ impl CellTable {
     }
 
     /// The same where a value is given and the cell has such a port.
+    #[inline(always)]
     #[tactic(auto, using(crate::proofs::Taking::taken_past))]
     fn take_given(
         &mut self,
@@ -284,6 +298,7 @@ impl CellTable {
     }
 
     /// Each port of a cell takes what is given to it. Without memory some ports may have taken theirs.
+    #[inline(always)]
     pub fn take(
         &mut self,
         i: u32,
@@ -300,6 +315,25 @@ impl CellTable {
         if width == 1 {
             return self.take_given(i, 0, kind, at, given_at(given, 0));
         }
+        self.take_ports(i, kind, at, given)
+    }
+
+    /// The same, port after port.
+    #[inline(never)]
+    fn take_ports(
+        &mut self,
+        i: u32,
+        kind: DelayKind,
+        at: Time,
+        given: &Given,
+    ) -> Result<(), OutOfMemory>
+        requires cell { i < length self.old.cells }
+        ensures ok { OnOk result (self.new ≡ changed_cell i
+            (changed_ports (taken_by_port (port_took kind at) given.now.values)) self.old) }
+        ensures only { OnlyCell i self.old.cells self.new.cells }
+        ensures shape { HasShape self.old self.new }
+    {
+        let _width = self.width();
         self.take_given(i, 0, kind, at, given_at(given, 0))?;
         self.take_given(i, 1, kind, at, given_at(given, 1))?;
         self.take_given(i, 2, kind, at, given_at(given, 2))?;
@@ -385,7 +419,9 @@ fn start() -> Time
     }
 }
 
-/// A value waits in a list for a time, in the way of this kind.
+/// A value waits in a list for a time, in the way of this kind. Mostly a cell takes the value that it
+/// has, so this is no part of `take`.
+#[inline(never)]
 fn put(
     delays: &mut Delays,
     kind: DelayKind,
@@ -432,6 +468,7 @@ fn least(a: Option<Time>, b: Option<Time>) -> Option<Time>
 }
 
 /// What is given at a port, if anything is.
+#[inline(always)]
 fn given_at(given: &Given, port: usize) -> Option<Value>
     ensures { result ≡ slice_index_or given.now.values port None }
 {
@@ -442,6 +479,7 @@ fn given_at(given: &Given, port: usize) -> Option<Value>
 }
 
 /// The value that stands at this place, or `?`.
+#[inline(always)]
 pub(crate) fn value_at(values: &[Value], k: usize) -> Value
     ensures { result ≡ slice_index_or values.now k AnyValue.Undefined }
 {
@@ -470,6 +508,7 @@ fn piece(values: &[Value], first: usize, width: usize) -> &[Value]
 }
 
 /// Whether the values are the same, where `?` equals `?`.
+#[inline(always)]
 fn is_same(a: &Value, b: &Value) -> bool
     ensures { result ≡ same_value a.now b.now }
 {
@@ -483,6 +522,7 @@ fn is_same(a: &Value, b: &Value) -> bool
 }
 
 /// The time of the first pair of a list.
+#[inline(always)]
 fn next_in(delays: &Delays, port: u32) -> Option<Time>
     requires { port < length delays.now.lists }
     ensures { result ≡ first_time (list_of delays.now port) }

@@ -43,6 +43,22 @@ pub fn mark_all<S: LeafSet>(set: &mut S, leaves: &[u32])
     }
 }
 
+/// All of these leaves are in as well, in both sets.
+fn mark_both<S: LeafSet>(woken: &mut S, touched: &mut S, leaves: &[u32])
+    requires woken { All (λ l. l < length (S.members woken.old)) leaves.now }
+    requires touched { All (λ l. l < length (S.members touched.old)) leaves.now }
+    ensures long { length (S.members woken.new) ≡ length (S.members woken.old) }
+    ensures touched_long { length (S.members touched.new) ≡ length (S.members touched.old) }
+    ensures woken { Marks (is_among leaves.now) (S.members woken.old) (S.members woken.new) }
+    ensures touched { Marks (is_among leaves.now) (S.members touched.old)
+        (S.members touched.new) }
+{
+    for leaf in leaves {
+        woken.insert(*leaf);
+        touched.insert(*leaf);
+    }
+}
+
 /// Marks the leaves that watch a giver, in both sets.
 pub fn wake<W: Watched, S: LeafSet>(
     watched: &W,
@@ -64,8 +80,7 @@ pub fn wake<W: Watched, S: LeafSet>(
     for leaf in givers {
         near.clear();
         watched.watchers_of(*leaf, near)?;
-        mark_all(woken, near);
-        mark_all(touched, near);
+        mark_both(woken, touched, near);
     }
     Ok(())
 }

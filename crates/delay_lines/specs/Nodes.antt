@@ -10,6 +10,7 @@ use Rattle.delay_lines.specs.declared.nodes.Spot.TheVariants.{Taken, Free}
 abbrev pub Look : Type 0
 Look = ℕ → Option Node
 
+-- a pair and the next node
 abbrev pub node_of : Pair → Option ℕ → Node
 node_of p next = record { pair = p; next = next }
 

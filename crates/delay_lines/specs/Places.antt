@@ -26,6 +26,7 @@ keys_from zero ns from = []
 keys_from (suc n) ns None = []
 keys_from (suc n) ns (Some key) = key ∷ keys_from n ns (next_in ns key)
 
+-- the key is among these
 abbrev pub has_key : List ℕ → ℕ → Bool
 has_key keys key = list_any (nat_eq key) keys
 

@@ -63,6 +63,7 @@ impl Delays {
     }
 
     /// The first pair of a cell's list, None where the list is empty. It visits one node.
+    #[inline(always)]
     pub fn first(&self, cell: u32) -> Option<(Time, Value)>
         requires { cell < length self.now.lists }
         ensures pair { result ≡ first_pair (list_of self.now cell) }

@@ -15,6 +15,7 @@ pub struct Node {
 
 impl Node {
     /// The node of a pair, whose time is at most the greatest.
+    #[inline(always)]
     pub fn new(at: Time, value: Value, next: Option<u32>) -> Node
         ensures node { result ≡ node_of (at, value) next }
         ensures time { at ≤ last_time }
@@ -59,6 +60,7 @@ pub fn spot_of(nodes: &Pool, first: Option<u32>, at: Time) -> Spot
 }
 
 /// The same where the last node is known: behind it a later pair finds its place at once.
+#[inline(always)]
 pub fn place_of(nodes: &Pool, first: Option<u32>, last: Option<u32>, at: Time) -> Spot
     requires ordered { IsOrdered (look_in nodes.now) first }
     requires last { last ≡ last_link (look_in nodes.now) first (pairs_from (look_in nodes.now) first) }

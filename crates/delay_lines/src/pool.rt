@@ -71,6 +71,7 @@ impl Pool {
     }
 
     /// Stores a node where none is. It takes memory only where nothing is spare.
+    #[inline(always)]
     pub fn insert(&mut self, node: Node) -> Result<u32, OutOfMemory>
         ensures was_vacant { IfOk result (λ key. look_in self.old key ≡ None) }
         ensures updates { IfOk result

@@ -22,9 +22,10 @@ use Rattle.flat_run.specs.Standing.{Standing}
 abbrev pub tree_with : Model → List Stocked → Tree
 tree_with m stock = tree_at m (settings_in stock)
 
--- the routes are the model's, no leaf waits in the queue, each atomic leaf has a box of its own at its start, and each event is at
--- an input that there is
-pub record StartsFrom (m : Model) (stock : List Stocked) (routes : Flat) (events : List Event) (waiting : List (Option ℕ)) : Type 0 where
+-- the routes are the model's, no leaf waits in the queue, each atomic leaf has a box of its own at
+-- its start, and each event is at an input that there is
+pub record StartsFrom (m : Model) (stock : List Stocked) (routes : Flat) (events : List Event)
+    (waiting : List (Option ℕ)) : Type 0 where
   pub sound : IsTrue (is_sound_model (tree_with m stock))
   pub routes_are : RoutesOf (tree_with m stock) routes
   pub waits : waiting ≡ replicate (leaf_count (tree_with m stock)) None
@@ -36,12 +37,26 @@ pub record StartsFrom (m : Model) (stock : List Stocked) (routes : Flat) (events
 -- other events are left
 abbrev pub with_events : Standing → List Event → Standing
 with_events s events =
-    record { model = s.model; settings = s.settings; state = record s.state { events = events }; end = s.end; limit = s.limit; stopped = s.stopped }
+    record {
+      model = s.model;
+      settings = s.settings;
+      state = record s.state { events = events };
+      end = s.end;
+      limit = s.limit;
+      stopped = s.stopped;
+    }
 
 -- a leaf has another state
 abbrev pub with_leaf_state : Standing → ℕ → LeafState → Standing
 with_leaf_state s leaf x =
-    record { model = s.model; settings = s.settings; state = record s.state { leaf_states = slice_set s.state.leaf_states leaf x }; end = s.end; limit = s.limit; stopped = s.stopped }
+    record {
+      model = s.model;
+      settings = s.settings;
+      state = record s.state { leaf_states = slice_set s.state.leaf_states leaf x };
+      end = s.end;
+      limit = s.limit;
+      stopped = s.stopped;
+    }
 
 -- the leaf is a cell with so many ports and variables, and the times of its lists rise
 pub record CanPut (tree : Tree) (leaf : ℕ) (c : CellState) : Type 0 where

@@ -25,7 +25,8 @@ pub record AreCounts (end limit count : ℕ) : Type 0 where
 abbrev pub ports_in : Tree → ℕ → ℕ
 ports_in tree l = ports_of (slice_get (leaves tree) l)
 
--- the paths are the model's: they lead to ports that there are, by rising leaf, and no two inputs of top have one name
+-- the paths are the model's: they lead to ports that there are, by rising leaf, and no two inputs
+-- of top have one name
 pub record AreRoutes (tree : Tree) (paths : List Path) : Type 0 where
   pub paths_are : ArePathsOf tree paths
   pub ports : All (λ (p : Path). IsPortOf (leaf_count tree) (ports_in tree) p.to) paths
@@ -33,7 +34,8 @@ pub record AreRoutes (tree : Tree) (paths : List Path) : Type 0 where
   pub distinct : AreDistinct (ins_of tree)
 
 -- routes, watchers and events are the model's own; the lists of leaves have room for all of them
-pub record IsFrameOf (tree : Tree) (routes : Flat) (watching : Watching) (events : List Event) (due moving : ℕ) : Type 0 where
+pub record IsFrameOf (tree : Tree) (routes : Flat) (watching : Watching) (events : List Event)
+    (due moving : ℕ) : Type 0 where
   pub routes_are : AreRoutes tree (paths_of routes)
   pub watching_is : IsWatchingOf tree watching
   pub at_inputs : AreAtInputs (ins_of tree) events
@@ -41,14 +43,18 @@ pub record IsFrameOf (tree : Tree) (routes : Flat) (watching : Watching) (events
   pub moving_room : leaf_count tree ≤ moving
 
 -- the states fit the model, the queue waits as the leaves do, and both sets are empty
-pub record GoesOn (tree : Tree) (leaves : Seated) (waiting : List (Option ℕ)) (woken touched : List Bool) : Type 0 where
+pub record GoesOn (tree : Tree) (leaves : Seated) (waiting : List (Option ℕ))
+    (woken touched : List Bool) : Type 0 where
   pub fits : FitsTree tree leaves.states
   pub queue : waiting ≡ waits leaves.states
   pub calm : woken ≡ replicate (leaf_count tree) false
   pub at_rest : touched ≡ replicate (leaf_count tree) false
 
 -- after a stop the leaves, the queue and the sets are left as they are
-pub record HoldsRun (leaves : Seated) (routes : Flat) (watching : Watching) (events : List Event) (waiting : List (Option ℕ)) (woken touched : List Bool) (due moving end limit count : ℕ) (stopped : Option Stop) : Type 0 where
+pub record HoldsRun (leaves : Seated) (routes : Flat) (watching : Watching) (events : List Event)
+    (waiting : List (Option ℕ)) (woken touched : List Bool) (due moving end limit count : ℕ)
+    (stopped : Option Stop) : Type 0 where
   pub counts : AreCounts end limit count
   pub frame : IsFrameOf (tree_at leaves.model leaves.settings) routes watching events due moving
-  pub goes_on : stopped ≡ None → GoesOn (tree_at leaves.model leaves.settings) leaves waiting woken touched
+  pub goes_on : stopped ≡ None
+      → GoesOn (tree_at leaves.model leaves.settings) leaves waiting woken touched

@@ -43,8 +43,10 @@ parts_at leaves events t = parts_of (tree_by leaves) t (standing_at leaves.state
 abbrev pub later : ℕ → List Event → List Event
 later t events = filter (λ (e : Event). not (e.time == t)) events
 
--- no leaf stops: how all leaves stand, for which times they wait, which of the events are left, and the records
-pub record RanTo (t : ℕ) (p : Parts) (events : List Event) (states : List LeafState) (waiting : List (Option ℕ)) (left : List Event) (records : Records) : Type 0 where
+-- no leaf stops: how all leaves stand, for which times they wait, which of the events are left, and
+-- the records
+pub record RanTo (t : ℕ) (p : Parts) (events : List Event) (states : List LeafState)
+    (waiting : List (Option ℕ)) (left : List Event) (records : Records) : Type 0 where
   pub none : first_stop_among p.move p.touched ≡ None
   pub states_are : states ≡ after_among p.move p.touched p.emitted
   pub waiting_are : waiting ≡ waits states
@@ -52,9 +54,11 @@ pub record RanTo (t : ℕ) (p : Parts) (events : List Event) (states : List Leaf
   pub records_are : Holds records (cycle_of_parts t p)
 
 -- a cycle by how it ends
-abbrev pub Runs : {U : Type 0} → ℕ → Parts → List Event → List LeafState → List (Option ℕ) → List Event → Records → Result U Halt → Type 0
+abbrev pub Runs : {U : Type 0} → ℕ → Parts → List Event → List LeafState → List (Option ℕ)
+    → List Event → Records → Result U Halt → Type 0
 Runs t p events states waiting left records (Ok u) = RanTo t p events states waiting left records
-Runs t p events states waiting left records (Err (Stopped l why)) = first_stop_among p.move p.touched ≡ Some (l, why)
+Runs t p events states waiting left records (Err (Stopped l why)) =
+    first_stop_among p.move p.touched ≡ Some (l, why)
 Runs t p events states waiting left records (Err NoRoom) = ⊤
 
 -- the most visits of a cycle

@@ -30,7 +30,8 @@ pub record Cycles (s : Standing) (t : ℕ) (s' : Standing) (records : Records) :
   pub goes_on : s'.stopped ≡ None
 
 -- a verdict adds no record, and is kept
-pub record Stops (s : Standing) (verdict : Next) (why : Stop) (s' : Standing) (records : Records) : Type 0 where
+pub record Stops (s : Standing) (verdict : Next) (why : Stop) (s' : Standing)
+    (records : Records) : Type 0 where
   pub next : next_of s ≡ verdict
   pub empty : AreEmpty records
   pub keeps : Keeps s s'
@@ -40,16 +41,21 @@ pub record Stops (s : Standing) (verdict : Next) (why : Stop) (s' : Standing) (r
 abbrev pub Steps : Standing → Result Progress Stop → Standing → Records → Type 0
 Steps s (Ok (Cycled t)) s' records = Cycles s t s' records
 Steps s (Ok Done) s' records = (next_of s ≡ ended done) × (s' ≡ s) × AreEmpty records
-Steps s (Err (NoTrueRule leaf t)) s' records = Stops s (ended (stop leaf t rules.NoTrueRule)) (NoTrueRule leaf t) s' records
-Steps s (Err (Overflow leaf t)) s' records = Stops s (ended (stop leaf t rules.Overflow)) (Overflow leaf t) s' records
-Steps s (Err (BadDelay leaf t delay)) s' records = Stops s (ended (stop leaf t (rules.BadDelay delay))) (BadDelay leaf t delay) s' records
-Steps s (Err (TooManyCycles t)) s' records = Stops s (ended (too_many t)) (TooManyCycles t) s' records
+Steps s (Err (NoTrueRule leaf t)) s' records =
+    Stops s (ended (stop leaf t rules.NoTrueRule)) (NoTrueRule leaf t) s' records
+Steps s (Err (Overflow leaf t)) s' records =
+    Stops s (ended (stop leaf t rules.Overflow)) (Overflow leaf t) s' records
+Steps s (Err (BadDelay leaf t delay)) s' records =
+    Stops s (ended (stop leaf t (rules.BadDelay delay))) (BadDelay leaf t delay) s' records
+Steps s (Err (TooManyCycles t)) s' records =
+    Stops s (ended (too_many t)) (TooManyCycles t) s' records
 Steps s (Err Memory) s' records = Keeps s s' × (s'.stopped ≡ Some Memory) × AreEmpty records
 
 -- the next cycle, or the stop that was answered before
 abbrev pub Goes : Option Stop → Standing → Result Progress Stop → Standing → Records → Type 0
 Goes None s result s' records = Steps s result s' records
-Goes (Some why) s result s' records = (result ≡ (let r : Result Progress Stop = Err why in r)) × (s' ≡ s) × AreEmpty records
+Goes (Some why) s result s' records =
+    (result ≡ (let r : Result Progress Stop = Err why in r)) × (s' ≡ s) × AreEmpty records
 
 -- the most visits of a call
 abbrev pub visits_of : Standing → Next → ℕ

@@ -5,7 +5,7 @@ use Rattle.std.proofs.lemmas.List.Edits.{map_over_more}
 use Rattle.std.specs.List.{All}
 use Rattle.std.proofs.lemmas.Bool.Decides.{nat_tests}
 use Rattle.std.proofs.lemmas.List.{get_or-map, length-map}
-use Rattle.cell_grid.specs.Neighbourhoods.{is_among}
+use Rattle.cell_reach.specs.Neighbourhoods.{is_among}
 
 one-moved : (by x k : ℕ) → eqb (by + x) k ≡ (leb by k && eqb x (k - by))
 one-moved by x k = grind (arith, nat_tests)
@@ -29,6 +29,12 @@ all-moved by n xs all = λ k d within.
     let lt : k < length xs = (let long = length-map xs (λ x. by + x) in omega (arith, long, within)) in
     let below : get_or xs k 0 < n = all k 0 lt in
     subst (λ (y : ℕ). y < by + n) (sym (get_or-map (λ x. by + x) xs k 0 d lt)) (omega (arith, below))
+
+pub nothing-moved : (by : ℕ) (xs : List ℕ) → by ≡ 0 → xs ≡ map (λ k. by + k) xs
+nothing-moved by [] none = refl
+nothing-moved by (x ∷ xs) none =
+    let here : x ≡ by + x = omega (arith, none) in
+    λ i. here i ∷ nothing-moved by xs none i
 
 pub moved-more : (by : ℕ) (xs ys : List ℕ) (i : ℕ) → i < length xs → length ys ≡ length xs → ys ≡ map (λ k. by + k) (take i xs) ++ drop i xs
     → slice_set ys i (slice_index_or ys i 0 + by) ≡ map (λ k. by + k) (take (i + 1) xs) ++ drop (i + 1) xs

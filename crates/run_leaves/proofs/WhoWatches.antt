@@ -8,7 +8,7 @@ use Rattle.std.proofs.lemmas.Bool.Decides.{nat_tests}
 use Rattle.std.proofs.lemmas.Option.{slice_get_past}
 use Rattle.quantity.specs.declared.place.Offset.{Offset}
 use Rattle.cell_grid.specs.Space.{cell_count, neighbour, is_cell}
-use Rattle.cell_grid.specs.Neighbourhoods.{is_watcher}
+use Rattle.cell_reach.specs.Neighbourhoods.{is_watcher}
 use Rattle.cell_grid.proofs.Opposites.{neighbour-inside}
 use Rattle.model_tree.specs.Tree.{Group, Tree, Leaf, atomic_leaf, cell_leaf, leaf_count, leaves}
 use Rattle.model_tree.proofs.Read.{leaves-length}

@@ -53,10 +53,12 @@ abbrev pub cell_there : Option Cells → ℕ → LeafState
 cell_there None cell = no_leaf
 cell_there (Some s) cell = cell_state (cell_at s.cells cell)
 
+-- the state of a leaf that sits there
 abbrev pub state_there : List Stocked → List Cells → LeafAt → LeafState
 state_there stock stores (Atomic at) = box_there (slice_get stock at.0)
 state_there stock stores (Cell group cell) = cell_there (slice_get stores group) cell
 
+-- the states of all leaves
 abbrev pub states_in : List Stocked → List Cells → List LeafAt → List LeafState
 states_in stock stores seats = map (state_there stock stores) seats
 
@@ -95,6 +97,7 @@ visits_there layouts None = 0
 visits_there layouts (Some (Atomic at)) = 0
 visits_there layouts (Some (Cell group cell)) = visits_in (slice_get layouts group)
 
+-- the visits that a step of a leaf costs
 abbrev pub visits_at : Seated → ℕ → ℕ
 visits_at s l = visits_there s.layouts (slice_get s.seats l)
 
@@ -137,5 +140,6 @@ pub record Places (tree : Tree) (seats : List LeafAt) (settings : List (List ℤ
 abbrev pub HasPort : CellState → Type 0
 HasPort c = 1 ≤ length c.ports
 
+-- each cell has a port
 abbrev pub HavePorts : List Cells → Type 0
 HavePorts stores = All (λ (s : Cells). All HasPort s.cells) stores

@@ -1,7 +1,7 @@
 -- Who watches whom, by the blocks of cells that leaves are in.
 use Rattle.std.specs.Prelude.{◌≡◌, ℕ, ◌+◌, ◌-◌, ◌<◌, ◌≤◌, Bool, false, ◌&&◌, nat_le, Option, Some, None, List, length, slice_get}
 use Rattle.cell_grid.specs.Space.{cell_count}
-use Rattle.cell_grid.specs.Neighbourhoods.{is_watcher}
+use Rattle.cell_reach.specs.Neighbourhoods.{is_watcher}
 use Rattle.model_tree.specs.Tree.{Tree, Group, Leaf, atomic_leaf, cell_leaf, leaves, leaf_count}
 use Rattle.sparse_cycle.specs.Wake.{watches_at}
 use Rattle.run_leaves.specs.declared.blocks.Block.{Block}

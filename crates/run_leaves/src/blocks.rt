@@ -6,7 +6,7 @@ ghost use Rattle.model_tree.specs.Leaves.{AtLeaf, IsLeafOf, OfTree};
 ghost use Rattle.sparse_cycle.specs.Collect.{is_among};
 ghost use Rattle.run_leaves.specs.Watching.{watches_in, end_of, block_of, IsSeatOf, AreSeated};
 
-use cell_grid::Reach;
+use cell_reach::Reach;
 use model_tree::{CellGroup, LeafAt, Model as Tree};
 use quantity::OutOfMemory;
 use std::alloc::{AllocError, Global};
@@ -89,11 +89,14 @@ impl Block {
     }
 }
 
-/// Adds to each number.
+/// Adds to each number. In many models the cells are the first leaves, and nothing is added.
 fn move_on(numbers: &mut [u32], by: u32)
     requires { All (λ k. by + k < 2 ^ 32) numbers.old }
     ensures { numbers.new ≡ map (λ k. by + k) numbers.old }
 {
+    if by == 0 {
+        return;
+    }
     for number in numbers.iter_mut() {
         *number += by;
     }

@@ -52,13 +52,15 @@ and_given l bag c =
 abbrev pub collect_each : ℕ → List ℕ → List LeafState → Collected
 collect_each t [] states = record { y = []; n = []; givers = []; leaf_states = states }
 collect_each t (l ∷ ls) states =
-    and_given l (collected_of t (leaf_of states l)) (collect_each t ls (slice_set states l (leaf_emitted t (leaf_of states l))))
+    and_given l (collected_of t (leaf_of states l))
+    (collect_each t ls (slice_set states l (leaf_emitted t (leaf_of states l))))
 
 -- each is due when its turn comes
 abbrev pub CanCollect : ℕ → List ℕ → List LeafState → Type 0
 CanCollect t [] states = ⊤
 CanCollect t (l ∷ ls) states =
-    (leaf_next (leaf_of states l) ≡ Some t) × CanCollect t ls (slice_set states l (leaf_emitted t (leaf_of states l)))
+    (leaf_next (leaf_of states l) ≡ Some t)
+    × CanCollect t ls (slice_set states l (leaf_emitted t (leaf_of states l)))
 
 -- ---- the laws
 
@@ -78,7 +80,9 @@ collected_at_once t states ls =
 
 -- the due leaves give one after another what they give at once
 abbrev pub CollectsAtOnce : Type 0
-CollectsAtOnce = (t : ℕ) (states : List LeafState) → collect_each t (due_leaves t states) states ≡ collected_at_once t states (due_leaves t states)
+CollectsAtOnce =
+    (t : ℕ) (states : List LeafState)
+    → collect_each t (due_leaves t states) states ≡ collected_at_once t states (due_leaves t states)
 
 -- each due leaf is due when its turn comes
 abbrev pub DueCanCollect : Type 0
@@ -87,4 +91,5 @@ DueCanCollect = (t : ℕ) (states : List LeafState) → CanCollect t (due_leaves
 -- the givers are the leaves of which there are records
 abbrev pub GiversGave : Type 0
 GiversGave =
-    (t l : ℕ) (states : List LeafState) (ls : List ℕ) → is_among (givers_among t states ls) l ≡ gave_there (given_among t states ls) (Some l)
+    (t l : ℕ) (states : List LeafState) (ls : List ℕ)
+    → is_among (givers_among t states ls) l ≡ gave_there (given_among t states ls) (Some l)

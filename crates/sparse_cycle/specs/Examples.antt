@@ -31,10 +31,13 @@ pub record CyclesAreSparse : Type 0 where
   pub fed : (parts_of feeding 200 (after feeding 100)).fed ≡ at 1 0 (whole 1) ∷ []
   pub not_fed : (parts_of feeding 100 (after feeding 0)).touched ≡ 0 ∷ []
   pub touched : (parts_of feeding 200 (after feeding 100)).touched ≡ 0 ∷ 1 ∷ []
-  pub same_cycle : sparse_next feeding 1000 10000 (after feeding 100) (Some 200) ≡ next_cycle feeding 1000 10000 (after feeding 100)
+  pub same_cycle : sparse_next feeding 1000 10000 (after feeding 100) (Some 200)
+      ≡ next_cycle feeding 1000 10000 (after feeding 100)
   pub givers : (collect_each 0 (0 ∷ 2 ∷ []) (start ring []).leaf_states).givers ≡ 0 ∷ 2 ∷ []
   pub y : y_of (at 0 0 (whole 1) ∷ at 0 1 (whole 2) ∷ []) ≡ at 0 0 (whole 1) ∷ []
   pub n : n_of (at 0 0 (whole 1) ∷ at 0 1 (whole 2) ∷ []) ≡ at 0 1 (whole 2) ∷ []
   pub woken : map (woken_from ring (0 ∷ [])) (0 ∷ 1 ∷ 2 ∷ 3 ∷ []) ≡ true ∷ true ∷ true ∷ false ∷ []
   pub reaching : numbers (reaches [] (at 0 0 (whole 7) ∷ []) []) (paths twice_and_once) ≡ 1 ∷ 2 ∷ []
-  pub at_an_input : values_of_name (letter 97 ∷ letter 98 ∷ []) (inputs_at 10 (event_to 1 10 5 ∷ event_to 0 10 3 ∷ event_to 1 20 6 ∷ event_to 1 10 4 ∷ [])) (letter 98) ≡ whole 5 ∷ whole 4 ∷ []
+  pub at_an_input : values_of_name (letter 97 ∷ letter 98 ∷ [])
+      (inputs_at 10 (event_to 1 10 5 ∷ event_to 0 10 3 ∷ event_to 1 20 6 ∷ event_to 1 10 4 ∷ []))
+      (letter 98) ≡ whole 5 ∷ whole 4 ∷ []

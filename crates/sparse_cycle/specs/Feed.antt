@@ -1,4 +1,5 @@
--- What reaches leaves and outputs of top by the numbers of paths: from the Y records, and from events as pairs of an input's number and a value.
+-- What reaches leaves and outputs of top by the numbers of paths: from the Y records, and from
+-- events as pairs of an input's number and a value.
 use Rattle.std.specs.Prelude.{◌≡◌, ℕ, ◌==◌, ◌<◌, Bool, false, ◌||◌, List, [], map, length, slice_index_or}
 use Rattle.std.specs.List.{All, list_any, filter, flat_map, range_with_len}
 use Rattle.std.specs.List.Sorted.{IsNonDecreasingBy}
@@ -17,7 +18,8 @@ use Rattle.sparse_cycle.specs.Collect.{y_of}
 
 -- the events of an instant, each as the number of its input and its value
 abbrev pub inputs_at : ℕ → List Event → List (ℕ × Value)
-inputs_at t events = map (λ (e : Event). (e.port, e.value)) (filter (λ (e : Event). e.time == t) events)
+inputs_at t events =
+    map (λ (e : Event). (e.port, e.value)) (filter (λ (e : Event). e.time == t) events)
 
 -- the name of an input by its number
 abbrev pub name_at : List Word → ℕ → Word
@@ -30,7 +32,8 @@ values_of_leaf y l = map (λ (r : PortRecord). r.value) (filter (λ (r : PortRec
 -- what the inputs of a name have
 abbrev pub values_of_name : List Word → List (ℕ × Value) → Word → List Value
 values_of_name ins inputs name =
-    map (λ (e : ℕ × Value). e.1) (filter (λ (e : ℕ × Value). bytes_eq name (name_at ins e.0)) inputs)
+    map (λ (e : ℕ × Value). e.1)
+    (filter (λ (e : ℕ × Value). bytes_eq name (name_at ins e.0)) inputs)
 
 -- what these Y records and inputs put at a source
 abbrev pub values_of : List Word → List PortRecord → List (ℕ × Value) → Source → List Value
@@ -58,7 +61,8 @@ is_from_top name p = at p.source
 -- a Y record or an input stands at the path's source
 abbrev pub reaches : List Word → List PortRecord → List (ℕ × Value) → Path → Bool
 reaches ins y inputs p =
-    list_any (λ (r : PortRecord). is_from_leaf r.leaf p) y || list_any (λ (e : ℕ × Value). is_from_top (name_at ins e.0) p) inputs
+    list_any (λ (r : PortRecord). is_from_leaf r.leaf p) y
+    || list_any (λ (e : ℕ × Value). is_from_top (name_at ins e.0) p) inputs
 
 -- the numbers of the paths for which a test holds, rising
 abbrev pub numbers : (Path → Bool) → List Path → List ℕ
@@ -73,29 +77,38 @@ fed_in from ps ks = flat_map (λ k. fed_by from (path_at ps k)) ks
 -- what the numbers of the reaching paths bring is what the paths bring that bring something
 abbrev pub FeedsByNumber : Type 0
 FeedsByNumber =
-    (ins : List Word) (ps : List Path) (y : List PortRecord) (inputs : List (ℕ × Value)) → (let from = values_of ins y inputs in
+    (ins : List Word) (ps : List Path) (y : List PortRecord) (inputs : List (ℕ × Value))
+    → (let from = values_of ins y inputs in
     fed_in from ps (numbers (reaches ins y inputs) ps) ≡ fed_among from (filter (brings from) ps))
 
 -- the numbers of paths are numbers of paths
 abbrev pub NumbersAreWithin : Type 0
-NumbersAreWithin = (test : Path → Bool) (ps : List Path) → All (λ k. k < length ps) (numbers test ps)
+NumbersAreWithin =
+    (test : Path → Bool) (ps : List Path) → All (λ k. k < length ps) (numbers test ps)
 
 -- the Y records show what each leaf gave at its port out
 abbrev pub YShowsGiven : Type 0
-YShowsGiven = (l : ℕ) (given : List PortRecord) → values_of_leaf (y_of given) l ≡ given_at_out given l
+YShowsGiven =
+    (l : ℕ) (given : List PortRecord) → values_of_leaf (y_of given) l ≡ given_at_out given l
 
 -- they stand by rising leaf
 abbrev pub YRises : Type 0
-YRises = (t : ℕ) (states : List LeafState) → IsNonDecreasingBy (λ (r : PortRecord). r.leaf) (y_of (given_among t states (due_leaves t states)))
+YRises =
+    (t : ℕ) (states : List LeafState)
+    → IsNonDecreasingBy (λ (r : PortRecord). r.leaf)
+    (y_of (given_among t states (due_leaves t states)))
 
 -- and so do the X records
 abbrev pub XRises : Type 0
 XRises =
-    (tree : Tree) (from : Source → List Value) (test : Path → Bool) → IsNonDecreasingBy (λ (r : PortRecord). r.leaf) (fed_among from (filter test (paths tree)))
+    (tree : Tree) (from : Source → List Value) (test : Path → Bool)
+    → IsNonDecreasingBy (λ (r : PortRecord). r.leaf) (fed_among from (filter test (paths tree)))
 
 -- names of which no two are the same
 abbrev pub AreDistinct : List Word → Type 0
-AreDistinct ins = (j k : ℕ) → j < length ins → k < length ins → bytes_eq (name_at ins j) (name_at ins k) ≡ (k == j)
+AreDistinct ins =
+    (j k : ℕ) → j < length ins → k < length ins
+    → bytes_eq (name_at ins j) (name_at ins k) ≡ (k == j)
 
 -- where no name stands twice
 abbrev pub DistinctWhereOnce : Type 0
@@ -108,7 +121,8 @@ AreAtInputs ins events = All (λ (e : Event). e.port < length ins) events
 -- where no two inputs have one name, an event stands at the input of its number
 abbrev pub TopByNumber : Type 0
 TopByNumber =
-    (tree : Tree) (t : ℕ) (events : List Event) (name : Word) → AreDistinct (ins_of tree) → AreAtInputs (ins_of tree) events
+    (tree : Tree) (t : ℕ) (events : List Event) (name : Word) → AreDistinct (ins_of tree)
+    → AreAtInputs (ins_of tree) events
     → values_of_name (ins_of tree) (inputs_at t events) name ≡ at_top tree t events name
 
 -- the Y records of a cycle
@@ -118,9 +132,12 @@ y_at t s = y_of (given_among t s.leaf_states (due_leaves t s.leaf_states))
 -- the X records of a cycle, by the numbers of paths
 abbrev pub FeedsParts : Type 0
 FeedsParts =
-    (tree : Tree) (t : ℕ) (s : RunState) → AreDistinct (ins_of tree) → AreAtInputs (ins_of tree) s.events
+    (tree : Tree) (t : ℕ) (s : RunState) → AreDistinct (ins_of tree)
+    → AreAtInputs (ins_of tree) s.events
     → (let from = values_of (ins_of tree) (y_at t s) (inputs_at t s.events) in
-    fed_in from (paths tree) (numbers (reaches (ins_of tree) (y_at t s) (inputs_at t s.events)) (paths tree)) ≡ (parts_of tree t s).fed)
+    fed_in from (paths tree)
+    (numbers (reaches (ins_of tree) (y_at t s) (inputs_at t s.events)) (paths tree))
+    ≡ (parts_of tree t s).fed)
 
 -- what is fed to an output of top
 abbrev pub out_of : PortRecord → OutRecord
@@ -129,9 +146,13 @@ out_of r = record { port = r.port; value = r.value }
 -- the output records of a cycle, by the numbers of the paths to outputs of top
 abbrev pub OutsAreFed : Type 0
 OutsAreFed =
-    (tree : Tree) (t : ℕ) (s : RunState) → AreDistinct (ins_of tree) → AreAtInputs (ins_of tree) s.events
+    (tree : Tree) (t : ℕ) (s : RunState) → AreDistinct (ins_of tree)
+    → AreAtInputs (ins_of tree) s.events
     → (let from = values_of (ins_of tree) (y_at t s) (inputs_at t s.events) in
-    map out_of (fed_in from (out_paths tree) (numbers (reaches (ins_of tree) (y_at t s) (inputs_at t s.events)) (out_paths tree))) ≡ (parts_of tree t s).out)
+    map out_of
+    (fed_in from (out_paths tree)
+    (numbers (reaches (ins_of tree) (y_at t s) (inputs_at t s.events)) (out_paths tree)))
+    ≡ (parts_of tree t s).out)
 
 -- paths lead to leaves
 abbrev pub TargetsAreLeaves : Type 0

@@ -1,4 +1,5 @@
--- One cycle from the leaves that matter: those that are due, and those that move. Every other leaf gives nothing and stays as it is.
+-- One cycle from the leaves that matter: those that are due, and those that move. Every other leaf
+-- gives nothing and stays as it is.
 use Rattle.std.specs.Prelude.{ℕ, ◌+◌, Bool, true, false, not, ◌||◌, ◌==◌, nat_lt, nat_le, Option, Some, None, List, [], ◌∷◌, map, length, slice_get, slice_set, slice_index_or, if◌then◌else◌}
 use Rattle.std.specs.List.{filter, filter_map, flat_map, enumerate_from, range_with_len, list_any}
 use Rattle.quantity.specs.declared.value.Value.{Value}
@@ -12,7 +13,8 @@ use Rattle.run_model.specs.CellStep.{cell_moved}
 use Rattle.run_model.specs.Cycle.{LeafState, box_state, cell_state, leaf_next, leaf_emitted, collected_of, neighbour_leaf, has_values, sight_of, Moved, stayed, moved, stopped, box_moved, cell_result, after}
 use Rattle.run_model.specs.Run.{PortRecord, StateRecord, OutRecord, Cycle, Event, RunState, port_records, is_of_out, record_of_move, at_top, cycles_at, Next, ended, done, too_many, unless_stop}
 
--- ---- records of values at ports, by rising leaf: what was given (Y and N records), and what was fed (X records)
+-- ---- records of values at ports, by rising leaf: what was given (Y and N records), and what was
+-- fed (X records)
 
 -- those of one leaf
 abbrev pub records_at : ℕ → List PortRecord → List PortRecord
@@ -33,7 +35,8 @@ bag_in fed leaf = map value_at_port (records_at leaf fed)
 
 -- what a leaf gave at its port out
 abbrev pub given_at_out : List PortRecord → ℕ → List Value
-given_at_out given leaf = map (λ (r : PortRecord). r.value) (filter is_of_out (records_at leaf given))
+given_at_out given leaf =
+    map (λ (r : PortRecord). r.value) (filter is_of_out (records_at leaf given))
 
 -- a leaf that is there gave something
 abbrev pub gave_there : List PortRecord → Option ℕ → Bool
@@ -43,7 +46,8 @@ gave_there given (Some leaf) = has_records (records_at leaf given)
 -- a cell is woken where one of its offsets leads to a cell that gave output
 abbrev pub woken_by : List PortRecord → Leaf → Bool
 woken_by given (atomic_leaf name class settings) = false
-woken_by given (cell_leaf g first cell) = list_any (λ o. gave_there given (neighbour_leaf g first cell o)) g.offsets
+woken_by given (cell_leaf g first cell) =
+    list_any (λ o. gave_there given (neighbour_leaf g first cell o)) g.offsets
 
 -- ---- places
 
@@ -147,7 +151,8 @@ out_among from ps = flat_map (out_by from) ps
 
 -- a leaf after its emission
 abbrev pub moved_from : ℕ → List LeafState → Bool → Bag → Leaf → LeafState → Moved
-moved_from t emitted woken bag leaf (box_state b) = box_moved b (moved_state b.kind b.settings b.state t bag)
+moved_from t emitted woken bag leaf (box_state b) =
+    box_moved b (moved_state b.kind b.settings b.state t bag)
 moved_from t emitted woken bag (atomic_leaf name class settings) (cell_state c) = stayed
 moved_from t emitted woken bag (cell_leaf g first cell) (cell_state c) =
     cell_result (cell_moved g cell t woken (sight_of t emitted g first cell) bag c)
@@ -174,7 +179,8 @@ move_to t emitted woken bag (Some leaf) s = moved_from t emitted woken bag leaf 
 -- what becomes of the leaf at a place, over all leaves after their emission
 abbrev pub move_at : Tree → ℕ → List LeafState → List PortRecord → List PortRecord → ℕ → Moved
 move_at tree t emitted given fed l =
-    move_to t emitted (is_woken_at given (slice_get (leaves tree) l)) (bag_in fed l) (slice_get (leaves tree) l) (leaf_of emitted l)
+    move_to t emitted (is_woken_at given (slice_get (leaves tree) l)) (bag_in fed l)
+    (slice_get (leaves tree) l) (leaf_of emitted l)
 
 -- this stop, or else that of the leaves behind
 abbrev pub or_stop : ℕ → Moved → Option (ℕ × RuleStop) → Option (ℕ × RuleStop)
@@ -247,7 +253,8 @@ state_of_parts t s p =
 
 -- the cycle, or the first stop
 abbrev pub next_of_parts : ℕ → RunState → Parts → Next
-next_of_parts t s p = unless_stop t (first_stop_among p.move p.touched) (cycle_of_parts t p) (state_of_parts t s p)
+next_of_parts t s p =
+    unless_stop t (first_stop_among p.move p.touched) (cycle_of_parts t p) (state_of_parts t s p)
 
 -- the cycle at an instant, or the first stop
 abbrev pub sparse_at : Tree → ℕ → RunState → Next
@@ -257,4 +264,5 @@ sparse_at tree t s = next_of_parts t s (parts_of tree t s)
 abbrev pub sparse_next : Tree → ℕ → ℕ → RunState → Option ℕ → Next
 sparse_next tree end limit s None = ended done
 sparse_next tree end limit s (Some t) =
-    if nat_lt end t then ended done else if nat_le limit (cycles_at t s) then ended (too_many t) else sparse_at tree t s
+    if nat_lt end t then ended done
+    else if nat_le limit (cycles_at t s) then ended (too_many t) else sparse_at tree t s

@@ -16,7 +16,8 @@ is_leaf l (Some n) = l == n
 abbrev pub watches : ℕ → Option Leaf → Bool
 watches l None = false
 watches l (Some (atomic_leaf name class settings)) = false
-watches l (Some (cell_leaf g first cell)) = list_any (λ o. is_leaf l (neighbour_leaf g first cell o)) g.offsets
+watches l (Some (cell_leaf g first cell)) =
+    list_any (λ o. is_leaf l (neighbour_leaf g first cell o)) g.offsets
 
 -- the leaf of the first number watches that of the second
 abbrev pub watches_at : Tree → ℕ → ℕ → Bool
@@ -32,19 +33,23 @@ is_fed fed k = list_any (λ (r : PortRecord). r.leaf == k) fed
 
 -- the leaves that are marked, due or fed, rising
 abbrev pub reached : (ℕ → Bool) → ℕ → List ℕ → List PortRecord → List ℕ
-reached is_marked count due fed = filter (λ k. is_marked k || is_among due k || is_fed fed k) (range_with_len 0 count)
+reached is_marked count due fed =
+    filter (λ k. is_marked k || is_among due k || is_fed fed k) (range_with_len 0 count)
 
 -- ---- the laws
 
 -- a leaf is woken where it watches a giver
 abbrev pub GiversWake : Type 0
 GiversWake =
-    (tree : Tree) (given : List PortRecord) (givers : List ℕ) → ((l : ℕ) → is_among givers l ≡ gave_there given (Some l))
+    (tree : Tree) (given : List PortRecord) (givers : List ℕ)
+    → ((l : ℕ) → is_among givers l ≡ gave_there given (Some l))
     → (k : ℕ) → woken_from tree givers k ≡ is_woken_at given (slice_get (leaves tree) k)
 
 -- where the woken leaves are marked, those that are reached are the touched ones
 abbrev pub ReachedAreTouched : Type 0
 ReachedAreTouched =
-    (tree : Tree) (t : ℕ) (states : List LeafState) (given fed : List PortRecord) (is_marked : ℕ → Bool)
+    (tree : Tree) (t : ℕ) (states : List LeafState) (given fed : List PortRecord)
+    (is_marked : ℕ → Bool)
     → ((k : ℕ) → is_marked k ≡ is_woken_at given (slice_get (leaves tree) k))
-    → reached is_marked (length states) (due_leaves t states) fed ≡ touched_leaves tree t states given fed
+    → reached is_marked (length states) (due_leaves t states) fed
+    ≡ touched_leaves tree t states given fed

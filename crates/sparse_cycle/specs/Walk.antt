@@ -1,4 +1,5 @@
--- The leaves that move, one after another: each over the states as they stand then, and each with its next time.
+-- The leaves that move, one after another: each over the states as they stand then, and each with
+-- its next time.
 use Rattle.std.specs.Prelude.{◌≡◌, ℕ, Option, Some, None, List, [], ◌∷◌, map, length, slice_set}
 use Rattle.std.specs.List.{cons_option}
 use Rattle.rule_tree.specs.declared.outcome.RuleStop.{RuleStop}
@@ -17,7 +18,10 @@ pub record Stand : Type 0 where
 -- a leaf has another state, and its next time
 abbrev pub with_leaf : Stand → ℕ → LeafState → Stand
 with_leaf st l s =
-    record { leaf_states = slice_set st.leaf_states l s; waiting = slice_set st.waiting l (leaf_next s) }
+    record {
+      leaf_states = slice_set st.leaf_states l s;
+      waiting = slice_set st.waiting l (leaf_next s);
+    }
 
 -- a leaf that stops ends the walk; else how the leaves stand, and the S records
 pub data Walked : Type 0 where
@@ -53,13 +57,16 @@ abbrev pub at_once : Option (ℕ × RuleStop) → List LeafState → List StateR
 at_once None states rs = walked (record { leaf_states = states; waiting = waits states }) rs
 at_once (Some p) states rs = halted p.0 p.1
 
--- walking over the touched leaves, from the queue without those that were due, is moving them all at once
+-- walking over the touched leaves, from the queue without those that were due, is moving them all
+-- at once
 abbrev pub WalkIsAtOnce : Type 0
 WalkIsAtOnce =
     (tree : Tree) (t : ℕ) (s : RunState) → next_instant s ≡ Some t
     → (let p = parts_of tree t s in
-    walk tree t p.given p.fed p.touched (record { leaf_states = p.emitted; waiting = without t (waits s.leaf_states) })
-    ≡ at_once (first_stop_among p.move p.touched) (after_among p.move p.touched p.emitted) (moved_among p.move p.touched))
+    walk tree t p.given p.fed p.touched
+    (record { leaf_states = p.emitted; waiting = without t (waits s.leaf_states) })
+    ≡ at_once (first_stop_among p.move p.touched) (after_among p.move p.touched p.emitted)
+    (moved_among p.move p.touched))
 
 -- a queue that waits as the leaves do
 pub record QueueKnows : Type 0 where
@@ -70,4 +77,6 @@ pub record QueueKnows : Type 0 where
 abbrev pub EachMoves : Type 0
 EachMoves =
     (tree : Tree) (t : ℕ) (s : RunState) → FitsTree tree s.leaf_states → next_instant s ≡ Some t
-    → (let p = parts_of tree t s in first_stop_among p.move p.touched ≡ None → length (moved_among p.move p.touched) ≡ length p.touched)
+    → (let p = parts_of tree t s
+    in first_stop_among p.move p.touched ≡ None
+    → length (moved_among p.move p.touched) ≡ length p.touched)

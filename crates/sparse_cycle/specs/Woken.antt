@@ -13,7 +13,9 @@ use Rattle.sparse_cycle.specs.Sparse.{leaf_of, gave_there, woken_by, due_leaves,
 abbrev pub WokenWatch : Type 0
 WokenWatch =
     (g : Group) (first cell : ℕ) (given : List PortRecord) → cell < cell_count g.space
-    → woken_by given (cell_leaf g first cell) ≡ list_any (λ c. gave_there given (Some (first + c)) && leads_to g.space g.offsets c cell) (range_with_len 0 (cell_count g.space))
+    → woken_by given (cell_leaf g first cell)
+    ≡ list_any (λ c. gave_there given (Some (first + c)) && leads_to g.space g.offsets c cell)
+    (range_with_len 0 (cell_count g.space))
 
 -- a cell, and no box
 abbrev pub is_cell : LeafState → Bool
@@ -27,10 +29,13 @@ is_cell_at states l = is_cell (leaf_of states l)
 -- each cell that is due gives a value: so there are no more of them than Y and N records
 abbrev pub DueCellsGive : Type 0
 DueCellsGive =
-    (t : ℕ) (s : RunState) → length (filter (is_cell_at s.leaf_states) (due_leaves t s.leaf_states)) ≤ length (given_among t s.leaf_states (due_leaves t s.leaf_states))
+    (t : ℕ) (s : RunState)
+    → length (filter (is_cell_at s.leaf_states) (due_leaves t s.leaf_states))
+    ≤ length (given_among t s.leaf_states (due_leaves t s.leaf_states))
 
 -- a cycle that stops costs what the values that were given and the touched leaves cost
 abbrev pub CostsItsParts : Type 0
 CostsItsParts =
     (tree : Tree) (t : ℕ) (s : RunState) → FitsTree tree s.leaf_states → next_instant s ≡ Some t
-    → (let p = parts_of tree t s in stopping_visits tree t s ≡ cost tree (length p.given) (length p.touched))
+    → (let p = parts_of tree t s
+    in stopping_visits tree t s ≡ cost tree (length p.given) (length p.touched))

@@ -1,5 +1,5 @@
 use Rattle.std.proofs.Common.{◌∙◌, ap}
-use Rattle.cell_grid.specs.Neighbourhoods.{Neighbourhood, neighbours}
+use Rattle.cell_reach.specs.Neighbourhoods.{Neighbourhood, neighbours}
 use Rattle.cell_engine.specs.Step.{near, out_of}
 use Rattle.std.specs.Prelude.{map}
 use Rattle.cell_engine.proofs.Looking.{found_cells, leads_below, looked_further}

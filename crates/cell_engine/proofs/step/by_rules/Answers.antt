@@ -43,7 +43,7 @@ returns-in-Ok-clause-cell c = λ trees st.
     (rules_finish _ c.take_made.result i tb.cells c.take_made.new.table.cells c.plan.inside.kind c.later-at.result s cell.variables cell trees
     (c.in-Ok.given, c.in-Ok.delay) c.deref-in-Ok.result.now refl st.apart
     (subst (λ (ys : List Value). Evaluates (chosen trees (record s { variables = cell.variables })) made ys) (sym after) evaluated)
-    c.later-at.ensures c.take_made.ensures.memory c.take_made.ensures.cell)
+    (λ _. c.later-at.ensures) c.take_made.ensures.memory c.take_made.ensures.cell)
 
 pub returns-in-Err-clause-cell : goal.returns-in-Err-clause-cell
 returns-in-Err-clause-cell c = λ trees st.
