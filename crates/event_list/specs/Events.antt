@@ -23,16 +23,19 @@ pub record Event : Type 0 where
 
 -- ---- lines
 
+-- the event of a line's words, or its refusal
 abbrev pub event_of : ℕ → Option ℕ → Option Value → Bool → Option ℕ → Result Event EventRefusal
 event_of line (Some t) (Some v) true (Some port) = Ok (record { time = t; port = port; value = v })
 event_of line (Some t) (Some v) true None = Err (UnknownPort line)
 event_of line t v is_right port = Err (BadEventLine line)
 
+-- the same, of three words
 abbrev pub event_of_words : List Bytes → ℕ → List Bytes → Result Event EventRefusal
 event_of_words ports line (time ∷ name ∷ value ∷ []) =
     event_of line (time_in time) (value_in value) (is_name (folded name)) (position (bytes_eq (folded name)) ports)
 event_of_words ports line texts = Err (BadEventLine line)
 
+-- the event of a line
 abbrev pub event_at : List Bytes → Line → Result Event EventRefusal
 event_at ports l = event_of_words ports l.number (words l.text)
 
@@ -48,6 +51,7 @@ abbrev pub events_refused : List Bytes → ℕ → List Line → Option EventRef
 events_refused ports before [] = None
 events_refused ports before (l ∷ ls) = option_or (event_refused before l.number (event_at ports l)) (events_refused ports (before + 1) ls)
 
+-- why an event file is refused
 abbrev pub file_refused : List Bytes → Bytes → Option EventRefusal
 file_refused ports bytes =
     if nat_lt 16777216 (length bytes) then Some (TooLarge 0) else events_refused ports 0 (filled_lines bytes)
@@ -59,6 +63,7 @@ abbrev pub put_event : Event → List Event → List Event
 put_event e [] = e ∷ []
 put_event e (x ∷ xs) = if nat_le e.time x.time then e ∷ x ∷ xs else x ∷ put_event e xs
 
+-- the events in order of time, those of one time as they stand
 abbrev pub by_time : List Event → List Event
 by_time [] = []
 by_time (e ∷ es) = put_event e (by_time es)

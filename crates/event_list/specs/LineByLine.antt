@@ -15,8 +15,10 @@ filled_from number pieces =
 abbrev pub filled_line : ℕ → Bytes → List Line
 filled_line number piece = filled_from number (piece ∷ [])
 
+-- the lines that are left, numbered from here
 abbrev pub lines_left : ℕ → Bytes → List Line
 lines_left number bytes = filled_from number (slice_split (is_byte 10) bytes)
 
+-- the events of lines
 abbrev pub events_in : List Bytes → List Line → List Event
 events_in ports lines = filter_map (λ l. result_ok (event_at ports l)) lines

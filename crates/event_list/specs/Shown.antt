@@ -4,9 +4,11 @@ use Rattle.quantity.specs.declared.value.Value.{Value}
 use Rattle.event_list.specs.declared.event.Event as kept
 use Rattle.event_list.specs.Events.{Event}
 
+-- an event in code as one of the definitions
 abbrev pub shown : kept.Event → Event
 shown e = record { time = e.time; port = e.port; value = e.value }
 
+-- the time of an event
 abbrev pub time_of : kept.Event → ℕ
 time_of e = e.time
 
@@ -14,6 +16,7 @@ time_of e = e.time
 abbrev pub given : Event → ℕ × Value
 given e = (e.port, e.value)
 
+-- the time of the first event
 abbrev pub first_time : List Event → Option ℕ
 first_time [] = None
 first_time (e ∷ es) = Some e.time

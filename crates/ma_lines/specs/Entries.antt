@@ -5,6 +5,7 @@ use Rattle.quantity.specs.Bytes.{Bytes, is_byte, begins_with, trimmed, is_among,
 use Rattle.source_text.specs.Lines.{Line, folded}
 use Rattle.ma_lines.specs.declared.section.Entry.{Entry}
 
+-- a line that begins a section
 abbrev pub is_heading : Line → Bool
 is_heading l = begins_with 91 l.text
 
@@ -24,12 +25,14 @@ pub record Braced : Type 0 where
   pub braces : ℕ
   pub line : Line
 
+-- each line with the braces that are open before it
 abbrev pub braced : ℕ → List Line → List Braced
 braced n [] = []
 braced n (l ∷ ls) = record { braces = n; line = l } ∷ braced (braces_after_line n l) ls
 
 -- ---- the text of the lines that continue an entry
 
+-- a text behind a blank, where it isn't empty
 abbrev pub after_space : Bytes → Bytes
 after_space [] = []
 after_space (c ∷ cs) = 32 ∷ c ∷ cs
@@ -39,6 +42,7 @@ abbrev pub added : ℕ → Line → Bytes → Bytes
 added zero l more = []
 added (suc n) l more = after_space l.text ++ more
 
+-- what lines add to an entry whose braces are open
 abbrev pub continuation : List Braced → Bytes
 continuation [] = []
 continuation (b ∷ bs) = added b.braces b.line (continuation bs)
@@ -49,9 +53,11 @@ continuation (b ∷ bs) = added b.braces b.line (continuation bs)
 abbrev pub keeps_letters : Bytes → Bool
 keeps_letters key = is_among (codes "initialcellsvalue" ∷ codes "initialmapvalue" ∷ []) key
 
+-- the key, in small letters
 abbrev pub key_in : Bytes → Bytes
 key_in text = folded (trimmed (before_first (is_byte 58) text))
 
+-- the value behind the colon
 abbrev pub value_after : Bytes → Bytes
 value_after text = trimmed (after_first (is_byte 58) text)
 

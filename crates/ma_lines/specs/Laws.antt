@@ -24,17 +24,21 @@ DropsComments = (line more : Bytes) → list_any (is_byte 37) line ≡ false →
 
 -- ---- but for the numbers of lines
 
+-- an entry without its line
 abbrev pub unnumbered_entry : Entry → Entry
 unnumbered_entry e = record { line = 0; key = e.key; value = e.value }
 
+-- a section without its lines
 abbrev pub unnumbered_section : Section → Section
 unnumbered_section s = record { line = 0; name = s.name; entries = map unnumbered_entry s.entries }
 
+-- a refusal without its line
 abbrev pub unnumbered_refusal : LineRefusal → LineRefusal
 unnumbered_refusal (BadLine line) = BadLine 0
 unnumbered_refusal (DuplicateSection line) = DuplicateSection 0
 unnumbered_refusal Memory = Memory
 
+-- what is read, without lines
 abbrev pub unnumbered : Result (List Section) LineRefusal → Result (List Section) LineRefusal
 unnumbered (Ok ss) = Ok (map unnumbered_section ss)
 unnumbered (Err why) = Err (unnumbered_refusal why)
@@ -48,12 +52,15 @@ pub record SkipsEmptyLines : Type 0 where
 
 -- ---- letters
 
+-- an entry whose value is in small letters
 abbrev pub folded_entry : Entry → Entry
 folded_entry e = record { line = e.line; key = e.key; value = folded e.value }
 
+-- a section whose values are in small letters
 abbrev pub folded_section : Section → Section
 folded_section s = record { line = s.line; name = s.name; entries = map folded_entry s.entries }
 
+-- what is read, with values in small letters
 abbrev pub with_folded_values : Result (List Section) LineRefusal → Result (List Section) LineRefusal
 with_folded_values (Ok ss) = Ok (map folded_section ss)
 with_folded_values (Err why) = Err why

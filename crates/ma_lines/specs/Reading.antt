@@ -11,6 +11,7 @@ use Rattle.ma_lines.specs.declared.section.LineRefusal.TheVariants.{BadLine}
 use Rattle.ma_lines.specs.Entries.{is_heading, Braced, braces_after, braces_after_line, after_space, keeps_letters, key_in, value_after}
 use Rattle.ma_lines.specs.Sections.{Section, section_name, line_refused}
 
+-- the names of sections
 abbrev pub names : List Section → List Bytes
 names ss = map (λ (s : Section). s.name) ss
 
@@ -27,13 +28,16 @@ pub record Opened : Type 0 where
   pub value : Bytes
   pub braces : ℕ
 
+-- what has been read: sections, and an entry that may go on
 pub record Reading : Type 0 where
   pub sections : List Section
   pub open_entry : Option Opened
 
+-- an entry that has ended
 abbrev pub whole : Opened → Entry
 whole e = record { line = e.line; key = e.key; value = if keeps_letters e.key then e.value else folded e.value }
 
+-- the entry that a line begins
 abbrev pub opened_by : Line → Opened
 opened_by l = record { line = l.number; key = key_in l.text; value = value_after l.text; braces = braces_after_line 0 l }
 
@@ -47,6 +51,7 @@ settled ss e =
     if e.braces == 0 then record { sections = with_entry (whole e) ss; open_entry = None }
     else record { sections = ss; open_entry = Some e }
 
+-- what a line begins: nothing, a section or an entry
 abbrev pub begun_by : List Section → Line → Reading
 begun_by ss l =
     if is_empty l.text then record { sections = ss; open_entry = None }
@@ -54,6 +59,7 @@ begun_by ss l =
     record { sections = ss ++ record { line = l.number; name = unwrap_or (section_name l) []; entries = [] } ∷ []; open_entry = None }
     else settled ss (opened_by l)
 
+-- one line more
 abbrev pub next_with : List Section → Option Opened → Line → Reading
 next_with ss None l = begun_by ss l
 next_with ss (Some e) l = settled ss (joined e l.text)
@@ -66,9 +72,11 @@ next r l = next_with r.sections r.open_entry l
 abbrev pub braces_in : Option Opened → ℕ
 braces_in o = option_map_or (λ (e : Opened). e.braces) o 0
 
+-- a line with the braces that are open before it
 abbrev pub braced_in : Option Opened → Line → Braced
 braced_in o l = record { braces = braces_in o; line = l }
 
+-- why the next line is refused
 abbrev pub refused_in : Reading → Line → Option LineRefusal
 refused_in r l = line_refused (names r.sections) (braced_in r.open_entry l)
 
@@ -77,6 +85,7 @@ abbrev pub at_end : List Section → Option Opened → Result (List Section) Lin
 at_end ss None = Ok ss
 at_end ss (Some e) = Err (BadLine e.line)
 
+-- what is read, unless it is refused
 abbrev pub unless : {A : Type 0} → Option LineRefusal → Result A LineRefusal → Result A LineRefusal
 unless None r = r
 unless (Some why) r = Err why

@@ -15,6 +15,7 @@ use Rattle.ma_lines.specs.Entries.{is_heading, Braced, braced, braces_after_line
 
 -- ---- sections
 
+-- a section: its line, name and entries
 pub record Section : Type 0 where
   pub line : ℕ
   pub name : Bytes
@@ -24,6 +25,7 @@ pub record Section : Type 0 where
 abbrev pub section_of : CodeSection → Section
 section_of s = record { line = s.line; name = s.name; entries = s.entries.items }
 
+-- a bracket stands in the text
 abbrev pub has_brackets : Bytes → Bool
 has_brackets text = list_any (λ c. (c == 91) || (c == 93)) text
 
@@ -32,15 +34,18 @@ abbrev pub name_in : Option Bytes → Option Bytes
 name_in None = None
 name_in (Some text) = if has_brackets text || is_empty (trimmed text) then None else Some (folded (trimmed text))
 
+-- the name in a heading
 abbrev pub section_name : Line → Option Bytes
 section_name l = name_in (inside 91 93 l.text)
 
 -- ---- pieces: a heading or an entry
 
+-- a heading or an entry
 pub data Piece : Type 0 where
   heading : (line : ℕ) (name : Bytes) → Piece
   item : Entry → Piece
 
+-- what a line begins
 abbrev pub piece_of : Line → Bytes → List Piece
 piece_of l more =
     if is_empty l.text then []
@@ -58,6 +63,7 @@ first_entries [] = []
 first_entries (heading line name ∷ ps) = []
 first_entries (item e ∷ ps) = e ∷ first_entries ps
 
+-- entries under their headings
 abbrev pub sections_in : List Piece → List Section
 sections_in [] = []
 sections_in (heading line name ∷ ps) = record { line = line; name = name; entries = first_entries ps } ∷ sections_in ps
@@ -65,9 +71,11 @@ sections_in (item e ∷ ps) = sections_in ps
 
 -- ---- refusals
 
+-- a tab, or a byte of plain text
 abbrev pub is_allowed : ℕ → Bool
 is_allowed c = (c == 9) || is_between 32 126 c
 
+-- a key before a colon
 abbrev pub is_entry : Line → Bool
 is_entry l = list_any (is_byte 58) l.text && not (is_empty (key_in l.text))
 
@@ -75,6 +83,7 @@ is_entry l = list_any (is_byte 58) l.text && not (is_empty (key_in l.text))
 abbrev pub begun : Braced → List Bytes
 begun b = if b.braces == 0 then option_to_list (section_name b.line) else []
 
+-- why a heading is refused
 abbrev pub heading_refused : List Bytes → ℕ → Option Bytes → Option LineRefusal
 heading_refused before line None = Some (BadLine line)
 heading_refused before line (Some name) = if is_among before name then Some (DuplicateSection line) else None
@@ -98,11 +107,13 @@ abbrev pub left_open : Option ℕ → ℕ → List Line → Option ℕ
 left_open first n [] = if n == 0 then None else first
 left_open first n (l ∷ ls) = left_open (if n == 0 then Some l.number else first) (braces_after_line n l) ls
 
+-- the first refusal of the lines
 abbrev pub lines_refused : List Line → Option LineRefusal
 lines_refused ls = option_or (first_refused [] (braced 0 ls)) (option_map (λ line. BadLine line) (left_open None 0 ls))
 
 -- ---- the whole file
 
+-- the sections of lines that are not refused
 abbrev pub unless_refused : Option LineRefusal → List Line → Result (List Section) LineRefusal
 unless_refused None ls = Ok (sections_in (pieces (braced 0 ls)))
 unless_refused (Some r) ls = Err r

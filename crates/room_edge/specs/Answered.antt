@@ -61,22 +61,26 @@ complained_as None length = Err write_error.Failed
 
 -- ---- counts
 
+-- the misses counted once opening has answered so
 abbrev pub misses_after : {T : Type 0} → Result T OpenError → ℕ → ℕ
 misses_after (Ok _) n = n
 misses_after (Err open_error.Missing) n = raised n
 misses_after (Err open_error.Failed) n = n
 misses_after (Err open_error.Memory) n = n
 
+-- the faults counted once opening has answered so
 abbrev pub open_faults_after : {T : Type 0} → Result T OpenError → ℕ → ℕ
 open_faults_after (Ok _) n = n
 open_faults_after (Err open_error.Missing) n = n
 open_faults_after (Err open_error.Failed) n = raised n
 open_faults_after (Err open_error.Memory) n = n
 
+-- the read faults counted once reading has answered so
 abbrev pub read_faults_after : {T : Type 0} → Result T ReadFailed → ℕ → ℕ
 read_faults_after (Ok _) n = n
 read_faults_after (Err _) n = raised n
 
+-- the write faults counted once writing has answered so
 abbrev pub write_faults_after : {T : Type 0} → Result T WriteError → ℕ → ℕ
 write_faults_after (Ok _) n = n
 write_faults_after (Err write_error.Failed) n = raised n

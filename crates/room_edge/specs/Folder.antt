@@ -8,9 +8,11 @@ use Rattle.std.specs.String.{string_bytes}
 use Rattle.std.specs.BTreeMap.{BTreeMap, get_by_text}
 use Rattle.room_edge.specs.Outside.{Folder}
 
+-- files in memory as a folder of the definitions
 abbrev pub folder_of : BTreeMap (String Global) (Vec ℕ Global) → Folder
 folder_of files = λ name. option_map (λ v. v.items) (get_by_text files name)
 
+-- names as bytes
 abbrev pub names_of : Vec (String Global) Global → List (List ℕ)
 names_of names = map string_bytes names.items
 

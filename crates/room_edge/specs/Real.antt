@@ -4,6 +4,7 @@ use Rattle.std.specs.String.{string_bytes}
 use Rattle.room_edge.specs.Outside.{Outside}
 use Rattle.room_edge.specs.declared.tally.Tally.{Tally}
 
+-- the names that were looked for in the real folder
 abbrev pub tried_names : Tally → List (List ℕ)
 tried_names tally = map string_bytes tally.tried.items
 

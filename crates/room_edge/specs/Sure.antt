@@ -4,6 +4,7 @@ use Rattle.room_edge.specs.Outside.{Outside}
 use Rattle.room_edge.specs.Folder.{folder_of, names_of}
 use Rattle.room_edge.specs.declared.sure.SureRoom.{SureRoom}
 
+-- what a sure room shows of itself
 abbrev pub sure_outside : SureRoom → Outside
 sure_outside r = record {
   files = Some (folder_of r.files);

@@ -7,8 +7,10 @@ use Rattle.run_files.specs.declared.outputs.Named.{Named}
 use Rattle.run_files.specs.Texts.{Names}
 pub use Rattle.run_files.specs.Texts.{name_at}
 
+-- a name that may be left out
 abbrev pub name_of : Option (Bor Word) → Option Word
 name_of name = option_map (λ (n : Bor Word). n.now) name
 
+-- the names of the files that are asked for
 abbrev pub names_of : Named → Names
 names_of n = record { log = name_of n.log; out = name_of n.out; frames = name_of n.frames }

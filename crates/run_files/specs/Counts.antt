@@ -19,6 +19,7 @@ abbrev pub ones_after : List Bool → List PortRecord → List Bool
 ones_after ones [] = ones
 ones_after ones (r ∷ rs) = ones_after (slice_set ones r.leaf (same_value r.value (whole 1))) rs
 
+-- the counts after a cycle
 abbrev pub counts_after : Cycle → Counts → Counts
 counts_after c k =
     record { y = k.y + length c.y; s = k.s + length c.s; ones = ones_after k.ones c.y }

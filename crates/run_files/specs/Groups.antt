@@ -44,15 +44,18 @@ IsPassed m name (Some number) =
     (settings : Settings) (g : Group) → slice_get (groups (tree_of m settings)) number ≡ Some g
     → bytes_eq g.name name ≡ false
 
+-- the group has not been met among the leaves so far
 abbrev pub StillPassed : Model → Word → Looked → Type 0
 StillPassed m name (Here p) = ⊤
 StillPassed m name (Other passed) = IsPassed m name passed
 
 -- ---- how the frames begin
 
+-- the picture of a group's space
 abbrev pub picture_of : FramesFile → Space → Picture
 picture_of f s = record { space = s; plane = f.plane; width = f.width; decimals = f.decimals }
 
+-- frames of a group that is there
 abbrev pub begun_at : FramesFile → Option (ℕ × Group) → Option Showing
 begun_at f None = None
 begun_at f (Some g) = Some (showing_none g.0 (picture_of f g.1.space))
@@ -69,6 +72,7 @@ pub record CanDrawOf (f : FramesFile) (g : Option (ℕ × Group)) : Type 0 where
   pub short : f.decimals ≤ 5
   pub plane_inside : (p : ℕ × Group) → g ≡ Some p → f.plane < plane_count p.1.space
 
+-- the frames that are asked for can be drawn
 abbrev pub CanShow : Tree → Option FramesFile → Type 0
 CanShow tree None = ⊤
 CanShow tree (Some f) = CanDrawOf f (group_at f.group.now (leaves tree))

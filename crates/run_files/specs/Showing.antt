@@ -16,6 +16,7 @@ pub record Showing : Type 0 where
   pub first : ℕ
   pub drawing : Drawing
 
+-- the same group, drawn so far
 abbrev pub with_drawing : Drawing → Showing → Showing
 with_drawing d w = record { first = w.first; drawing = d }
 

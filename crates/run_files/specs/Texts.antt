@@ -21,6 +21,7 @@ pub record Texts : Type 0 where
   pub out : Bytes
   pub frames : Bytes
 
+-- nothing is written
 abbrev pub no_texts : Texts
 no_texts = record { log = []; out = []; frames = [] }
 
@@ -35,11 +36,13 @@ only Log bytes = record { log = bytes; out = []; frames = [] }
 only Out bytes = record { log = []; out = bytes; frames = [] }
 only Frames bytes = record { log = []; out = []; frames = bytes }
 
+-- the name of one of the files
 abbrev pub name_at : Names → Output → Option Word
 name_at n Log = n.log
 name_at n Out = n.out
 name_at n Frames = n.frames
 
+-- the text of one of the files
 abbrev pub text_at : Texts → Output → Bytes
 text_at t Log = t.log
 text_at t Out = t.out

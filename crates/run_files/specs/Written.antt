@@ -39,6 +39,7 @@ pub record Falls (n : Names) (why : Unwritten) (whole : Texts) (old new : Outsid
   pub adds : Adds n part old new
   pub fault : FaultCounted why old new
 
+-- all is written, or what an answer of a fault or of want of memory leaves
 abbrev pub Writes : {T : Type 0} → Names → Texts → Outside → Outside → Result T Unwritten → Type 0
 Writes n whole old new (Ok _) = Adds n whole old new
 Writes n whole old new (Err why) = Falls n why whole old new
@@ -58,10 +59,12 @@ pub record MakesNone (old new : Outside) : Type 0 where
       → LeadsTo a (made_after inputs fs) (made_after inputs fs) old new
   pub keeps : KeepsWriteFaults old new
 
+-- the file that failed is one that is asked for
 abbrev pub IsThere : Unwritten → Names → Output → Type 0
 IsThere (Fault file) n f = IsSome (name_at n file) × (file ≡ f)
 IsThere Memory n f = ⊤
 
+-- a file is made, or what a failure leaves
 abbrev pub MakesOne : {T : Type 0} → Names → Output → Outside → Outside → Result T Unwritten
     → Type 0
 MakesOne n file old new (Ok _) = Makes (name_at n file) old new
