@@ -6,6 +6,7 @@ use Rattle.std.specs.List.{filter_map, position}
 use Rattle.std.specs.Option.{option_or}
 use Rattle.std.specs.Result.{result_ok}
 use Rattle.std.specs.Str.{bytes_eq}
+use Rattle.quantity.specs.declared.bounds.TheConstants.{MAX_EVENTS, MAX_FILE_BYTES}
 use Rattle.quantity.specs.declared.value.Value.{Value}
 use Rattle.quantity.specs.Bytes.{Bytes, words}
 use Rattle.quantity.specs.Names.{is_name}
@@ -32,7 +33,8 @@ event_of line t v is_right port = Err (BadEventLine line)
 -- the same, of three words
 abbrev pub event_of_words : List Bytes → ℕ → List Bytes → Result Event EventRefusal
 event_of_words ports line (time ∷ name ∷ value ∷ []) =
-    event_of line (time_in time) (value_in value) (is_name (folded name)) (position (bytes_eq (folded name)) ports)
+    event_of line (time_in time) (value_in value) (is_name (folded name))
+    (position (bytes_eq (folded name)) ports)
 event_of_words ports line texts = Err (BadEventLine line)
 
 -- the event of a line
@@ -43,18 +45,21 @@ event_at ports l = event_of_words ports l.number (words l.text)
 
 -- a line is refused by itself, or as one event too many
 abbrev pub event_refused : ℕ → ℕ → Result Event EventRefusal → Option EventRefusal
-event_refused before line (Ok e) = if nat_le 1048576 before then Some (TooLarge line) else None
+event_refused before line (Ok e) = if nat_le MAX_EVENTS before then Some (TooLarge line) else None
 event_refused before line (Err r) = Some r
 
 -- the first line that is refused, after so many events
 abbrev pub events_refused : List Bytes → ℕ → List Line → Option EventRefusal
 events_refused ports before [] = None
-events_refused ports before (l ∷ ls) = option_or (event_refused before l.number (event_at ports l)) (events_refused ports (before + 1) ls)
+events_refused ports before (l ∷ ls) =
+    option_or (event_refused before l.number (event_at ports l))
+    (events_refused ports (before + 1) ls)
 
 -- why an event file is refused
 abbrev pub file_refused : List Bytes → Bytes → Option EventRefusal
 file_refused ports bytes =
-    if nat_lt 16777216 (length bytes) then Some (TooLarge 0) else events_refused ports 0 (filled_lines bytes)
+    if nat_lt MAX_FILE_BYTES (length bytes) then Some (TooLarge 0)
+    else events_refused ports 0 (filled_lines bytes)
 
 -- ---- in order of time, and at one time in order of the file
 

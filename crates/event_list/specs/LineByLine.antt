@@ -9,7 +9,10 @@ use Rattle.event_list.specs.Events.{Event, event_at}
 -- the lines of these pieces that are filled, where the first has this number
 abbrev pub filled_from : ℕ → List Bytes → List Line
 filled_from number pieces =
-    filter (λ (l : Line). not (is_empty l.text)) (map (λ (p : ℕ × Bytes). record { number = p.0; text = text_of_line p.1 }) (enumerate_from number pieces))
+    filter (λ (l : Line). not (is_empty l.text)) (map (λ (p : ℕ × Bytes). record {
+      number = p.0;
+      text = text_of_line p.1;
+    }) (enumerate_from number pieces))
 
 -- this line, unless it is empty
 abbrev pub filled_line : ℕ → Bytes → List Line

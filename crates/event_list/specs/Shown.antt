@@ -17,6 +17,6 @@ abbrev pub given : Event → ℕ × Value
 given e = (e.port, e.value)
 
 -- the time of the first event
-abbrev pub first_time : List Event → Option ℕ
-first_time [] = None
-first_time (e ∷ es) = Some e.time
+abbrev pub first_event_time : List Event → Option ℕ
+first_event_time [] = None
+first_event_time (e ∷ es) = Some e.time

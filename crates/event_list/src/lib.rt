@@ -10,6 +10,3 @@ pub mod refusal;
 
 pub use list::Events;
 pub use refusal::EventRefusal;
-
-#[cfg(test)]
-mod tests;

@@ -15,12 +15,15 @@ use quantity::name::is_of_name;
 use quantity::{Name, Time, Value};
 use source_text::words::next_word;
 
-/// The event of a line with this number and text: a time, the name of an input in letters of any case, and
-/// a value. UnknownPort where all is well but that no input has the name, and BadEventLine for any other text.
+/// The event of a line with this number and text: a time, the name of an input in letters of any
+/// case, and a value. UnknownPort where all is well but that no input has the name, and
+/// BadEventLine for any other text.
 pub(crate) fn event_in(line: u32, text: &[u8], ports: &[Name]) -> Result<Event, EventRefusal>
     requires { length ports.now ≤ 65536 }
-    ensures ok { IfOk result (λ event. event_of_words ports.now line (words text.now) ≡ Ok (shown event)) }
-    ensures err { IfErr result (λ refusal. event_of_words ports.now line (words text.now) ≡ Err refusal) }
+    ensures ok { IfOk result (λ event. event_of_words ports.now line (words text.now)
+        ≡ Ok (shown event)) }
+    ensures err { IfErr result (λ refusal. event_of_words ports.now line (words text.now)
+        ≡ Err refusal) }
 {
     let Some((time, name, value)) = three_words(text) else {
         return Err(EventRefusal::BadEventLine(line));
@@ -42,7 +45,9 @@ pub(crate) fn event_in(line: u32, text: &[u8], ports: &[Name]) -> Result<Event, 
 
 /// The words of a text that has just three.
 fn three_words(text: &[u8]) -> Option<(&[u8], &[u8], &[u8])>
-    ensures { MatchOption result ((ports : List Bytes) (line : ℕ) → event_of_words ports line (words text.now) ≡ Err (EventRefusal.BadEventLine line)) (λ found. words text.now ≡ found.0.now ∷ found.1.now ∷ found.2.now ∷ []) }
+    ensures { MatchOption result ((ports : List Bytes) (line : ℕ)
+        → event_of_words ports line (words text.now) ≡ Err (EventRefusal.BadEventLine line))
+        (λ found. words text.now ≡ found.0.now ∷ found.1.now ∷ found.2.now ∷ []) }
 {
     let (time, rest) = next_word(text)?;
     let (name, rest) = next_word(rest)?;

@@ -2,18 +2,15 @@
 ghost use Rattle.std.specs.Prelude.{◌≡◌, ◌≢◌, ◌<◌, ◌≤◌, ◌+◌, ◌^◌, ◌==◌, [], ◌++◌, length, map, drop, not, nat_le, nat_lt, All, IfErr, IfOk, IfSome, OnOk, OnErr};
 ghost use Rattle.std.specs.List.{filter, prefix_len};
 ghost use Rattle.event_list.specs.Events.{Event as AnyEvent, events_of, by_time};
-ghost use Rattle.event_list.specs.Shown.{first_time, given, shown, time_of};
+ghost use Rattle.event_list.specs.Shown.{first_event_time, given, shown, time_of};
 ghost use Rattle.std.specs.List.Sorted.{IsNonDecreasingBy};
 
 use crate::event::Event;
 use crate::read::events_listed;
 use crate::refusal::EventRefusal;
-use quantity::{Name, OutOfMemory, Time, Value};
+use quantity::{MAX_FILE_BYTES, Name, OutOfMemory, Time, Value};
 use std::alloc::Global;
 use std::marker::Model;
-
-/// The most bytes of a file.
-const MOST_BYTES: usize = 16_777_216;
 
 /// The events of a file that are left, in order of time, and at one time in the order of the file.
 #[derive(Drop)]
@@ -37,16 +34,18 @@ impl Model for Events {
 }
 
 impl Events {
-    /// The events of a file for these inputs of the whole model. Each line is a time, the name of an input
-    /// in letters of any case, and a value; `%` begins a comment. The first line that is refused counts, a file
-    /// of more than 16777216 bytes as its line 0, and the 1048577th event by its line.
+    /// The events of a file for these inputs of the whole model. Each line is a time, the name of
+    /// an input in letters of any case, and a value; `%` begins a comment. The first line that is
+    /// refused counts, a file of more than `MAX_FILE_BYTES` bytes as its line 0, and the 1048577th
+    /// event by its line.
     pub fn read(alloc: Global, bytes: &[u8], ports: &[Name]) -> Result<Events, EventRefusal>
         requires short { length bytes.now < 2 ^ 32 }
         requires few { length ports.now ≤ 65536 }
         ensures ok { IfOk result (λ events. events_of bytes.now ports.now ≡ Ok events) }
-        ensures err { IfErr result (λ refusal. refusal ≢ EventRefusal.Memory → events_of bytes.now ports.now ≡ Err refusal) }
+        ensures err { IfErr result (λ refusal. refusal ≢ EventRefusal.Memory
+            → events_of bytes.now ports.now ≡ Err refusal) }
     {
-        if bytes.len() > MOST_BYTES {
+        if bytes.len() > MAX_FILE_BYTES {
             return Err(EventRefusal::TooLarge(0));
         }
         let mut all = events_listed(alloc, bytes, ports)?;
@@ -64,9 +63,10 @@ impl Events {
         }
     }
 
-    /// The time of the first event that is left, or None where none is. No event that is left is before it.
+    /// The time of the first event that is left, or None where none is. No event that is left is
+    /// before it.
     pub fn next(&self) -> Option<Time>
-        ensures value { result ≡ first_time self.now }
+        ensures value { result ≡ first_event_time self.now }
         ensures least { IfSome result (λ time. All (λ (e : AnyEvent). time ≤ e.time) self.now) }
     {
         let event = self.all.get(self.gone)?;
@@ -77,8 +77,10 @@ impl Events {
     /// refused, both lists stay as they were.
     pub fn take(&mut self, at: Time, into: &mut Vec<(u16, Value)>) -> Result<(), OutOfMemory>
         requires { All (λ (e : AnyEvent). at ≤ e.time) self.old }
-        ensures taken { OnOk result (into.new.items ≡ into.old.items ++ map given (filter (λ (e : AnyEvent). e.time == at) self.old)) }
-        ensures left { OnOk result (self.new ≡ filter (λ (e : AnyEvent). not (e.time == at)) self.old) }
+        ensures taken { OnOk result (into.new.items
+            ≡ into.old.items ++ map given (filter (λ (e : AnyEvent). e.time == at) self.old)) }
+        ensures left { OnOk result (self.new
+            ≡ filter (λ (e : AnyEvent). not (e.time == at)) self.old) }
         ensures err_into { OnErr result (into.new.items ≡ into.old.items) }
         ensures err_left { OnErr result (self.new ≡ self.old) }
     {
@@ -130,7 +132,8 @@ fn append(events: &[Event], into: &mut Vec<(u16, Value)>) -> Result<(), OutOfMem
 }
 
 fn sort_by_time(events: &mut Vec<Event>) -> Result<(), EventRefusal>
-    ensures order { OnOk result (map shown events.new.items ≡ by_time (map shown events.old.items)) }
+    ensures order { OnOk result (map shown events.new.items
+        ≡ by_time (map shown events.old.items)) }
     ensures sorted { OnOk result (IsNonDecreasingBy time_of events.new.items) }
     ensures err { OnErr result (result ≡ Err EventRefusal.Memory) }
 {

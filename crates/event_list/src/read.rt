@@ -1,5 +1,6 @@
 // The events of a file, in the order of the file.
 ghost use Rattle.std.specs.Prelude.{◌≡◌, ◌≢◌, ◌+◌, ◌≤◌, ◌++◌, length, map, IfErr, IfOk, OnOk, Some, None};
+ghost use Rattle.quantity.specs.declared.bounds.TheConstants.{MAX_FILE_BYTES};
 ghost use Rattle.source_text.specs.Lines.{filled_lines};
 ghost use Rattle.event_list.specs.Events.{events_refused};
 ghost use Rattle.event_list.specs.LineByLine.{events_in, filled_line};
@@ -8,13 +9,10 @@ ghost use Rattle.event_list.specs.Shown.{shown};
 use crate::event::Event;
 use crate::line::event_in;
 use crate::refusal::EventRefusal;
-use quantity::{Name, Value};
+use quantity::{MAX_EVENTS, Name, Value};
 use source_text::cut::part_before;
 use source_text::line::text_of_line;
 use std::alloc::{AllocError, Global};
-
-/// The most events of a file.
-const MOST_EVENTS: usize = 1_048_576;
 
 /// The events of all lines; the first line that is refused.
 pub(crate) fn events_listed(
@@ -22,11 +20,13 @@ pub(crate) fn events_listed(
     bytes: &[u8],
     ports: &[Name],
 ) -> Result<Vec<Event>, EventRefusal>
-    requires short { length bytes.now ≤ 16777216 }
+    requires short { length bytes.now ≤ MAX_FILE_BYTES }
     requires few { length ports.now ≤ 65536 }
     ensures accepted { OnOk result (events_refused ports.now 0 (filled_lines bytes.now) ≡ None) }
-    ensures events { IfOk result (λ events. map shown events.items ≡ events_in ports.now (filled_lines bytes.now)) }
-    ensures err { IfErr result (λ refusal. refusal ≢ EventRefusal.Memory → events_refused ports.now 0 (filled_lines bytes.now) ≡ Some refusal) }
+    ensures events { IfOk result (λ events. map shown events.items
+        ≡ events_in ports.now (filled_lines bytes.now)) }
+    ensures err { IfErr result (λ refusal. refusal ≢ EventRefusal.Memory
+        → events_refused ports.now 0 (filled_lines bytes.now) ≡ Some refusal) }
 {
     let mut events = Vec::new(alloc);
     let mut number = 1;
@@ -48,10 +48,15 @@ fn add_line(
     events: &mut Vec<Event>,
 ) -> Result<(), EventRefusal>
     requires { length ports.now ≤ 65536 }
-    ensures accepted { OnOk result (events_refused ports.now (length events.old.items) (filled_line number line.now) ≡ None) }
-    ensures events { OnOk result (map shown events.new.items ≡ map shown events.old.items ++ events_in ports.now (filled_line number line.now)) }
-    ensures count { OnOk result (length events.new.items ≡ length events.old.items + length (filled_line number line.now)) }
-    ensures err { IfErr result (λ refusal. refusal ≢ EventRefusal.Memory → events_refused ports.now (length events.old.items) (filled_line number line.now) ≡ Some refusal) }
+    ensures accepted { OnOk result (events_refused ports.now (length events.old.items)
+        (filled_line number line.now) ≡ None) }
+    ensures events { OnOk result (map shown events.new.items
+        ≡ map shown events.old.items ++ events_in ports.now (filled_line number line.now)) }
+    ensures count { OnOk result (length events.new.items
+        ≡ length events.old.items + length (filled_line number line.now)) }
+    ensures err { IfErr result (λ refusal. refusal ≢ EventRefusal.Memory
+        → events_refused ports.now (length events.old.items) (filled_line number line.now)
+        ≡ Some refusal) }
 {
     let text = text_of_line(line);
     if text.is_empty() {
@@ -60,7 +65,7 @@ fn add_line(
     // Names the type of values here, which the check of a push of an event has to know.
     let _value: Option<Value> = None;
     let event = event_in(number, text, ports)?;
-    if events.len() >= MOST_EVENTS {
+    if events.len() >= MAX_EVENTS {
         return Err(EventRefusal::TooLarge(number));
     }
     events.push(event).map_err(AllocError::from)?;

@@ -10,7 +10,7 @@ pub enum EventRefusal {
     BadEventLine(u32),
     /// A name that isn't an input of the whole model.
     UnknownPort(u32),
-    /// The 1048577th event; or a file of more than 16777216 bytes, at line 0.
+    /// The 1048577th event; or a file of more than `MAX_FILE_BYTES` bytes, at line 0.
     TooLarge(u32),
     /// There is no memory for the events.
     Memory,

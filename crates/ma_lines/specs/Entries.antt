@@ -15,9 +15,11 @@ is_heading l = begins_with 91 l.text
 abbrev pub braces_after : ℕ → Bytes → ℕ
 braces_after n text = fold (open_after (is_byte 123) (is_byte 125)) n text
 
--- the braces open after a line: where none are open before it, an entry's are counted from the left of its value
+-- the braces open after a line: where none are open before it, an entry's are counted from the left
+-- of its value
 abbrev pub braces_after_line : ℕ → Line → ℕ
-braces_after_line zero l = if is_heading l then 0 else braces_after 0 (after_first (is_byte 58) l.text)
+braces_after_line zero l =
+    if is_heading l then 0 else braces_after 0 (after_first (is_byte 58) l.text)
 braces_after_line (suc n) l = braces_after (suc n) l.text
 
 -- a line with the number of braces open before it: where some are, it continues the entry before it
@@ -65,4 +67,8 @@ value_after text = trimmed (after_first (is_byte 58) text)
 abbrev pub entry_of : Line → Bytes → Entry
 entry_of l more =
     let value = value_after l.text ++ more in
-    record { line = l.number; key = key_in l.text; value = if keeps_letters (key_in l.text) then value else folded value }
+    record {
+      line = l.number;
+      key = key_in l.text;
+      value = if keeps_letters (key_in l.text) then value else folded value;
+    }

@@ -23,24 +23,36 @@ refuses ls r = sections_of (file ls) ≡ Err r
 abbrev pub folded_lines : List Bytes
 folded_lines =
     codes "[Top]" ∷ codes "components : Life" ∷ codes "[Life]          % Conway" ∷ codes "initialCellsValue : V.val"
-    ∷ codes "rule : 1 100 { (0,0) = 1 and" ∷ [] ∷ codes "   (trueCount = 3) } % more" ∷ codes "Type : cell" ∷ []
+    ∷ codes "rule : 1 100 { (0,0) = 1 and" ∷ [] ∷ codes "   (trueCount = 3) } % more"
+    ∷ codes "Type : cell" ∷ []
 
 pub record SectionsAreRead : Type 0 where
   pub nothing : reads [] []
-  pub two_lines : reads (codes "[a]" ∷ codes "K : V" ∷ []) (section 1 (codes "a") (entry 2 (codes "k") (codes "v") ∷ []) ∷ [])
+  pub two_lines : reads (codes "[a]" ∷ codes "K : V" ∷ [])
+      (section 1 (codes "a") (entry 2 (codes "k") (codes "v") ∷ []) ∷ [])
   pub folds : reads folded_lines
       (section 1 (codes "top") (entry 2 (codes "components") (codes "life") ∷ [])
       ∷ section 3 (codes "life") (entry 4 (codes "initialcellsvalue") (codes "V.val")
-      ∷ entry 5 (codes "rule") (codes "1 100 { (0,0) = 1 and (truecount = 3) }") ∷ entry 8 (codes "type") (codes "cell") ∷ []) ∷ [])
-  pub first_colon : reads (codes "[ a b ]" ∷ codes "k : v : w" ∷ []) (section 1 (codes "a b") (entry 2 (codes "k") (codes "v : w") ∷ []) ∷ [])
-  pub no_value : reads (codes "[a]" ∷ codes "k:" ∷ []) (section 1 (codes "a") (entry 2 (codes "k") [] ∷ []) ∷ [])
-  pub closes_nothing : reads (codes "[a]" ∷ codes "k : }{" ∷ codes "[b]" ∷ codes "}" ∷ []) (section 1 (codes "a") (entry 2 (codes "k") (codes "}{ [b] }") ∷ []) ∷ [])
-  pub names_of_files : reads ((codes "[a]" ++ 13 ∷ []) ∷ codes "InitialMapValue : Map.MAP" ∷ codes "initialCellsValue:C.val" ∷ codes "initialValue : V" ∷ [])
-      (section 1 (codes "a") (entry 2 (codes "initialmapvalue") (codes "Map.MAP") ∷ entry 3 (codes "initialcellsvalue") (codes "C.val") ∷ entry 4 (codes "initialvalue") (codes "v") ∷ []) ∷ [])
-  pub joins : reads (codes "[a]" ∷ codes "}k : }{ x % {" ∷ [] ∷ codes " [b]" ∷ codes " % c" ∷ codes "}{" ∷ codes "}" ∷ codes "l : {}} } :" ∷ codes "}m : n" ∷ [])
-      (section 1 (codes "a") (entry 2 (codes "}k") (codes "}{ x [b] }{ }") ∷ entry 8 (codes "l") (codes "{}} } :") ∷ entry 9 (codes "}m") (codes "n") ∷ []) ∷ [])
+      ∷ entry 5 (codes "rule") (codes "1 100 { (0,0) = 1 and (truecount = 3) }")
+      ∷ entry 8 (codes "type") (codes "cell") ∷ []) ∷ [])
+  pub first_colon : reads (codes "[ a b ]" ∷ codes "k : v : w" ∷ [])
+      (section 1 (codes "a b") (entry 2 (codes "k") (codes "v : w") ∷ []) ∷ [])
+  pub no_value : reads (codes "[a]" ∷ codes "k:" ∷ [])
+      (section 1 (codes "a") (entry 2 (codes "k") [] ∷ []) ∷ [])
+  pub closes_nothing : reads (codes "[a]" ∷ codes "k : }{" ∷ codes "[b]" ∷ codes "}" ∷ [])
+      (section 1 (codes "a") (entry 2 (codes "k") (codes "}{ [b] }") ∷ []) ∷ [])
+  pub names_of_files : reads ((codes "[a]" ++ 13 ∷ []) ∷ codes "InitialMapValue : Map.MAP"
+      ∷ codes "initialCellsValue:C.val" ∷ codes "initialValue : V" ∷ [])
+      (section 1 (codes "a") (entry 2 (codes "initialmapvalue") (codes "Map.MAP")
+      ∷ entry 3 (codes "initialcellsvalue") (codes "C.val")
+      ∷ entry 4 (codes "initialvalue") (codes "v") ∷ []) ∷ [])
+  pub joins : reads (codes "[a]" ∷ codes "}k : }{ x % {" ∷ [] ∷ codes " [b]" ∷ codes " % c"
+      ∷ codes "}{" ∷ codes "}" ∷ codes "l : {}} } :" ∷ codes "}m : n" ∷ [])
+      (section 1 (codes "a") (entry 2 (codes "}k") (codes "}{ x [b] }{ }")
+      ∷ entry 8 (codes "l") (codes "{}} } :") ∷ entry 9 (codes "}m") (codes "n") ∷ []) ∷ [])
   pub tabs : reads (codes " [ \ta b\t]\t" ∷ codes "\t k\t: \t v\tw  " ∷ codes "x:" ∷ [])
-      (section 1 (codes "a b") (entry 2 (codes "k") (codes "v\tw") ∷ entry 3 (codes "x") [] ∷ []) ∷ [])
+      (section 1 (codes "a b") (entry 2 (codes "k") (codes "v\tw") ∷ entry 3 (codes "x") [] ∷ [])
+      ∷ [])
   pub any_comment : reads (codes "[a]" ∷ (37 ∷ 200 ∷ []) ∷ []) (section 1 (codes "a") [] ∷ [])
 
 pub record LinesAreRefused : Type 0 where
@@ -61,4 +73,5 @@ pub record LinesAreRefused : Type 0 where
   pub deleted : refuses (codes "[a]" ∷ (codes "k : a" ++ 127 ∷ []) ∷ []) (BadLine 2)
   pub return_inside : refuses (codes "[a]" ∷ (codes "k : a" ++ 13 ∷ 98 ∷ []) ∷ []) (BadLine 2)
   pub two_returns : refuses (codes "[a]" ∷ (codes "k : a" ++ 13 ∷ 13 ∷ []) ∷ []) (BadLine 2)
-  pub twice_behind_an_entry : refuses (codes "[a]" ∷ codes "k : }" ∷ codes "[ A ]" ∷ []) (DuplicateSection 3)
+  pub twice_behind_an_entry : refuses (codes "[a]" ∷ codes "k : }" ∷ codes "[ A ]" ∷ [])
+      (DuplicateSection 3)

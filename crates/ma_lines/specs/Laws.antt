@@ -1,4 +1,5 @@
--- Sections stand on the texts of lines alone, and comments and carriage returns are no part of these.
+-- Sections stand on the texts of lines alone, and comments and carriage returns are no part of
+-- these.
 use Rattle.std.specs.Prelude.{◌≡◌, ℕ, ◌<◌, true, false, List, [], ◌∷◌, ◌++◌, map, All, ⊤}
 use Rattle.std.specs.List.{list_any, list_all}
 use Rattle.std.specs.declared.result.Result.{Result}
@@ -20,7 +21,9 @@ DropsReturns = (line : Bytes) → without_return (line ++ 13 ∷ []) ≡ line
 
 -- what stands behind the first % is dropped, whatever it is
 abbrev pub DropsComments : Type 0
-DropsComments = (line more : Bytes) → list_any (is_byte 37) line ≡ false → without_comment (line ++ 37 ∷ more) ≡ line
+DropsComments =
+    (line more : Bytes) → list_any (is_byte 37) line ≡ false
+    → without_comment (line ++ 37 ∷ more) ≡ line
 
 -- ---- but for the numbers of lines
 
@@ -43,10 +46,13 @@ abbrev pub unnumbered : Result (List Section) LineRefusal → Result (List Secti
 unnumbered (Ok ss) = Ok (map unnumbered_section ss)
 unnumbered (Err why) = Err (unnumbered_refusal why)
 
--- a line that is empty, or has only a comment, changes nothing but the numbers of the lines behind it
+-- a line that is empty, or has only a comment, changes nothing but the numbers of the lines behind
+-- it
 pub record SkipsEmptyLines : Type 0 where
-  pub between : (before line after : Bytes) → list_any (is_byte 10) line ≡ false → text_of_line line ≡ []
-      → unnumbered (sections_of (before ++ 10 ∷ (line ++ 10 ∷ after))) ≡ unnumbered (sections_of (before ++ 10 ∷ after))
+  pub between : (before line after : Bytes) → list_any (is_byte 10) line ≡ false
+      → text_of_line line ≡ []
+      → unnumbered (sections_of (before ++ 10 ∷ (line ++ 10 ∷ after)))
+      ≡ unnumbered (sections_of (before ++ 10 ∷ after))
   pub above : (line after : Bytes) → list_any (is_byte 10) line ≡ false → text_of_line line ≡ []
       → unnumbered (sections_of (line ++ 10 ∷ after)) ≡ unnumbered (sections_of after)
 
@@ -61,11 +67,13 @@ abbrev pub folded_section : Section → Section
 folded_section s = record { line = s.line; name = s.name; entries = map folded_entry s.entries }
 
 -- what is read, with values in small letters
-abbrev pub with_folded_values : Result (List Section) LineRefusal → Result (List Section) LineRefusal
+abbrev pub with_folded_values : Result (List Section) LineRefusal
+    → Result (List Section) LineRefusal
 with_folded_values (Ok ss) = Ok (map folded_section ss)
 with_folded_values (Err why) = Err why
 
--- in lower-case letters a file has the same sections, but for the letters of the values that keep theirs
+-- in lower-case letters a file has the same sections, but for the letters of the values that keep
+-- theirs
 abbrev pub FoldsLetters : Type 0
 FoldsLetters = (bytes : Bytes) → sections_of (folded bytes) ≡ with_folded_values (sections_of bytes)
 
@@ -73,13 +81,19 @@ FoldsLetters = (bytes : Bytes) → sections_of (folded bytes) ≡ with_folded_va
 
 -- lines with one text stand for one another
 abbrev pub StandsOnTexts : Type 0
-StandsOnTexts = (before line other after : Bytes) → list_any (is_byte 10) line ≡ false → list_any (is_byte 10) other ≡ false → text_of_line line ≡ text_of_line other
-    → sections_of (before ++ 10 ∷ (line ++ 10 ∷ after)) ≡ sections_of (before ++ 10 ∷ (other ++ 10 ∷ after))
+StandsOnTexts =
+    (before line other after : Bytes) → list_any (is_byte 10) line ≡ false
+    → list_any (is_byte 10) other ≡ false → text_of_line line ≡ text_of_line other
+    → sections_of (before ++ 10 ∷ (line ++ 10 ∷ after))
+    ≡ sections_of (before ++ 10 ∷ (other ++ 10 ∷ after))
 
--- a blank in front of a line is no part of its text, nor one behind a line without a carriage return at its end
+-- a blank in front of a line is no part of its text, nor one behind a line without a carriage
+-- return at its end
 pub record DropsOuterBlanks : Type 0 where
-  pub in_front : (c : ℕ) (line : Bytes) → is_blank c ≡ true → text_of_line (c ∷ line) ≡ text_of_line line
-  pub behind : (c : ℕ) (line : Bytes) → is_blank c ≡ true → without_return line ≡ line → text_of_line (line ++ c ∷ []) ≡ text_of_line line
+  pub in_front : (c : ℕ) (line : Bytes) → is_blank c ≡ true
+      → text_of_line (c ∷ line) ≡ text_of_line line
+  pub behind : (c : ℕ) (line : Bytes) → is_blank c ≡ true → without_return line ≡ line
+      → text_of_line (line ++ c ∷ []) ≡ text_of_line line
 
 -- ---- bytes and numbers of what is read
 
@@ -99,7 +113,9 @@ pub record IsPlainSection (s : Section) : Type 0 where
 
 -- all that is read of a file is plain
 abbrev pub ReadsPlainTexts : Type 0
-ReadsPlainTexts = (bytes : Bytes) (sections : List Section) → sections_of bytes ≡ Ok sections → All IsPlainSection sections
+ReadsPlainTexts =
+    (bytes : Bytes) (sections : List Section) → sections_of bytes ≡ Ok sections
+    → All IsPlainSection sections
 
 -- each number is greater than the one before it, and the first than this one
 abbrev pub RiseAbove : ℕ → List ℕ → Type 0
@@ -113,4 +129,6 @@ numbers_in (s ∷ ss) = s.line ∷ map (λ (e : Entry). e.line) s.entries ++ num
 
 -- the numbers of lines rise, within a section and from section to section
 abbrev pub NumbersRise : Type 0
-NumbersRise = (bytes : Bytes) (sections : List Section) → sections_of bytes ≡ Ok sections → RiseAbove 0 (numbers_in sections)
+NumbersRise =
+    (bytes : Bytes) (sections : List Section) → sections_of bytes ≡ Ok sections
+    → RiseAbove 0 (numbers_in sections)

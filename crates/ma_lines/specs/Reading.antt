@@ -35,7 +35,12 @@ pub record Reading : Type 0 where
 
 -- an entry that has ended
 abbrev pub whole : Opened → Entry
-whole e = record { line = e.line; key = e.key; value = if keeps_letters e.key then e.value else folded e.value }
+whole e =
+    record {
+      line = e.line;
+      key = e.key;
+      value = if keeps_letters e.key then e.value else folded e.value;
+    }
 
 -- the entry that a line begins
 abbrev pub opened_by : Line → Opened
@@ -43,7 +48,13 @@ opened_by l = record { line = l.number; key = key_in l.text; value = value_after
 
 -- joined with one space to the text of a line
 abbrev pub joined : Opened → Bytes → Opened
-joined e text = record { line = e.line; key = e.key; value = e.value ++ after_space text; braces = braces_after e.braces text }
+joined e text =
+    record {
+      line = e.line;
+      key = e.key;
+      value = e.value ++ after_space text;
+      braces = braces_after e.braces text;
+    }
 
 -- an entry without open braces goes into the last section
 abbrev pub settled : List Section → Opened → Reading
@@ -56,7 +67,12 @@ abbrev pub begun_by : List Section → Line → Reading
 begun_by ss l =
     if is_empty l.text then record { sections = ss; open_entry = None }
     else if is_heading l then
-    record { sections = ss ++ record { line = l.number; name = unwrap_or (section_name l) []; entries = [] } ∷ []; open_entry = None }
+    record {
+      sections =
+          ss ++ record { line = l.number; name = unwrap_or (section_name l) []; entries = [] }
+          ∷ [];
+      open_entry = None;
+    }
     else settled ss (opened_by l)
 
 -- one line more

@@ -32,7 +32,8 @@ has_brackets text = list_any (λ c. (c == 91) || (c == 93)) text
 -- the name between brackets, or none where there is no name
 abbrev pub name_in : Option Bytes → Option Bytes
 name_in None = None
-name_in (Some text) = if has_brackets text || is_empty (trimmed text) then None else Some (folded (trimmed text))
+name_in (Some text) =
+    if has_brackets text || is_empty (trimmed text) then None else Some (folded (trimmed text))
 
 -- the name in a heading
 abbrev pub section_name : Line → Option Bytes
@@ -66,7 +67,8 @@ first_entries (item e ∷ ps) = e ∷ first_entries ps
 -- entries under their headings
 abbrev pub sections_in : List Piece → List Section
 sections_in [] = []
-sections_in (heading line name ∷ ps) = record { line = line; name = name; entries = first_entries ps } ∷ sections_in ps
+sections_in (heading line name ∷ ps) =
+    record { line = line; name = name; entries = first_entries ps } ∷ sections_in ps
 sections_in (item e ∷ ps) = sections_in ps
 
 -- ---- refusals
@@ -86,7 +88,8 @@ begun b = if b.braces == 0 then option_to_list (section_name b.line) else []
 -- why a heading is refused
 abbrev pub heading_refused : List Bytes → ℕ → Option Bytes → Option LineRefusal
 heading_refused before line None = Some (BadLine line)
-heading_refused before line (Some name) = if is_among before name then Some (DuplicateSection line) else None
+heading_refused before line (Some name) =
+    if is_among before name then Some (DuplicateSection line) else None
 
 -- why a line is refused that stands after sections of these names
 abbrev pub line_refused : List Bytes → Braced → Option LineRefusal
@@ -100,16 +103,20 @@ line_refused before b =
 -- the first line that is refused, after sections of these names
 abbrev pub first_refused : List Bytes → List Braced → Option LineRefusal
 first_refused before [] = None
-first_refused before (b ∷ bs) = option_or (line_refused before b) (first_refused (before ++ begun b) bs)
+first_refused before (b ∷ bs) =
+    option_or (line_refused before b) (first_refused (before ++ begun b) bs)
 
 -- the first line of an entry that is open at the end
 abbrev pub left_open : Option ℕ → ℕ → List Line → Option ℕ
 left_open first n [] = if n == 0 then None else first
-left_open first n (l ∷ ls) = left_open (if n == 0 then Some l.number else first) (braces_after_line n l) ls
+left_open first n (l ∷ ls) =
+    left_open (if n == 0 then Some l.number else first) (braces_after_line n l) ls
 
 -- the first refusal of the lines
 abbrev pub lines_refused : List Line → Option LineRefusal
-lines_refused ls = option_or (first_refused [] (braced 0 ls)) (option_map (λ line. BadLine line) (left_open None 0 ls))
+lines_refused ls =
+    option_or (first_refused [] (braced 0 ls))
+    (option_map (λ line. BadLine line) (left_open None 0 ls))
 
 -- ---- the whole file
 

@@ -27,12 +27,14 @@ pub fn comments_are_dropped()
     ensures { DropsComments }
 {}
 
-/// A line that is empty, or has only a comment, changes nothing but the numbers of the lines behind it.
+/// A line that is empty, or has only a comment, changes nothing but the numbers of the lines behind
+/// it.
 pub fn empty_lines_are_skipped()
     ensures { SkipsEmptyLines }
 {}
 
-/// In lower-case letters a file has the same sections, but for the letters of the values that keep theirs.
+/// In lower-case letters a file has the same sections, but for the letters of the values that keep
+/// theirs.
 pub fn letters_are_folded()
     ensures { FoldsLetters }
 {}

@@ -12,6 +12,3 @@ pub mod sections;
 pub use lines::Lines;
 pub use section::{Entry, LineRefusal, Section};
 pub use sections::Sections;
-
-#[cfg(test)]
-mod tests;

@@ -13,11 +13,11 @@ pub struct Lines;
 impl Lines {
     /// The sections of a file, with their entries.
     ///
-    /// The first line that is refused counts: BadLine, a line with a byte that isn't allowed, or one
-    /// that is neither a section's nor an entry's, or an entry's before the first section;
-    /// DuplicateSection, a section whose name stands before. BadLine is also an entry whose braces are
-    /// open at the end of the file, with the number of its first line. Memory, there is no memory for
-    /// the sections.
+    /// The first line that is refused counts: BadLine, a line with a byte that isn't allowed, or
+    /// one that is neither a section's nor an entry's, or an entry's before the first section;
+    /// DuplicateSection, a section whose name stands before. BadLine is also an entry whose braces
+    /// are open at the end of the file, with the number of its first line. Memory, there is no
+    /// memory for the sections.
     pub fn read(alloc: Global, bytes: &[u8]) -> Result<Sections, LineRefusal>
         requires { length bytes.now < 2 ^ 32 }
         ensures { result ≢ Err LineRefusal.Memory → result ≡ sections_of bytes.now }

@@ -36,7 +36,8 @@ pub(crate) fn is_heading(text: &[u8]) -> bool
 
 /// The name of the section that a line begins: none where no name stands between brackets.
 pub(crate) fn section_name(alloc: Global, text: &[u8]) -> Result<Option<Vec<u8>>, AllocError>
-    ensures { IfOk result (λ name. option_map (λ v. v.items) name ≡ name_in (inside 91 93 text.now)) }
+    ensures { IfOk result (λ name. option_map (λ v. v.items) name
+        ≡ name_in (inside 91 93 text.now)) }
 {
     let Some(inner) = in_brackets(text) else {
         return Ok(None);

@@ -44,9 +44,13 @@ impl Reader {
     ) -> Result<(), LineRefusal>
         requires numbered { 0 < length line.now → number < 2 ^ 32 }
         requires few { braces_in (reading_of self.old).open_entry + length line.now < 2 ^ 64 }
-        ensures allowed { OnOk result (refused_in (reading_of self.old) (line_of number (text_of_line line.now)) ≡ None) }
-        ensures taken { OnOk result (reading_of self.new ≡ next (reading_of self.old) (line_of number (text_of_line line.now))) }
-        ensures refused { IfErr result (λ why. why ≢ LineRefusal.Memory → refused_in (reading_of self.old) (line_of number (text_of_line line.now)) ≡ Some why) }
+        ensures allowed { OnOk result (refused_in (reading_of self.old)
+            (line_of number (text_of_line line.now)) ≡ None) }
+        ensures taken { OnOk result (reading_of self.new
+            ≡ next (reading_of self.old) (line_of number (text_of_line line.now))) }
+        ensures refused { IfErr result (λ why. why ≢ LineRefusal.Memory
+            → refused_in (reading_of self.old) (line_of number (text_of_line line.now))
+            ≡ Some why) }
     {
         let text = text_of_line(line);
         if text.is_empty() {
@@ -59,9 +63,12 @@ impl Reader {
     fn take(&mut self, alloc: Global, line: u32, text: &[u8]) -> Result<(), LineRefusal>
         requires filled { text.now ≢ [] }
         requires few { braces_in (reading_of self.old).open_entry + length text.now < 2 ^ 64 }
-        ensures allowed { OnOk result (refused_in (reading_of self.old) (line_of line text.now) ≡ None) }
-        ensures taken { OnOk result (reading_of self.new ≡ next (reading_of self.old) (line_of line text.now)) }
-        ensures refused { IfErr result (λ why. why ≢ LineRefusal.Memory → refused_in (reading_of self.old) (line_of line text.now) ≡ Some why) }
+        ensures allowed { OnOk result (refused_in (reading_of self.old) (line_of line text.now)
+            ≡ None) }
+        ensures taken { OnOk result (reading_of self.new
+            ≡ next (reading_of self.old) (line_of line text.now)) }
+        ensures refused { IfErr result (λ why. why ≢ LineRefusal.Memory
+            → refused_in (reading_of self.old) (line_of line text.now) ≡ Some why) }
     {
         if !all_are_allowed(text) {
             return Err(LineRefusal::BadLine(line));
@@ -81,9 +88,12 @@ impl Reader {
         requires filled { text.now ≢ [] }
         requires between { self.old.open_entry ≡ None }
         requires allowed { list_all is_allowed text.now ≡ true }
-        ensures allowed { OnOk result (refused_in (reading_of self.old) (line_of line text.now) ≡ None) }
-        ensures taken { OnOk result (reading_of self.new ≡ begun_by self.old.sections (line_of line text.now)) }
-        ensures refused { IfErr result (λ why. why ≢ LineRefusal.Memory → refused_in (reading_of self.old) (line_of line text.now) ≡ Some why) }
+        ensures allowed { OnOk result (refused_in (reading_of self.old) (line_of line text.now)
+            ≡ None) }
+        ensures taken { OnOk result (reading_of self.new
+            ≡ begun_by self.old.sections (line_of line text.now)) }
+        ensures refused { IfErr result (λ why. why ≢ LineRefusal.Memory
+            → refused_in (reading_of self.old) (line_of line text.now) ≡ Some why) }
     {
         if is_heading(text) {
             return self.begin_section(alloc, line, text);
@@ -96,10 +106,18 @@ impl Reader {
     }
 
     fn begin_section(&mut self, alloc: Global, line: u32, text: &[u8]) -> Result<(), LineRefusal>
-        ensures new_name { OnOk result (heading_refused (names self.old.sections) line (name_in (inside 91 93 text.now)) ≡ None) }
-        ensures begun { OnOk result (self.new.sections ≡ self.old.sections ++ record { line = line; name = unwrap_or (name_in (inside 91 93 text.now)) []; entries = [] } ∷ []) }
+        ensures new_name { OnOk result (heading_refused (names self.old.sections) line
+            (name_in (inside 91 93 text.now)) ≡ None) }
+        ensures begun { OnOk result (self.new.sections
+            ≡ self.old.sections ++ record {
+              line = line;
+              name = unwrap_or (name_in (inside 91 93 text.now)) [];
+              entries = [];
+            } ∷ []) }
         ensures between { OnOk result (self.new.open_entry ≡ self.old.open_entry) }
-        ensures refused { IfErr result (λ why. why ≢ LineRefusal.Memory → heading_refused (names self.old.sections) line (name_in (inside 91 93 text.now)) ≡ Some why) }
+        ensures refused { IfErr result (λ why. why ≢ LineRefusal.Memory
+            → heading_refused (names self.old.sections) line (name_in (inside 91 93 text.now))
+            ≡ Some why) }
     {
         let Some(name) = section_name(alloc, text)? else {
             return Err(LineRefusal::BadLine(line));

@@ -21,8 +21,8 @@ pub struct Section {
 /// Why a file isn't cut into sections, with the number of the line.
 #[derive(Clone, Copy)]
 pub enum LineRefusal {
-    /// A byte that isn't allowed, a line that is neither a section's nor an entry's, an entry before
-    /// the first section, or an entry whose braces aren't closed.
+    /// A byte that isn't allowed, a line that is neither a section's nor an entry's, an entry
+    /// before the first section, or an entry whose braces aren't closed.
     BadLine(u32),
     /// A section of a name that stands before.
     DuplicateSection(u32),

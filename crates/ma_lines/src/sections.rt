@@ -73,9 +73,12 @@ impl Sections {
         line: u32,
         name: Vec<u8>,
     ) -> Result<(), LineRefusal>
-        ensures new_name { OnOk result (heading_refused (names self.old) line (Some name.items) ≡ None) }
-        ensures begun { OnOk result (self.new ≡ self.old ++ record { line = line; name = name.items; entries = [] } ∷ []) }
-        ensures refused { IfErr result (λ why. why ≢ LineRefusal.Memory → heading_refused (names self.old) line (Some name.items) ≡ Some why) }
+        ensures new_name { OnOk result (heading_refused (names self.old) line (Some name.items)
+            ≡ None) }
+        ensures begun { OnOk result (self.new
+            ≡ self.old ++ record { line = line; name = name.items; entries = [] } ∷ []) }
+        ensures refused { IfErr result (λ why. why ≢ LineRefusal.Memory
+            → heading_refused (names self.old) line (Some name.items) ≡ Some why) }
     {
         if self.by_name.contains_key(name.as_slice()) {
             return Err(LineRefusal::DuplicateSection(line));

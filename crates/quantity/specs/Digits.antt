@@ -29,7 +29,8 @@ whole_number most text = then_some (are_digits 1 most text) (number_in text)
 
 -- the same, where the number lies in these bounds
 abbrev pub number_between : ℕ → ℕ → ℕ → Bytes → Option ℕ
-number_between most low high text = option_and_then (λ n. then_some (is_between low high n) n) (whole_number most text)
+number_between most low high text =
+    option_and_then (λ n. then_some (is_between low high n) n) (whole_number most text)
 
 -- what follows the sign at the head of the text, if there is one
 abbrev pub without_sign : Bytes → Bytes
@@ -42,7 +43,8 @@ with_sign_of text n = if begins_with minus_sign text then neg_ℤ n else n
 
 -- a number of 1 to so many digits after an optional sign
 abbrev pub signed_number : ℕ → Bytes → Option ℤ
-signed_number most text = option_map (λ n. with_sign_of text (pos n)) (whole_number most (without_sign text))
+signed_number most text =
+    option_map (λ n. with_sign_of text (pos n)) (whole_number most (without_sign text))
 
 -- the last k decimal digits of a number
 abbrev pub last_digits : ℕ → ℕ → Bytes

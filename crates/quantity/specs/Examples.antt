@@ -186,9 +186,14 @@ pub record NamesAsSaid : Type 0 where
 -- pairs that are put into a list by their times, and results that wait
 pub record PairsArePut : Type 0 where
   pub alone : put_pair 5 (plus 1) [] ≡ (5, plus 1) ∷ []
-  pub first : put_pair 2 (plus 1) ((3, plus 2) ∷ (7, plus 3) ∷ []) ≡ (2, plus 1) ∷ (3, plus 2) ∷ (7, plus 3) ∷ []
-  pub between : put_pair 5 (plus 1) ((3, plus 2) ∷ (7, plus 3) ∷ []) ≡ (3, plus 2) ∷ (5, plus 1) ∷ (7, plus 3) ∷ []
-  pub last : put_pair 9 (plus 1) ((3, plus 2) ∷ (7, plus 3) ∷ []) ≡ (3, plus 2) ∷ (7, plus 3) ∷ (9, plus 1) ∷ []
-  pub at_its_time : put_pair 7 (plus 1) ((3, plus 2) ∷ (7, plus 3) ∷ (8, plus 4) ∷ []) ≡ (3, plus 2) ∷ (7, plus 1) ∷ (8, plus 4) ∷ []
-  pub by_transport : delayed Transport ((3, plus 2) ∷ (7, plus 3) ∷ []) 3 (plus 1) ≡ (3, plus 1) ∷ (7, plus 3) ∷ []
+  pub first : put_pair 2 (plus 1) ((3, plus 2) ∷ (7, plus 3) ∷ [])
+      ≡ (2, plus 1) ∷ (3, plus 2) ∷ (7, plus 3) ∷ []
+  pub between : put_pair 5 (plus 1) ((3, plus 2) ∷ (7, plus 3) ∷ [])
+      ≡ (3, plus 2) ∷ (5, plus 1) ∷ (7, plus 3) ∷ []
+  pub last : put_pair 9 (plus 1) ((3, plus 2) ∷ (7, plus 3) ∷ [])
+      ≡ (3, plus 2) ∷ (7, plus 3) ∷ (9, plus 1) ∷ []
+  pub at_its_time : put_pair 7 (plus 1) ((3, plus 2) ∷ (7, plus 3) ∷ (8, plus 4) ∷ [])
+      ≡ (3, plus 2) ∷ (7, plus 1) ∷ (8, plus 4) ∷ []
+  pub by_transport : delayed Transport ((3, plus 2) ∷ (7, plus 3) ∷ []) 3 (plus 1)
+      ≡ (3, plus 1) ∷ (7, plus 3) ∷ []
   pub by_inertia : delayed Inertial ((3, plus 2) ∷ (7, plus 3) ∷ []) 9 (plus 1) ≡ (9, plus 1) ∷ []

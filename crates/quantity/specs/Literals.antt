@@ -20,7 +20,9 @@ decimals text = after_first (is_byte full_stop) text
 
 -- 1 to so many digits with an optional point and any digits, or a point and at least one digit
 abbrev pub is_number_of : ℕ → Bytes → Bytes → Bool
-is_number_of most whole decimals = all_ascii_digits decimals && (are_digits 1 most whole || (is_empty whole && not (is_empty decimals)))
+is_number_of most whole decimals =
+    all_ascii_digits decimals && (are_digits 1 most whole
+    || (is_empty whole && not (is_empty decimals)))
 
 -- the same of the text's own two parts
 abbrev pub is_number_text : ℕ → Bytes → Bool
@@ -32,7 +34,9 @@ is_unsigned_literal text = is_number_text 10 text
 
 -- the hundred-thousandths of a number: decimals after the fifth are cut
 abbrev pub raw_in : Bytes → ℕ
-raw_in text = number_in (whole_digits text) * 100000 + number_in (take 5 (decimals text ++ replicate 5 digit_zero))
+raw_in text =
+    number_in (whole_digits text) * 100000
+    + number_in (take 5 (decimals text ++ replicate 5 digit_zero))
 
 -- the hundred-thousandths of a number of at most so many digits before its point
 abbrev pub unsigned_raw : ℕ → Bytes → Option ℕ
@@ -40,7 +44,8 @@ unsigned_raw most text = then_some (is_number_text most text) (raw_in text)
 
 -- the same after an optional sign
 abbrev pub signed_raw : ℕ → Bytes → Option ℤ
-signed_raw most text = option_map (λ n. with_sign_of text (pos n)) (unsigned_raw most (without_sign text))
+signed_raw most text =
+    option_map (λ n. with_sign_of text (pos n)) (unsigned_raw most (without_sign text))
 
 -- the hundred-thousandths of a number as people write it, without its sign
 abbrev pub unsigned_literal : Bytes → Option ℤ

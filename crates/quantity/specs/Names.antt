@@ -8,7 +8,9 @@ use Rattle.quantity.specs.Digits.{has_length}
 
 -- a lower-case letter, a digit, _, - or .
 abbrev pub is_of_name : ℕ → Bool
-is_of_name c = is_ascii_lowercase c || is_ascii_digit c || (c == underscore) || (c == minus_sign) || (c == full_stop)
+is_of_name c =
+    is_ascii_lowercase c || is_ascii_digit c || (c == underscore) || (c == minus_sign)
+    || (c == full_stop)
 
 -- 1 to 64 bytes of lower-case letters, digits, _, - and .
 abbrev pub is_name : Bytes → Bool

@@ -17,8 +17,10 @@ pub record ComparisonsAgree : Type 0 where
   pub greater : (a b : Value) → comparison Greater a b ≡ comparison Less b a
   pub less_equal : (a b : Value) → comparison LessEqual a b ≡ negation (comparison Greater a b)
   pub greater_equal : (a b : Value) → comparison GreaterEqual a b ≡ negation (comparison Less a b)
-  pub less_or_equal : (a b : Value) → comparison LessEqual a b ≡ disjunction (comparison Less a b) (comparison Equal a b)
-  pub chain : (a b c : Value) → comparison Less a b ≡ True → comparison Less b c ≡ True → comparison Less a c ≡ True
+  pub less_or_equal : (a b : Value) → comparison LessEqual a b
+      ≡ disjunction (comparison Less a b) (comparison Equal a b)
+  pub chain : (a b c : Value) → comparison Less a b ≡ True → comparison Less b c ≡ True
+      → comparison Less a c ≡ True
   pub same : (a b : Value) → comparison Equal a b ≡ True → a ≡ b
   pub min : (a b : Value) → comparison LessEqual a b ≡ True → least_of a b ≡ a
   pub max : (a b : Value) → comparison LessEqual a b ≡ True → greatest_of a b ≡ b

@@ -19,12 +19,14 @@ IsTime ms = ms ≤ MAX_TIME
 
 -- hours, minutes, seconds and milliseconds in milliseconds; minutes and seconds are below 60
 abbrev pub milliseconds_of : List ℕ → Option ℕ
-milliseconds_of (h ∷ m ∷ s ∷ ms ∷ []) = then_some (nat_lt m 60 && nat_lt s 60) (((h * 60 + m) * 60 + s) * 1000 + ms)
+milliseconds_of (h ∷ m ∷ s ∷ ms ∷ []) =
+    then_some (nat_lt m 60 && nat_lt s 60) (((h * 60 + m) * 60 + s) * 1000 + ms)
 milliseconds_of ns = None
 
 -- the numbers of hours of at most so many digits, of minutes, seconds and milliseconds
 abbrev pub numbers_in : ℕ → Bytes → Bytes → Bytes → Bytes → Option (List ℕ)
-numbers_in most h m s ms = all_there (whole_number most h ∷ whole_number 2 m ∷ whole_number 2 s ∷ whole_number 3 ms ∷ [])
+numbers_in most h m s ms =
+    all_there (whole_number most h ∷ whole_number 2 m ∷ whole_number 2 s ∷ whole_number 3 ms ∷ [])
 
 -- the same of a list of four texts
 abbrev pub parsed_parts : ℕ → List Bytes → Option (List ℕ)
@@ -33,7 +35,8 @@ parsed_parts most texts = None
 
 -- the milliseconds of a time with : between its parts
 abbrev pub milliseconds_in : ℕ → Bytes → Option ℕ
-milliseconds_in most text = option_and_then milliseconds_of (parsed_parts most (slice_split (λ c. c == colon) text))
+milliseconds_in most text =
+    option_and_then milliseconds_of (parsed_parts most (slice_split (λ c. c == colon) text))
 
 -- a time as people write it: hours below 100
 abbrev pub time_in : Bytes → Option ℕ
@@ -46,7 +49,8 @@ hours_text n = if nat_lt n 100 then last_digits 2 n else decimal n
 -- the texts of hours, minutes, seconds and milliseconds
 abbrev pub time_parts : ℕ → List Bytes
 time_parts ms =
-    hours_text (ms / 3600000) ∷ last_digits 2 (ms / 60000 % 60) ∷ last_digits 2 (ms / 1000 % 60) ∷ last_digits 3 (ms % 1000) ∷ []
+    hours_text (ms / 3600000) ∷ last_digits 2 (ms / 60000 % 60) ∷ last_digits 2 (ms / 1000 % 60)
+    ∷ last_digits 3 (ms % 1000) ∷ []
 
 -- a time as logs have it: hh:mm:ss:mmm
 abbrev pub time_text : ℕ → Bytes
@@ -54,7 +58,9 @@ time_text ms = join_with_byte colon (time_parts ms)
 
 -- the time of these parts, where it is one
 abbrev pub time_of : List Bytes → Option ℕ
-time_of parts = option_and_then (number_at_most MAX_TIME) (option_and_then milliseconds_of (parsed_parts 3 parts))
+time_of parts =
+    option_and_then (number_at_most MAX_TIME)
+    (option_and_then milliseconds_of (parsed_parts 3 parts))
 
 -- a time as it is written, and as nothing else is
 abbrev pub read_time : Bytes → Option ℕ

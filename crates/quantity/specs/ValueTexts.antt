@@ -9,7 +9,7 @@ use Rattle.quantity.specs.ByteNames.{minus_sign, space_character}
 use Rattle.quantity.specs.Bytes.{Bytes}
 use Rattle.quantity.specs.Literals.{signed_raw}
 use Rattle.quantity.specs.Digits.{last_digits}
-use Rattle.quantity.specs.Written.{if_written, number_in}
+use Rattle.quantity.specs.Written.{if_written, number_up_to}
 
 -- the size that is shown, in units of the last decimal
 abbrev pub shown_size : ℕ → ℤ → ℕ
@@ -33,7 +33,8 @@ fraction_text (suc k) size = codes "." ++ last_digits (suc k) size
 abbrev pub number_text : ℕ → ℤ → Bytes
 number_text decimals x =
     let size = shown_size decimals x in
-    minus_if (is_below_zero x && nat_lt 0 size) ++ decimal (size / 10 ^ decimals) ++ fraction_text decimals size
+    minus_if (is_below_zero x && nat_lt 0 size) ++ decimal (size / 10 ^ decimals)
+    ++ fraction_text decimals size
 
 -- a value with so many decimals
 abbrev pub decimals_text : ℕ → Value → Bytes
@@ -65,11 +66,15 @@ negative (Some n) = Some (neg_ℤ (pos n))
 -- a whole number with an optional -, whose size is at most this
 abbrev pub signed_in : ℕ → Bytes → Option ℤ
 signed_in most [] = None
-signed_in most (c ∷ cs) = if c == minus_sign then negative (number_in most cs) else positive (number_in most (c ∷ cs))
+signed_in most (c ∷ cs) =
+    if c == minus_sign then negative (number_up_to most cs)
+    else positive (number_up_to most (c ∷ cs))
 
 -- a value that the program writes: a number has at most 11 digits before its point
 abbrev pub guessed_value : Bytes → Option Value
-guessed_value text = if bytes_eq text (codes "?") then Some Undefined else option_and_then bounded (signed_raw 11 text)
+guessed_value text =
+    if bytes_eq text (codes "?") then Some Undefined
+    else option_and_then bounded (signed_raw 11 text)
 
 -- a value as it is written with five decimals, and as nothing else is
 abbrev pub read_text5 : Bytes → Option Value

@@ -20,8 +20,10 @@ abbrev pub number_at_most : ℕ → ℕ → Option ℕ
 number_at_most most n = if nat_le n most then Some n else None
 
 -- the number of at least one digit, where it is at most so large
-abbrev pub number_in : ℕ → Bytes → Option ℕ
-number_in most text = if list_all is_digit text && nat_lt 0 (length text) then number_at_most most (digits_value 10 text) else None
+abbrev pub number_up_to : ℕ → Bytes → Option ℕ
+number_up_to most text =
+    if list_all is_digit text && nat_lt 0 (length text)
+    then number_at_most most (digits_value 10 text) else None
 
 -- what is made of a value, where there is one
 abbrev pub for_some : {A B : Type 0} → Option A → (A → Option B) → Option B

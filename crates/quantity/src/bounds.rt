@@ -12,6 +12,9 @@ pub const MAX_RAW: u64 = 1_000_000_000_000_000;
 /// The most cells of a space.
 pub const MAX_CELLS: u32 = 1_048_576;
 
+/// The most events of a file of events.
+pub const MAX_EVENTS: usize = 1_048_576;
+
 /// The most bytes of a file that is read: of a model, of events, of initial values.
 pub const MAX_FILE_BYTES: usize = 16_777_216;
 

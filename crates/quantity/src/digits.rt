@@ -20,7 +20,8 @@ pub fn whole_number(most: usize, text: &[u8]) -> Option<u64>
     }
 }
 
-/// The number of 1 to `most` decimal digits after an optional sign; None where the text is anything else.
+/// The number of 1 to `most` decimal digits after an optional sign; None where the text is anything
+/// else.
 pub fn signed_number(most: usize, text: &[u8]) -> Option<i64>
     requires { most ≤ 18 }
     ensures value { result ≡ signed_number most text.now }
@@ -85,7 +86,8 @@ pub(crate) fn number_in(digits: &[u8]) -> u64
     number
 }
 
-/// What stands before the first such byte, and what stands after it: all and nothing where there is none.
+/// What stands before the first such byte, and what stands after it: all and nothing where there is
+/// none.
 pub fn cut_at(byte: u8, text: &[u8]) -> (&[u8], &[u8])
     ensures before { result.0.now ≡ before_first (is_byte byte) text.now }
     ensures after { result.1.now ≡ after_first (is_byte byte) text.now }

@@ -9,7 +9,8 @@ pub fn truth_tables()
     ensures { TablesAsSaid }
 {}
 
-/// The order of operands doesn't matter for `and`, `or` and `xor`, nor their grouping for `and` and `or`; `not` exchanges these two.
+/// The order of operands doesn't matter for `and`, `or` and `xor`, nor their grouping for `and` and
+/// `or`; `not` exchanges these two.
 pub fn logic()
     ensures { LogicLaws }
 {}
@@ -39,7 +40,8 @@ pub fn nothing_else_is_read()
     ensures { ReadsNothingElse }
 {}
 
-/// Sums, products, functions and comparisons that compute: halves, bounds, numbers below zero and `?`.
+/// Sums, products, functions and comparisons that compute: halves, bounds, numbers below zero and
+/// `?`.
 pub fn arithmetic_examples()
     ensures sums { SumsAsSaid }
     ensures products { ProductsAsSaid }
@@ -56,7 +58,8 @@ pub fn text_examples()
     ensures names { NamesAsSaid }
 {}
 
-/// Pairs that are put into a delay list by their times, and results that wait by transport and by inertia.
+/// Pairs that are put into a delay list by their times, and results that wait by transport and by
+/// inertia.
 pub fn delay_list_examples()
     ensures { PairsArePut }
 {}

@@ -15,7 +15,9 @@ pub mod time;
 pub mod truth;
 pub mod value;
 
-pub use bounds::{MAX_CELLS, MAX_DELAY, MAX_FILE_BYTES, MAX_LOG_BYTES, MAX_RAW, MAX_TIME};
+pub use bounds::{
+    MAX_CELLS, MAX_DELAY, MAX_EVENTS, MAX_FILE_BYTES, MAX_LOG_BYTES, MAX_RAW, MAX_TIME,
+};
 pub use delay::DelayKind;
 pub use memory::OutOfMemory;
 pub use name::{Name, NameRefusal, Text};
@@ -24,6 +26,3 @@ pub use raw::Raw;
 pub use time::Time;
 pub use truth::Tri;
 pub use value::{Compare, Overflow, Value};
-
-#[cfg(test)]
-mod tests;

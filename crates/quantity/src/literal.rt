@@ -38,7 +38,8 @@ pub(crate) fn unsigned_raw(most: usize, text: &[u8]) -> Option<u64>
 
 fn is_number(most: usize, whole: &[u8], decimals: &[u8]) -> bool
     ensures value { result ≡ is_number_of most whole.now decimals.now }
-    ensures digits { IsTrue result → IsTrue (all_ascii_digits whole.now) × IsTrue (all_ascii_digits decimals.now) }
+    ensures digits { IsTrue result → IsTrue (all_ascii_digits whole.now)
+        × IsTrue (all_ascii_digits decimals.now) }
     ensures short { IsTrue result → length whole.now ≤ most }
 {
     all_are_digits(decimals)

@@ -8,18 +8,18 @@ use Rattle.std.specs.Cmp.{IsEquivalence}
 use Rattle.std.proofs.lemmas.Slice.Eq.{bytes_eq-Decides}
 use Rattle.std.proofs.lemmas.List.Folds.{list_any-append}
 use Rattle.std.proofs.lemmas.Map.Views.{list_any-from_Contains, Contains-from_any}
-use Rattle.room_edge.specs.Outside.{Folder, with_file, with_more}
+use Rattle.room_edge.specs.Outside.{Files, with_file, with_more}
 use Rattle.room_edge.specs.Folder.{Lists}
 
-pub lists-nothing : (g : Folder) → g ≡ (λ _. None) → Lists g []
-lists-nothing g is q = ap (λ (h : Folder). is_some (h q)) is
+pub lists-nothing : (g : Files) → g ≡ (λ _. None) → Lists g []
+lists-nothing g is q = ap (λ (h : Files). is_some (h q)) is
 
-pub lists-same : (f g : Folder) (names more : List (List ℕ)) → g ≡ f → more ≡ names → Lists f names → Lists g more
-lists-same f g names more is same before q = ap (λ (h : Folder). is_some (h q)) is ∙ before q ∙ ap (list_any (λ n. bytes_eq n q)) (sym same)
+pub lists-same : (f g : Files) (names more : List (List ℕ)) → g ≡ f → more ≡ names → Lists f names → Lists g more
+lists-same f g names more is same before q = ap (λ (h : Files). is_some (h q)) is ∙ before q ∙ ap (list_any (λ n. bytes_eq n q)) (sym same)
 
-pub lists-file : (f g : Folder) (names more : List (List ℕ)) (name bytes : List ℕ) → g ≡ with_file name bytes f → more ≡ names ++ name ∷ [] → Lists f names → Lists g more
+pub lists-file : (f g : Files) (names more : List (List ℕ)) (name bytes : List ℕ) → g ≡ with_file name bytes f → more ≡ names ++ name ∷ [] → Lists f names → Lists g more
 lists-file f g names more name bytes is pushed before q =
-    ap (λ (h : Folder). is_some (h q)) is
+    ap (λ (h : Files). is_some (h q)) is
     ∙ at (bytes_eq name q) (f q) (list_any (λ n. bytes_eq n q) names) (before q)
     ∙ sym (list_any-append (λ n. bytes_eq n q) names (name ∷ []))
     ∙ ap (list_any (λ n. bytes_eq n q)) (sym pushed)
@@ -30,8 +30,8 @@ lists-file f g names more name bytes is pushed before q =
     at false o true h = h
     at false o false h = h
 
-pub lists-more : (f g : Folder) (names : List (List ℕ)) (name bytes : List ℕ) → g ≡ with_more name bytes f → Lists f names → Lists g names
-lists-more f g names name bytes is before q = ap (λ (h : Folder). is_some (h q)) is ∙ at (bytes_eq name q) (f q) ∙ before q
+pub lists-more : (f g : Files) (names : List (List ℕ)) (name bytes : List ℕ) → g ≡ with_more name bytes f → Lists f names → Lists g names
+lists-more f g names name bytes is before q = ap (λ (h : Files). is_some (h q)) is ∙ at (bytes_eq name q) (f q) ∙ before q
   where
     at : (hit : Bool) (o : Option (List ℕ)) → is_some (if hit then option_map (λ old. old ++ bytes) o else o) ≡ is_some o
     at true None = refl
@@ -39,7 +39,7 @@ lists-more f g names name bytes is before q = ap (λ (h : Folder). is_some (h q)
     at false o = refl
 
 -- the same of a call that may have failed
-pub lists-grown : {T E : Type 0} (r : Result T E) (f g : Folder) (names : List (List ℕ)) (name bytes : List ℕ) → OnOk r (g ≡ with_more name bytes f) → OnErr r (g ≡ f) → Lists f names → Lists g names
+pub lists-grown : {T E : Type 0} (r : Result T E) (f g : Files) (names : List (List ℕ)) (name bytes : List ℕ) → OnOk r (g ≡ with_more name bytes f) → OnErr r (g ≡ f) → Lists f names → Lists g names
 lists-grown (Ok _) f g names name bytes is same before = lists-more f g names name bytes is before
 lists-grown (Err _) f g names name bytes is same before = lists-same f g names names same refl before
 
@@ -68,5 +68,5 @@ listed-true names q = Contains-from_any {eq = λ (x y : List ℕ). bytes_eq y x}
 pub listed-of : (names : List (List ℕ)) (q : List ℕ) → Contains names q → list_any (λ n. bytes_eq n q) names ≡ true
 listed-of names q = list_any-from_Contains {eq = λ (x y : List ℕ). bytes_eq y x} flipped-equivalence q names
 
-pub some_listed : (f : Folder) (names : List (List ℕ)) (q : List ℕ) (b : Bool) → is_some (f q) ≡ b → Lists f names → IsTrue b ↔ Contains names q
+pub some_listed : (f : Files) (names : List (List ℕ)) (q : List ℕ) (b : Bool) → is_some (f q) ≡ b → Lists f names → IsTrue b ↔ Contains names q
 some_listed f names q b is lists = (λ h. listed-true names q (sym (lists q) ∙ is ∙ h), λ h. sym is ∙ lists q ∙ listed-of names q h)

@@ -2,13 +2,13 @@
 use Rattle.std.proofs.Common.{◌≡◌, ℕ, ◌≤◌, ◌+◌, length, List, ◌++◌, take, drop, Option, Some, None, ◌∙◌, ap, sym, subst}
 use Rattle.std.specs.Prelude.{IfSome}
 use Rattle.std.proofs.Math.Seq.{drop-append-add}
-use Rattle.room_edge.specs.Outside.{Folder}
+use Rattle.room_edge.specs.Outside.{Files}
 
 abbrev Read : List ℕ → ℕ → Option (List ℕ) → Option (List ℕ) → Type 0
 Read into n now was = IfSome was (λ rest. (n ≤ length rest) × (take n into ≡ take n rest) × (now ≡ Some (drop n rest)))
 
 -- n more bytes were taken, of a file whose first bytes were taken before
-pub left_after : (files : Option Folder) (was now : Option (List ℕ)) (name taken into : List ℕ) (n count : ℕ)
+pub left_after : (files : Option Files) (was now : Option (List ℕ)) (name taken into : List ℕ) (n count : ℕ)
     → count ≡ length taken
     → IfSome files (λ files. (rest : List ℕ) × (was ≡ Some rest) × (files name ≡ Some (taken ++ rest)))
     → IfSome was (λ rest. (n ≤ length rest) × (take n into ≡ take n rest) × (now ≡ Some (drop n rest)))

@@ -48,12 +48,14 @@ abbrev pub read_as : Result ℕ Error → Result ℕ ReadFailed
 read_as (Ok n) = Ok n
 read_as (Err error) = Err (record {})
 
--- so many bytes were taken of a piece of this length, or the write failed: it took nothing, where there was something
+-- so many bytes were taken of a piece of this length, or the write failed: it took nothing, where
+-- there was something
 abbrev pub written_as : Result ℕ Error → ℕ → Result ℕ WriteError
 written_as (Ok n) length = if nat_lt 0 n || (length == 0) then Ok n else Err write_error.Failed
 written_as (Err error) length = Err write_error.Failed
 
--- all of a text was taken, or the write failed; bytes that are no text are never given to the system
+-- all of a text was taken, or the write failed; bytes that are no text are never given to the
+-- system
 abbrev pub complained_as : {T : Type 0} → Option (Result T Error) → ℕ → Result ℕ WriteError
 complained_as (Some (Ok _)) length = Ok length
 complained_as (Some (Err error)) length = Err write_error.Failed

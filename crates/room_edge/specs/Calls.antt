@@ -30,10 +30,12 @@ CountsWriteFault (Err write_error.Failed) old new = Rose old new
 CountsWriteFault (Err write_error.Memory) old new = new ≡ old
 
 -- a call that opens a file
-pub record Opens {T : Type 0} (result : Result T OpenError) (name : List ℕ) (old new : Outside) : Type 0 where
+pub record Opens {T : Type 0} (result : Result T OpenError) (name : List ℕ)
+    (old new : Outside) : Type 0 where
   pub opened : OnOk result (IsTrue new.opened)
   -- where the files are told, one of that name stands there, and all of it is to be read
-  pub rest : OnOk result (IfSome old.files (λ files. IsSomeAnd (files name) (λ bytes. new.rest ≡ Some bytes)))
+  pub rest : OnOk result (IfSome old.files
+      (λ files. IsSomeAnd (files name) (λ bytes. new.rest ≡ Some bytes)))
   pub err : OnErr result ((new.opened ≡ old.opened) × (new.rest ≡ old.rest))
   -- where the files are told, none of that name stands there
   pub absent : IsErrOf result open_error.Missing → IfSome old.files (λ files. IsNone (files name))
@@ -48,7 +50,8 @@ pub record Opens {T : Type 0} (result : Result T OpenError) (name : List ℕ) (o
 -- a call that takes bytes from the front of what is left of the input
 pub record Reads (result : Result ℕ ReadFailed) (into : List ℕ) (old new : Outside) : Type 0 where
   pub bound : IfOk result (λ n. n ≤ length into)
-  pub bytes : IfOk result (λ n. IfSome old.rest (λ rest. (n ≤ length rest) × (take n into ≡ take n rest) × (new.rest ≡ Some (drop n rest))))
+  pub bytes : IfOk result (λ n. IfSome old.rest
+      (λ rest. (n ≤ length rest) × (take n into ≡ take n rest) × (new.rest ≡ Some (drop n rest))))
   -- none is taken just at the end
   pub end : IfOk result (λ n. IfSome old.rest (λ rest. (n ≡ 0) ↔ (rest ≡ [])))
   pub err : OnErr result (new.rest ≡ old.rest)
@@ -58,7 +61,8 @@ pub record Reads (result : Result ℕ ReadFailed) (into : List ℕ) (old new : O
   pub only : OnlyRest old new
 
 -- a call that makes a file, and empties one that stands there
-pub record Creates {T : Type 0} (result : Result T WriteError) (name : List ℕ) (old new : Outside) : Type 0 where
+pub record Creates {T : Type 0} (result : Result T WriteError) (name : List ℕ)
+    (old new : Outside) : Type 0 where
   pub created : OnOk result (new.created ≡ old.created ++ name ∷ [])
   pub made : OnOk result (new.made ≡ puts old.made name [])
   pub err : OnErr result ((new.created ≡ old.created) × (new.made ≡ old.made))
@@ -72,7 +76,8 @@ pub record Takes (result : Result ℕ WriteError) (bytes : List ℕ) : Type 0 wh
   pub some : IfOk result (λ n. 0 < length bytes → 0 < n)
 
 -- a call that adds the front of a piece to a file
-pub record Appends (result : Result ℕ WriteError) (name bytes : List ℕ) (old new : Outside) : Type 0 where
+pub record Appends (result : Result ℕ WriteError) (name bytes : List ℕ)
+    (old new : Outside) : Type 0 where
   pub takes : Takes result bytes
   pub made : IfOk result (λ n. new.made ≡ adds old.made name (take n bytes))
   pub err : OnErr result (new.made ≡ old.made)
@@ -91,7 +96,8 @@ pub record Shows (result : Result ℕ WriteError) (bytes : List ℕ) (old new : 
   pub only : OnlyShown old new
 
 -- a call that adds the front of a piece to the second stream: a fault of it is one of writing too
-pub record Complains (result : Result ℕ WriteError) (bytes : List ℕ) (old new : Outside) : Type 0 where
+pub record Complains (result : Result ℕ WriteError) (bytes : List ℕ)
+    (old new : Outside) : Type 0 where
   pub takes : Takes result bytes
   pub complained : IfOk result (λ n. new.complained ≡ streams old.complained (take n bytes))
   pub err : OnErr result (new.complained ≡ old.complained)

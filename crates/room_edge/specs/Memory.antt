@@ -28,7 +28,8 @@ calls_made r = r.calls
 abbrev pub IsDue : MemoryRoom → RoomCall → Type 0
 IsDue r call = Any (λ f. (f.0 ≡ call) × (f.1 ≡ raised (number_of r.calls call))) r.fails.items
 
--- the room's size of pieces and its list of failing calls stay, and one call of that kind is counted
+-- the room's size of pieces and its list of failing calls stay, and one call of that kind is
+-- counted
 pub record Counts (call : RoomCall) (old new : MemoryRoom) : Type 0 where
   pub piece : memory_piece new ≡ memory_piece old
   pub failing : failing_calls new ≡ failing_calls old

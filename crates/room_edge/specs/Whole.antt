@@ -1,7 +1,7 @@
 -- What whole reads and writes give.
 use Rattle.std.specs.Prelude.{◌≡◌, ℕ, ◌+◌, ◌≤◌, List, [], ◌∷◌, ◌++◌, ◌⊎◌, length, drop, Option, Some, None, Result, Ok, Err, Vec, IsTrue, ⊤}
 use Rattle.std.specs.declared.alloc.Global.{Global}
-use Rattle.room_edge.specs.Outside.{Outside, Folder}
+use Rattle.room_edge.specs.Outside.{Outside, Files}
 use Rattle.room_edge.specs.Faults.{Rose}
 use Rattle.room_edge.specs.declared.whole.ReadWhole.{ReadWhole}
 use Rattle.room_edge.specs.declared.whole.ReadWhole.TheVariants as read
@@ -9,17 +9,21 @@ use Rattle.room_edge.specs.declared.whole.WriteAll.{WriteAll}
 use Rattle.room_edge.specs.declared.whole.WriteAll.TheVariants as write
 
 -- what is read of a file of a told folder: of one past the limit just one byte more than that
-abbrev pub IsReadOf : Folder → List ℕ → ℕ → Result (Vec ℕ Global) ReadWhole → Type 0
-IsReadOf files name limit (Ok bytes) = (files name ≡ Some bytes.items) × (length bytes.items ≤ limit)
+abbrev pub IsReadOf : Files → List ℕ → ℕ → Result (Vec ℕ Global) ReadWhole → Type 0
+IsReadOf files name limit (Ok bytes) =
+    (files name ≡ Some bytes.items) × (length bytes.items ≤ limit)
 IsReadOf files name limit (Err read.Missing) = files name ≡ None
-IsReadOf files name limit (Err (read.TooLong n)) = (bytes : List ℕ) × (files name ≡ Some bytes) × (n ≡ limit + 1) × (n ≤ length bytes)
+IsReadOf files name limit (Err (read.TooLong n)) =
+    (bytes : List ℕ) × (files name ≡ Some bytes) × (n ≡ limit + 1) × (n ≤ length bytes)
 IsReadOf files name limit (Err read.ReadFault) = ⊤
 IsReadOf files name limit (Err read.Memory) = ⊤
 
--- what is left of the input: nothing after a whole file, and all but n bytes of one that is too long
-abbrev pub IsLeftOf : {T : Type 0} → Folder → List ℕ → Result T ReadWhole → Option (List ℕ) → Type 0
+-- what is left of the input: nothing after a whole file, and all but n bytes of one that is too
+-- long
+abbrev pub IsLeftOf : {T : Type 0} → Files → List ℕ → Result T ReadWhole → Option (List ℕ) → Type 0
 IsLeftOf files name (Ok _) rest = rest ≡ Some []
-IsLeftOf files name (Err (read.TooLong n)) rest = (bytes : List ℕ) × (files name ≡ Some bytes) × (rest ≡ Some (drop n bytes))
+IsLeftOf files name (Err (read.TooLong n)) rest =
+    (bytes : List ℕ) × (files name ≡ Some bytes) × (rest ≡ Some (drop n bytes))
 IsLeftOf files name (Err read.Missing) rest = ⊤
 IsLeftOf files name (Err read.ReadFault) rest = ⊤
 IsLeftOf files name (Err read.Memory) rest = ⊤
@@ -39,7 +43,8 @@ written (Err (write.WriteFault n)) all = n
 written (Err (write.Memory n)) all = n
 
 -- the name was looked for, or memory ran out before
-abbrev pub Tries : {T : Type 0} → Result T ReadWhole → List ℕ → List (List ℕ) → List (List ℕ) → Type 0
+abbrev pub Tries : {T : Type 0} → Result T ReadWhole → List ℕ → List (List ℕ) → List (List ℕ)
+    → Type 0
 Tries (Ok _) name old new = new ≡ old ++ name ∷ []
 Tries (Err read.Missing) name old new = new ≡ old ++ name ∷ []
 Tries (Err read.ReadFault) name old new = new ≡ old ++ name ∷ []

@@ -28,7 +28,8 @@ fn file_of<F: Drop>(answer: io::Result<F>) -> Result<F, OpenError>
 
 // Adds a name to those asked for.
 fn note(alloc: Global, tried: &mut Vec<String>, name: &str) -> Result<(), OpenError>
-    ensures ok { OnOk result (map string_bytes tried.new.items ≡ map string_bytes tried.old.items ++ name.now ∷ []) }
+    ensures ok { OnOk result (map string_bytes tried.new.items
+        ≡ map string_bytes tried.old.items ++ name.now ∷ []) }
     ensures memory { OnErr result (result ≡ Err OpenError.Memory) }
     ensures err { OnErr result (tried.new.items ≡ tried.old.items) }
 {
@@ -53,7 +54,9 @@ pub(crate) fn after_open<F: Drop>(
     ensures input { input.new ≡ input_after result answer input.old }
     ensures misses { tally.new.misses ≡ misses_after result tally.old.misses }
     ensures faults { tally.new.read_faults ≡ open_faults_after result tally.old.read_faults }
-    ensures room { (created : List (List ℕ)) → Opens result name.now (real_outside tally.old created (is_some input.old)) (real_outside tally.new created (is_some input.new)) }
+    ensures room { (created : List (List ℕ))
+        → Opens result name.now (real_outside tally.old created (is_some input.old))
+        (real_outside tally.new created (is_some input.new)) }
 {
     match file_of(answer) {
         Ok(file) => {
@@ -83,8 +86,11 @@ pub(crate) fn after_read(
 ) -> Result<usize, ReadFailed>
     requires { IfOk answer (λ n. n ≤ most) }
     ensures says { result ≡ read_as answer }
-    ensures tally { tally.new ≡ record tally.old { read_faults = read_faults_after result tally.old.read_faults } }
-    ensures room { (into : List ℕ) (created : List (List ℕ)) (opened : Bool) → length into ≡ most → Reads result into (real_outside tally.old created opened) (real_outside tally.new created opened) }
+    ensures tally { tally.new
+        ≡ record tally.old { read_faults = read_faults_after result tally.old.read_faults } }
+    ensures room { (into : List ℕ) (created : List (List ℕ)) (opened : Bool) → length into ≡ most
+        → Reads result into (real_outside tally.old created opened)
+        (real_outside tally.new created opened) }
 {
     match answer {
         Ok(n) => Ok(n),
@@ -123,8 +129,11 @@ pub(crate) fn after_create<F: Drop>(
     tally: &mut Tally,
 ) -> Result<(), WriteError>
     ensures says { result ≢ Err WriteError.Memory → CreatesAs answer result }
-    ensures tally { tally.new ≡ record tally.old { write_faults = write_faults_after result tally.old.write_faults } }
-    ensures room { (opened : Bool) → Creates result (string_bytes name) (real_outside tally.old (map (λ m. string_bytes m.name) made.old.items) opened) (real_outside tally.new (map (λ m. string_bytes m.name) made.new.items) opened) }
+    ensures tally { tally.new
+        ≡ record tally.old { write_faults = write_faults_after result tally.old.write_faults } }
+    ensures room { (opened : Bool) → Creates result (string_bytes name)
+        (real_outside tally.old (map (λ m. string_bytes m.name) made.old.items) opened)
+        (real_outside tally.new (map (λ m. string_bytes m.name) made.new.items) opened) }
 {
     match file_of(answer) {
         Ok(file) => match made.push(MadeFile { name, file }) {
@@ -148,9 +157,14 @@ pub(crate) fn after_write(
 ) -> Result<usize, WriteError>
     requires { IfOk answer (λ n. n ≤ most) }
     ensures says { result ≡ written_as answer most }
-    ensures tally { tally.new ≡ record tally.old { write_faults = write_faults_after result tally.old.write_faults } }
-    ensures appends { (name bytes : List ℕ) (created : List (List ℕ)) (opened : Bool) → length bytes ≡ most → Appends result name bytes (real_outside tally.old created opened) (real_outside tally.new created opened) }
-    ensures shows { (bytes : List ℕ) (created : List (List ℕ)) (opened : Bool) → length bytes ≡ most → Shows result bytes (real_outside tally.old created opened) (real_outside tally.new created opened) }
+    ensures tally { tally.new
+        ≡ record tally.old { write_faults = write_faults_after result tally.old.write_faults } }
+    ensures appends { (name bytes : List ℕ) (created : List (List ℕ)) (opened : Bool)
+        → length bytes ≡ most → Appends result name bytes (real_outside tally.old created opened)
+        (real_outside tally.new created opened) }
+    ensures shows { (bytes : List ℕ) (created : List (List ℕ)) (opened : Bool) → length bytes ≡ most
+        → Shows result bytes (real_outside tally.old created opened)
+        (real_outside tally.new created opened) }
 {
     match answer {
         Ok(n) if n > 0 || most == 0 => Ok(n),
@@ -170,7 +184,9 @@ pub(crate) fn after_complaint(
 ) -> Result<usize, WriteError>
     ensures says { result ≡ complained_as answer most }
     ensures tally { tally.new ≡ record tally.old { write_faults = write_faults_after result tally.old.write_faults; complain_faults = write_faults_after result tally.old.complain_faults } }
-    ensures room { (bytes : List ℕ) (created : List (List ℕ)) (opened : Bool) → length bytes ≡ most → Complains result bytes (real_outside tally.old created opened) (real_outside tally.new created opened) }
+    ensures room { (bytes : List ℕ) (created : List (List ℕ)) (opened : Bool) → length bytes ≡ most
+        → Complains result bytes (real_outside tally.old created opened)
+        (real_outside tally.new created opened) }
 {
     match answer {
         Some(Ok(())) => Ok(most),

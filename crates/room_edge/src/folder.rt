@@ -30,7 +30,8 @@ fn write_to<F: Write + Drop>(
     name: &str,
     bytes: &[u8],
 ) -> io::Result<usize>
-    ensures names { map (λ m. string_bytes m.name) made.new.items ≡ map (λ m. string_bytes m.name) made.old.items }
+    ensures names { map (λ m. string_bytes m.name) made.new.items
+        ≡ map (λ m. string_bytes m.name) made.old.items }
     ensures bound { IfOk result (λ n. n ≤ length bytes.now) }
 {
     let mut at = made.len();

@@ -1,6 +1,6 @@
 //! Laws of rooms: pieces add up, and over a room that never fails no fault is answered.
 ghost use Rattle.std.specs.Prelude.{◌≡◌, ℕ, List, ◌++◌, Option, Contains, IsErrOf, IfSome};
-ghost use Rattle.room_edge.specs.Outside.{Folder, puts, adds, streams};
+ghost use Rattle.room_edge.specs.Outside.{Files, puts, adds, streams};
 ghost use Rattle.room_edge.specs.Faults.{Rose};
 ghost use Rattle.room_edge.specs.Sure.{sure_outside};
 ghost use Rattle.room_edge.specs.Whole.{IsReadOf};
@@ -11,16 +11,22 @@ use std::alloc::Global;
 
 /// Two pieces, one after another, are one piece; a made file has just what was added to it.
 pub fn pieces_add_up()
-    ensures files { (made : Option Folder) (name a b : List ℕ) → adds (adds made name a) name b ≡ adds made name (a ++ b) }
-    ensures made { (made : Option Folder) (name a b : List ℕ) → adds (puts made name a) name b ≡ puts made name (a ++ b) }
-    ensures streams { (old : Option (List ℕ)) (a b : List ℕ) → streams (streams old a) b ≡ streams old (a ++ b) }
+    ensures files { (made : Option Files) (name a b : List ℕ)
+        → adds (adds made name a) name b ≡ adds made name (a ++ b) }
+    ensures made { (made : Option Files) (name a b : List ℕ)
+        → adds (puts made name a) name b ≡ puts made name (a ++ b) }
+    ensures streams { (old : Option (List ℕ)) (a b : List ℕ)
+        → streams (streams old a) b ≡ streams old (a ++ b) }
 {}
 
 /// No count of faults of a room that never fails rises.
 pub fn sure_rooms_count_no_fault()
-    ensures reads { (old new : SureRoom) → ¬ Rose (sure_outside old).read_faults (sure_outside new).read_faults }
-    ensures writes { (old new : SureRoom) → ¬ Rose (sure_outside old).write_faults (sure_outside new).write_faults }
-    ensures complaints { (old new : SureRoom) → ¬ Rose (sure_outside old).complain_faults (sure_outside new).complain_faults }
+    ensures reads { (old new : SureRoom)
+        → ¬ Rose (sure_outside old).read_faults (sure_outside new).read_faults }
+    ensures writes { (old new : SureRoom)
+        → ¬ Rose (sure_outside old).write_faults (sure_outside new).write_faults }
+    ensures complaints { (old new : SureRoom)
+        → ¬ Rose (sure_outside old).complain_faults (sure_outside new).complain_faults }
 {}
 
 /// Over such a room the answer of a read is the file's, or memory ran out.
@@ -30,7 +36,8 @@ pub fn sure_read(
     name: &str,
     limit: u32,
 ) -> Result<Vec<u8>, ReadWhole>
-    ensures bytes { IfSome (sure_outside room.old).files (λ files. IsReadOf files name.now limit result) }
+    ensures bytes { IfSome (sure_outside room.old).files
+        (λ files. IsReadOf files name.now limit result) }
     ensures fault { ¬ IsErrOf result ReadWhole.ReadFault }
 {
     read_whole(alloc, room, name, limit)

@@ -91,7 +91,8 @@ impl Calls {
 
     // Counts a call, and says whether it is one of those that are to fail.
     fn fails(&mut self, failing: &[(RoomCall, u64)], call: RoomCall) -> bool
-        ensures due { IsTrue result ↔ Any (λ f. (f.0 ≡ call) × (f.1 ≡ number_of self.new call)) failing.now }
+        ensures due { IsTrue result ↔ Any (λ f. (f.0 ≡ call)
+            × (f.1 ≡ number_of self.new call)) failing.now }
         ensures counted { self.new ≡ with_call self.old call }
     {
         let number = self.count(call);
@@ -122,18 +123,26 @@ impl MemoryRoom {
 
     /// Puts a file into the folder, in the place of one of that name.
     pub fn put_file(&mut self, name: &str, bytes: &[u8]) -> Result<(), OutOfMemory>
-        ensures ok { OnOk result (memory_outside self.new ≡ record (memory_outside self.old) { files = puts (memory_outside self.old).files name.now bytes.now }) }
+        ensures ok { OnOk result (memory_outside self.new
+            ≡ record (memory_outside self.old) {
+              files = puts (memory_outside self.old).files name.now bytes.now;
+            }) }
         ensures err { OnErr result (memory_outside self.new ≡ memory_outside self.old) }
-        ensures plan { (memory_piece self.new ≡ memory_piece self.old) × (failing_calls self.new ≡ failing_calls self.old) × (calls_made self.new ≡ calls_made self.old) }
+        ensures plan { (memory_piece self.new ≡ memory_piece self.old)
+            × (failing_calls self.new ≡ failing_calls self.old)
+            × (calls_made self.new ≡ calls_made self.old) }
     {
         self.sure.put_file(name, bytes)
     }
 
     /// Makes the call of that kind and number, counted from 1 since the room was made, fail.
     pub fn fail(&mut self, call: RoomCall, number: u64) -> Result<(), OutOfMemory>
-        ensures ok { OnOk result (failing_calls self.new ≡ failing_calls self.old ++ (call, number) ∷ []) }
+        ensures ok { OnOk result (failing_calls self.new
+            ≡ failing_calls self.old ++ (call, number) ∷ []) }
         ensures err { OnErr result (failing_calls self.new ≡ failing_calls self.old) }
-        ensures others { (memory_piece self.new ≡ memory_piece self.old) × (calls_made self.new ≡ calls_made self.old) × (memory_outside self.new ≡ memory_outside self.old) }
+        ensures others { (memory_piece self.new ≡ memory_piece self.old)
+            × (calls_made self.new ≡ calls_made self.old)
+            × (memory_outside self.new ≡ memory_outside self.old) }
     {
         match self.fails.push((call, number)) {
             Ok(()) => Ok(()),
@@ -144,7 +153,8 @@ impl MemoryRoom {
     /// The bytes of a file that was created in the room, and none where no such name was.
     pub fn made(&self, name: &str) -> Option<&[u8]>
         ensures some { IsSome result ↔ Contains (memory_outside self.now).created name.now }
-        ensures bytes { IfSome (memory_outside self.now).made (λ made. option_copied result ≡ made name.now) }
+        ensures bytes { IfSome (memory_outside self.now).made
+            (λ made. option_copied result ≡ made name.now) }
     {
         self.sure.made(name)
     }
@@ -171,7 +181,8 @@ impl Room for MemoryRoom {
 
     fn open_input(&mut self, name: &str) -> Result<(), OpenError>
         ensures room { Opens result name.now (memory_outside self.old) (memory_outside self.new) }
-        ensures due { IsDue self.old RoomCall.Open → IsErrOf result OpenError.Failed ⊎ IsErrOf result OpenError.Memory }
+        ensures due { IsDue self.old RoomCall.Open
+            → IsErrOf result OpenError.Failed ⊎ IsErrOf result OpenError.Memory }
         ensures failed { IsErrOf result OpenError.Failed → IsDue self.old RoomCall.Open }
         ensures counted { Counts RoomCall.Open self.old self.new }
     {
@@ -189,7 +200,9 @@ impl Room for MemoryRoom {
         requires opened { IsTrue (memory_outside self.old).opened }
         requires room { 0 < length into.old }
         ensures room { Reads result into.new (memory_outside self.old) (memory_outside self.new) }
-        ensures most { IfSome (memory_outside self.old).rest (λ rest. IfOk result (λ n. n ≡ min (min (length rest) (length into.old)) (memory_piece self.old))) }
+        ensures most { IfSome (memory_outside self.old).rest
+            (λ rest. IfOk result (λ n. n ≡ min (min (length rest) (length into.old))
+            (memory_piece self.old))) }
         ensures failed { IsErr result ↔ IsDue self.old RoomCall.Read }
         ensures counted { Counts RoomCall.Read self.old self.new }
     {
@@ -214,7 +227,8 @@ impl Room for MemoryRoom {
 
     fn append(&mut self, name: &str, bytes: &[u8]) -> Result<usize, WriteError>
         requires { Contains (memory_outside self.old).created name.now }
-        ensures room { Appends result name.now bytes.now (memory_outside self.old) (memory_outside self.new) }
+        ensures room { Appends result name.now bytes.now (memory_outside self.old)
+            (memory_outside self.new) }
         ensures most { IfOk result (λ n. n ≡ min (length bytes.now) (memory_piece self.old)) }
         ensures failed { IsErrOf result WriteError.Failed ↔ IsDue self.old RoomCall.Append }
         ensures counted { Counts RoomCall.Append self.old self.new }
@@ -240,7 +254,8 @@ impl Room for MemoryRoom {
     }
 
     fn complain(&mut self, bytes: &[u8]) -> Result<usize, WriteError>
-        ensures room { Complains result bytes.now (memory_outside self.old) (memory_outside self.new) }
+        ensures room { Complains result bytes.now (memory_outside self.old)
+            (memory_outside self.new) }
         ensures most { IfOk result (λ n. n ≡ min (length bytes.now) (memory_piece self.old)) }
         ensures failed { IsErrOf result WriteError.Failed ↔ IsDue self.old RoomCall.Complain }
         ensures counted { Counts RoomCall.Complain self.old self.new }

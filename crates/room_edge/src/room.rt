@@ -44,7 +44,8 @@ pub trait Room {
     /// What there is outside, as far as the room tells it.
     ghost outside: { Self → Outside };
 
-    /// Opens a file, in the place of the input before. Where it can't, that input stays open as it was.
+    /// Opens a file, in the place of the input before. Where it can't, that input stays open as it
+    /// was.
     fn open_input(&mut self, name: &str) -> Result<(), OpenError>
         ensures { Opens result name.now (outside self.old) (outside self.new) };
 

@@ -39,7 +39,8 @@ fn put(
     name: &str,
     bytes: &[u8],
 ) -> Result<(), AllocError>
-    ensures ok { OnOk result (folder_of files.new ≡ with_file name.now bytes.now (folder_of files.old)) }
+    ensures ok { OnOk result (folder_of files.new
+        ≡ with_file name.now bytes.now (folder_of files.old)) }
     ensures err { OnErr result (folder_of files.new ≡ folder_of files.old) }
 {
     let key = String::from_str(alloc, name)?;
@@ -52,7 +53,8 @@ fn put(
 
 // Adds bytes to the end of a file, if there is one of that name.
 fn grow(files: &mut BTreeMap<String, Vec<u8>>, name: &str, bytes: &[u8]) -> Result<(), AllocError>
-    ensures ok { OnOk result (folder_of files.new ≡ with_more name.now bytes.now (folder_of files.old)) }
+    ensures ok { OnOk result (folder_of files.new
+        ≡ with_more name.now bytes.now (folder_of files.old)) }
     ensures err { OnErr result (folder_of files.new ≡ folder_of files.old) }
 {
     if let Some(file) = files.get_mut(name) {
@@ -99,7 +101,10 @@ impl SureRoom {
     /// Puts a file into the folder, in the place of one of that name.
     #[tactic(auto, unfolding(crate::specs::Outside::puts))]
     pub fn put_file(&mut self, name: &str, bytes: &[u8]) -> Result<(), OutOfMemory>
-        ensures ok { OnOk result (sure_outside self.new ≡ record (sure_outside self.old) { files = puts (sure_outside self.old).files name.now bytes.now }) }
+        ensures ok { OnOk result (sure_outside self.new
+            ≡ record (sure_outside self.old) {
+              files = puts (sure_outside self.old).files name.now bytes.now;
+            }) }
         ensures err { OnErr result (sure_outside self.new ≡ sure_outside self.old) }
         ensures piece { sure_piece self.new ≡ sure_piece self.old }
     {
@@ -111,7 +116,10 @@ impl SureRoom {
 
     // Adds a name to those that were asked for.
     pub(crate) fn try_name(&mut self, name: &str) -> Result<(), AllocError>
-        ensures ok { OnOk result (sure_outside self.new ≡ record (sure_outside self.old) { tried = (sure_outside self.old).tried ++ name.now ∷ [] }) }
+        ensures ok { OnOk result (sure_outside self.new
+            ≡ record (sure_outside self.old) {
+              tried = (sure_outside self.old).tried ++ name.now ∷ [];
+            }) }
         ensures err { OnErr result (sure_outside self.new ≡ sure_outside self.old) }
         ensures piece { sure_piece self.new ≡ sure_piece self.old }
     {
@@ -121,7 +129,8 @@ impl SureRoom {
     /// The bytes of a file that was created in the room, and none where no such name was.
     pub fn made(&self, name: &str) -> Option<&[u8]>
         ensures some { IsSome result ↔ Contains (sure_outside self.now).created name.now }
-        ensures bytes { IfSome (sure_outside self.now).made (λ made. option_copied result ≡ made name.now) }
+        ensures bytes { IfSome (sure_outside self.now).made
+            (λ made. option_copied result ≡ made name.now) }
     {
         match self.made.get(name) {
             None => None,
@@ -182,7 +191,9 @@ impl Room for SureRoom {
         requires room { 0 < length into.old }
         ensures room { Reads result into.new (sure_outside self.old) (sure_outside self.new) }
         ensures sure { IsOk result }
-        ensures most { IfSome (sure_outside self.old).rest (λ rest. IfOk result (λ n. n ≡ min (min (length rest) (length into.old)) (sure_piece self.old))) }
+        ensures most { IfSome (sure_outside self.old).rest
+            (λ rest. IfOk result (λ n. n ≡ min (min (length rest) (length into.old))
+            (sure_piece self.old))) }
         ensures piece { sure_piece self.new ≡ sure_piece self.old }
     {
         let left = self.input.len() - self.taken;
@@ -211,7 +222,8 @@ impl Room for SureRoom {
 
     fn append(&mut self, name: &str, bytes: &[u8]) -> Result<usize, WriteError>
         requires { Contains (sure_outside self.old).created name.now }
-        ensures room { Appends result name.now bytes.now (sure_outside self.old) (sure_outside self.new) }
+        ensures room { Appends result name.now bytes.now (sure_outside self.old)
+            (sure_outside self.new) }
         ensures most { IfOk result (λ n. n ≡ min (length bytes.now) (sure_piece self.old)) }
         ensures piece { sure_piece self.new ≡ sure_piece self.old }
     {

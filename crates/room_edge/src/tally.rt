@@ -22,7 +22,8 @@ pub(crate) struct MadeFile<F: Drop> {
 
 /// Nothing was asked for, and nothing went wrong.
 pub(crate) fn no_tally(alloc: Global) -> Tally
-    ensures { (result.read_faults ≡ 0) × (result.write_faults ≡ 0) × (result.complain_faults ≡ 0) × (result.misses ≡ 0) × (result.tried.items ≡ []) }
+    ensures { (result.read_faults ≡ 0) × (result.write_faults ≡ 0) × (result.complain_faults ≡ 0)
+        × (result.misses ≡ 0) × (result.tried.items ≡ []) }
 {
     Tally {
         read_faults: 0,

@@ -39,7 +39,8 @@ fn zeros(alloc: Global, count: usize) -> Result<Vec<u8>, AllocError>
     vec![in alloc; 0u8; count]
 }
 
-// How many bytes are asked for at most, after so many: one past the limit tells that there are more.
+// How many bytes are asked for at most, after so many: one past the limit tells that there are
+// more.
 fn left_to_ask(limit: u32, read: usize) -> usize
     requires { read ≤ limit }
     ensures { read + result ≡ limit + 1 }
@@ -60,17 +61,23 @@ pub fn read_whole<R: Room>(
     name: &str,
     limit: u32,
 ) -> Result<Vec<u8>, ReadWhole>
-    ensures bytes { IfSome (R.outside room.old).files (λ files. IsReadOf files name.now limit result) }
-    ensures left { IfSome (R.outside room.old).files (λ files. IsLeftOf files name.now result (R.outside room.new).rest) }
+    ensures bytes { IfSome (R.outside room.old).files
+        (λ files. IsReadOf files name.now limit result) }
+    ensures left { IfSome (R.outside room.old).files
+        (λ files. IsLeftOf files name.now result (R.outside room.new).rest) }
     ensures short { IfOk result (λ bytes. length bytes.items ≤ limit) }
-    ensures missing { IsErrOf result ReadWhole.Missing → MissCounted (R.outside room.old) (R.outside room.new) }
-    ensures fault { IsErrOf result ReadWhole.ReadFault → ReadFaultCounted (R.outside room.old) (R.outside room.new) }
+    ensures missing { IsErrOf result ReadWhole.Missing
+        → MissCounted (R.outside room.old) (R.outside room.new) }
+    ensures fault { IsErrOf result ReadWhole.ReadFault
+        → ReadFaultCounted (R.outside room.old) (R.outside room.new) }
     ensures long { (n : ℕ) → IsErrOf result (ReadWhole.TooLong n) → n ≡ limit + 1 }
     ensures tried { Tries result name.now (R.outside room.old).tried (R.outside room.new).tried }
     ensures opened { KeepsOpen result (R.outside room.old) (R.outside room.new) }
 
-    ensures counts_misses { CountsMissOfWhole result (R.outside room.old).misses (R.outside room.new).misses }
-    ensures counts_faults { CountsFaultOfWhole result (R.outside room.old).read_faults (R.outside room.new).read_faults }
+    ensures counts_misses { CountsMissOfWhole result (R.outside room.old).misses
+        (R.outside room.new).misses }
+    ensures counts_faults { CountsFaultOfWhole result (R.outside room.old).read_faults
+        (R.outside room.new).read_faults }
     ensures misses { KeepsMisses (R.outside room.old) (R.outside room.new) }
     ensures faults { KeepsReadFaults (R.outside room.old) (R.outside room.new) }
     ensures only { OnlyInput (R.outside room.old) (R.outside room.new) }
@@ -110,12 +117,16 @@ pub fn read_whole<R: Room>(
 /// bytes that were added: the first ones, and not all.
 pub fn write_all<R: Room>(room: &mut R, name: &str, bytes: &[u8]) -> Result<(), WriteAll>
     requires { Contains (R.outside room.old).created name.now }
-    ensures made { (R.outside room.new).made ≡ adds (R.outside room.old).made name.now (take (written result (length bytes.now)) bytes.now) }
+    ensures made { (R.outside room.new).made
+        ≡ adds (R.outside room.old).made name.now
+        (take (written result (length bytes.now)) bytes.now) }
     ensures bound { written result (length bytes.now) ≤ length bytes.now }
     ensures short { OnErr result (written result (length bytes.now) < length bytes.now) }
-    ensures fault { (n : ℕ) → IsErrOf result (WriteAll.WriteFault n) → (n < length bytes.now) × WriteFaultCounted (R.outside room.old) (R.outside room.new) }
+    ensures fault { (n : ℕ) → IsErrOf result (WriteAll.WriteFault n)
+        → (n < length bytes.now) × WriteFaultCounted (R.outside room.old) (R.outside room.new) }
     ensures created { (R.outside room.new).created ≡ (R.outside room.old).created }
-    ensures counts_faults { CountsFaultOfAll result (R.outside room.old).write_faults (R.outside room.new).write_faults }
+    ensures counts_faults { CountsFaultOfAll result (R.outside room.old).write_faults
+        (R.outside room.new).write_faults }
     ensures faults { KeepsWriteFaults (R.outside room.old) (R.outside room.new) }
     ensures only { OnlyMade (R.outside room.old) (R.outside room.new) }
 {
@@ -137,11 +148,14 @@ pub fn write_all<R: Room>(room: &mut R, name: &str, bytes: &[u8]) -> Result<(), 
 /// `WriteFault` where the room failed, `Memory` where it ran out of memory, each with the number of
 /// bytes that were added: the first ones, and not all.
 pub fn show_all<R: Room>(room: &mut R, bytes: &[u8]) -> Result<(), WriteAll>
-    ensures shown { (R.outside room.new).shown ≡ streams (R.outside room.old).shown (take (written result (length bytes.now)) bytes.now) }
+    ensures shown { (R.outside room.new).shown
+        ≡ streams (R.outside room.old).shown (take (written result (length bytes.now)) bytes.now) }
     ensures bound { written result (length bytes.now) ≤ length bytes.now }
     ensures short { OnErr result (written result (length bytes.now) < length bytes.now) }
-    ensures fault { (n : ℕ) → IsErrOf result (WriteAll.WriteFault n) → (n < length bytes.now) × WriteFaultCounted (R.outside room.old) (R.outside room.new) }
-    ensures counts_faults { CountsFaultOfAll result (R.outside room.old).write_faults (R.outside room.new).write_faults }
+    ensures fault { (n : ℕ) → IsErrOf result (WriteAll.WriteFault n)
+        → (n < length bytes.now) × WriteFaultCounted (R.outside room.old) (R.outside room.new) }
+    ensures counts_faults { CountsFaultOfAll result (R.outside room.old).write_faults
+        (R.outside room.new).write_faults }
     ensures faults { KeepsWriteFaults (R.outside room.old) (R.outside room.new) }
     ensures only { OnlyShown (R.outside room.old) (R.outside room.new) }
 {
@@ -163,12 +177,18 @@ pub fn show_all<R: Room>(room: &mut R, bytes: &[u8]) -> Result<(), WriteAll>
 /// `WriteFault` where the room failed, `Memory` where it ran out of memory, each with the number of
 /// bytes that were added: the first ones, and not all.
 pub fn complain_all<R: Room>(room: &mut R, bytes: &[u8]) -> Result<(), WriteAll>
-    ensures complained { (R.outside room.new).complained ≡ streams (R.outside room.old).complained (take (written result (length bytes.now)) bytes.now) }
+    ensures complained { (R.outside room.new).complained
+        ≡ streams (R.outside room.old).complained
+        (take (written result (length bytes.now)) bytes.now) }
     ensures bound { written result (length bytes.now) ≤ length bytes.now }
     ensures short { OnErr result (written result (length bytes.now) < length bytes.now) }
-    ensures fault { (n : ℕ) → IsErrOf result (WriteAll.WriteFault n) → (n < length bytes.now) × WriteFaultCounted (R.outside room.old) (R.outside room.new) × ComplaintFaultCounted (R.outside room.old) (R.outside room.new) }
-    ensures counts_faults { CountsFaultOfAll result (R.outside room.old).write_faults (R.outside room.new).write_faults }
-    ensures counts_complain_faults { CountsFaultOfAll result (R.outside room.old).complain_faults (R.outside room.new).complain_faults }
+    ensures fault { (n : ℕ) → IsErrOf result (WriteAll.WriteFault n)
+        → (n < length bytes.now) × WriteFaultCounted (R.outside room.old) (R.outside room.new)
+        × ComplaintFaultCounted (R.outside room.old) (R.outside room.new) }
+    ensures counts_faults { CountsFaultOfAll result (R.outside room.old).write_faults
+        (R.outside room.new).write_faults }
+    ensures counts_complain_faults { CountsFaultOfAll result (R.outside room.old).complain_faults
+        (R.outside room.new).complain_faults }
     ensures faults { KeepsWriteFaults (R.outside room.old) (R.outside room.new) }
     ensures complain_faults { KeepsComplaintFaults (R.outside room.old) (R.outside room.new) }
     ensures only { OnlyComplained (R.outside room.old) (R.outside room.new) }

@@ -29,7 +29,8 @@ pub record LinesAsSaid : Type 0 where
   pub carriage_return_at_the_end : text_of_line (codes "\tc \r") ≡ codes "c"
   pub two_at_the_end : text_of_line (codes "a\rb\r\r") ≡ codes "a\rb\r"
   pub comment_alone : text_of_line (codes "% all of it\r") ≡ []
-  pub lines : lines_of (codes "a %b\n \t\n %\n\tc \r") ≡ line 1 (codes "a") ∷ line 2 [] ∷ line 3 [] ∷ line 4 (codes "c") ∷ []
+  pub lines : lines_of (codes "a %b\n \t\n %\n\tc \r")
+      ≡ line 1 (codes "a") ∷ line 2 [] ∷ line 3 [] ∷ line 4 (codes "c") ∷ []
   pub filled : filled_lines (codes "\n\na") ≡ line 3 (codes "a") ∷ []
   pub lower_case : folded (codes "Type : A1") ≡ codes "type : a1"
 
@@ -39,7 +40,8 @@ pub record WordsAsSaid : Type 0 where
   pub one_word : words (codes "left") ≡ codes "left" ∷ []
   pub no_word : words (codes " \t") ≡ []
   pub empty : words [] ≡ []
-  pub three_parts : slice_split (is_byte colon) (codes "a:b:c") ≡ codes "a" ∷ codes "b" ∷ codes "c" ∷ []
+  pub three_parts : slice_split (is_byte colon) (codes "a:b:c")
+      ≡ codes "a" ∷ codes "b" ∷ codes "c" ∷ []
   pub an_empty_part : slice_split (is_byte colon) (codes "a:") ≡ codes "a" ∷ [] ∷ []
   pub one_part : slice_split (is_byte colon) (codes "a") ≡ codes "a" ∷ []
 

@@ -3,11 +3,8 @@ use Rattle.std.specs.Prelude.{ℕ, ◌==◌, not, Option, List, [], ◌∷◌, m
 use Rattle.std.specs.List.{filter, slice_split, before_first, enumerate_from}
 use Rattle.std.specs.Str.{str_to_ascii_lowercase}
 use Rattle.quantity.specs.ByteNames.{carriage_return, line_feed, percent_sign}
+pub use Rattle.quantity.specs.Bytes.{Files}
 use Rattle.quantity.specs.Bytes.{Bytes, is_empty, is_byte, trimmed}
-
--- the content of each file, where there is one of that name
-abbrev pub Files : Type 0
-Files = Bytes → Option Bytes
 
 -- a line of a file: its number, from 1, and its text
 pub record Line : Type 0 where
@@ -33,7 +30,9 @@ text_of_line bytes = trimmed (without_comment (without_return bytes))
 
 -- all lines of a file in order
 abbrev pub lines_of : Bytes → List Line
-lines_of bytes = map (λ (p : ℕ × Bytes). record { number = p.0; text = text_of_line p.1 }) (enumerate_from 1 (slice_split (is_byte line_feed) bytes))
+lines_of bytes =
+    map (λ (p : ℕ × Bytes). record { number = p.0; text = text_of_line p.1 })
+    (enumerate_from 1 (slice_split (is_byte line_feed) bytes))
 
 -- the lines that aren't empty
 abbrev pub filled_lines : Bytes → List Line

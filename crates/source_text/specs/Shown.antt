@@ -20,4 +20,6 @@ named_of n = record { name = n.name.now; place = numbers_of n.place }
 
 -- each number has at most 7 digits
 abbrev pub IsShort : Tuple → Type 0
-IsShort t = (unsigned_abs t.row < 10 ^ 7) × (unsigned_abs t.column < 10 ^ 7) × IfSome t.plane (λ plane. unsigned_abs plane < 10 ^ 7)
+IsShort t =
+    (unsigned_abs t.row < 10 ^ 7) × (unsigned_abs t.column < 10 ^ 7)
+    × IfSome t.plane (λ plane. unsigned_abs plane < 10 ^ 7)

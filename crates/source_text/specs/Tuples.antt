@@ -10,7 +10,8 @@ use Rattle.quantity.specs.Digits.{has_length, signed_number}
 -- two or three whole numbers of at most 7 digits
 abbrev pub tuple : Bytes → Option (List ℤ)
 tuple text =
-    option_and_then (λ inner. option_and_then (λ numbers. then_some (has_length 2 3 numbers) numbers)
+    option_and_then (λ inner.
+    option_and_then (λ numbers. then_some (has_length 2 3 numbers) numbers)
     (all_there (map (λ part. signed_number 7 (trimmed part)) (slice_split (is_byte comma) inner))))
     (inside opening_parenthesis closing_parenthesis text)
 
@@ -23,7 +24,8 @@ pub record NamedTuple : Type 0 where
 abbrev pub named_tuple : Bytes → Option NamedTuple
 named_tuple text =
     option_map (λ is. record { name = before_first (is_byte opening_parenthesis) text; place = is })
-    (tuple (opening_parenthesis ∷ after_first (is_byte opening_parenthesis) text ++ closing_parenthesis ∷ []))
+    (tuple (opening_parenthesis ∷ after_first (is_byte opening_parenthesis) text
+    ++ closing_parenthesis ∷ []))
 
 -- all parts but the last, where that is blank
 abbrev pub closed_parts : List Bytes → Option (List Bytes)

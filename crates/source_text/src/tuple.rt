@@ -1,6 +1,7 @@
 // Whole numbers in parentheses, as they are kept.
 
-/// Two or three whole numbers of at most 7 digits: a place or an offset in a space of two or three dimensions.
+/// Two or three whole numbers of at most 7 digits: a place or an offset in a space of two or three
+/// dimensions.
 #[derive(Clone, Copy)]
 pub struct Tuple {
     pub row: i32,

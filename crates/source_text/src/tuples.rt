@@ -14,8 +14,8 @@ use quantity::OutOfMemory;
 use quantity::digits::{cut_at, signed_number};
 use std::alloc::{AllocError, Global};
 
-/// The tuple that is written so: `(`, two or three whole numbers of 1 to 7 digits with an optional sign,
-/// blanks around each, `,` between them, and `)`. None for any other text.
+/// The tuple that is written so: `(`, two or three whole numbers of 1 to 7 digits with an optional
+/// sign, blanks around each, `,` between them, and `)`. None for any other text.
 pub fn tuple(text: &[u8]) -> Option<Tuple>
     ensures value { option_map numbers_of result ≡ tuple text.now }
     ensures short { IfSome result IsShort }
@@ -26,8 +26,8 @@ pub fn tuple(text: &[u8]) -> Option<Tuple>
     }
 }
 
-/// A name and behind it a tuple, in a text that lacks the tuple's closing parenthesis: the name is what
-/// stands before the first `(`. None where the rest is no tuple.
+/// A name and behind it a tuple, in a text that lacks the tuple's closing parenthesis: the name is
+/// what stands before the first `(`. None where the rest is no tuple.
 pub fn named_tuple(text: &[u8]) -> Option<NamedTuple<'_>>
     ensures value { option_map named_of result ≡ named_tuple text.now }
     ensures short { IfSome result (λ named. IsShort named.place) }
@@ -37,10 +37,11 @@ pub fn named_tuple(text: &[u8]) -> Option<NamedTuple<'_>>
     Some(NamedTuple { name, place })
 }
 
-/// The parts of a text that each end with a closing parenthesis, without it; None where anything but
-/// blanks follows the last.
+/// The parts of a text that each end with a closing parenthesis, without it; None where anything
+/// but blanks follows the last.
 pub fn parts(alloc: Global, text: &[u8]) -> Result<Option<Vec<&[u8]>>, OutOfMemory>
-    ensures { IfOk result (λ found. option_map (λ list. texts list.items) found ≡ parts_of text.now) }
+    ensures { IfOk result (λ found. option_map (λ list. texts list.items) found
+        ≡ parts_of text.now) }
 {
     let mut found = Vec::new(alloc);
     let mut rest = text;
@@ -57,7 +58,8 @@ pub fn parts(alloc: Global, text: &[u8]) -> Result<Option<Vec<&[u8]>>, OutOfMemo
 
 /// The tuple whose parentheses stand around this.
 fn tuple_between(inner: &[u8]) -> Option<Tuple>
-    ensures value { option_map numbers_of result ≡ tuple (opening_parenthesis ∷ inner.now ++ closing_parenthesis ∷ []) }
+    ensures value { option_map numbers_of result
+        ≡ tuple (opening_parenthesis ∷ inner.now ++ closing_parenthesis ∷ []) }
     ensures short { IfSome result IsShort }
 {
     let (row, rest) = part_before(b',', inner)?;
@@ -71,7 +73,9 @@ fn tuple_between(inner: &[u8]) -> Option<Tuple>
 }
 
 fn in_plane(row: &[u8], column: &[u8]) -> Option<Tuple>
-    ensures value { option_map numbers_of result ≡ all_there (signed_number 7 (trimmed row.now) ∷ signed_number 7 (trimmed column.now) ∷ []) }
+    ensures value { option_map numbers_of result
+        ≡ all_there (signed_number 7 (trimmed row.now) ∷ signed_number 7 (trimmed column.now)
+        ∷ []) }
     ensures short { IfSome result IsShort }
 {
     let row = number(row)?;
@@ -84,7 +88,9 @@ fn in_plane(row: &[u8], column: &[u8]) -> Option<Tuple>
 }
 
 fn in_space(row: &[u8], column: &[u8], plane: &[u8]) -> Option<Tuple>
-    ensures value { option_map numbers_of result ≡ all_there (signed_number 7 (trimmed row.now) ∷ signed_number 7 (trimmed column.now) ∷ signed_number 7 (trimmed plane.now) ∷ []) }
+    ensures value { option_map numbers_of result
+        ≡ all_there (signed_number 7 (trimmed row.now) ∷ signed_number 7 (trimmed column.now)
+        ∷ signed_number 7 (trimmed plane.now) ∷ []) }
     ensures short { IfSome result IsShort }
 {
     let row = number(row)?;

@@ -8,9 +8,11 @@ use crate::line::{is_blank, without_blanks_before};
 use quantity::OutOfMemory;
 use std::alloc::{AllocError, Global};
 
-/// The first word, which is not empty, and what stands behind it; None exactly where there is no word.
+/// The first word, which is not empty, and what stands behind it; None exactly where there is no
+/// word.
 pub fn next_word(text: &[u8]) -> Option<(&[u8], &[u8])>
-    ensures words { MatchOption result (words text.now ≡ []) (λ cut. words text.now ≡ cut.0.now ∷ words cut.1.now) }
+    ensures words { MatchOption result (words text.now ≡ [])
+        (λ cut. words text.now ≡ cut.0.now ∷ words cut.1.now) }
     ensures filled { IfSome result (λ cut. 0 < length cut.0.now) }
     ensures shorter { IfSome result (λ cut. length cut.1.now < length text.now) }
 {

@@ -4,8 +4,8 @@ use Rattle.event_list.specs.Events.{by_time}
 use Rattle.event_list.proofs.Whole.{accepted, refused, too_large}
 use Rattle.event_list.proofs.list.Events.read.Goals as goal
 
-pub returns-then-bytes-gt-MOST_BYTES-clause-err : goal.returns-then-bytes-gt-MOST_BYTES-clause-err
-returns-then-bytes-gt-MOST_BYTES-clause-err c = λ other. too_large c.args.bytes.now c.args.ports.now (omega arith)
+pub returns-then-bytes-gt-MAX_FILE_BYTES-clause-err : goal.returns-then-bytes-gt-MAX_FILE_BYTES-clause-err
+returns-then-bytes-gt-MAX_FILE_BYTES-clause-err c = λ other. too_large c.args.bytes.now c.args.ports.now (omega arith)
 
 pub returns-in_err-all-clause-err : goal.returns-in_err-all-clause-err
 returns-in_err-all-clause-err c =
