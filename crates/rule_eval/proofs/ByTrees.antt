@@ -9,14 +9,14 @@ use Rattle.quantity.specs.declared.value.Value.{Value}
 use Rattle.rule_tree.specs.declared.outcome.Answer.{Answer}
 use Rattle.rule_tree.specs.declared.outcome.RuleStop.{RuleStop}
 use Rattle.rule_tree.specs.Expression.{Expr, Rule}
-use Rattle.rule_tree.specs.Meaning.{Sight, number_in, truth_in, meaning}
+use Rattle.rule_tree.specs.Meaning.{Sight, number_answered, truth_in, meaning}
 use Rattle.rule_tree.specs.Chosen.{Chosen, unless_overflow, after, with_delay, delay_of, if_true, values_of, variables_after, given, chosen}
 use Rattle.rule_eval.specs.declared.given.Given.{Given}
 use Rattle.rule_eval.specs.Machine.{pushed}
 use Rattle.rule_eval.specs.Code.{code_of}
 use Rattle.rule_eval.specs.Ran.{left_by, answer_of}
 use Rattle.rule_eval.specs.RuleCodes.{Codes, coded, codes_of}
-use Rattle.rule_eval.specs.ByCode.{Outcome, no_values, number_or_stop, truth_or_stop, number_by_code, truth_by_code, given_by_code, set_by_code, delay_or_stop, made_of, made_by_code, if_holds, first_by_code}
+use Rattle.rule_eval.specs.ByCode.{Outcome, no_values, number_or_stop, truth_or_stop, number_by_code, truth_by_code, given_by_code, set_by_code, delay_or_stop, delay_in, delay_by_code, made_of, made_by_code, if_holds, first_by_code}
 use Rattle.rule_tree.specs.Ports.{or_earlier, given_at, by_port}
 use Rattle.rule_eval.specs.Evaluated.{Evaluates, Makes}
 use Rattle.rule_eval.proofs.Stands.{code_stands}
@@ -100,9 +100,9 @@ values_are (g ∷ gs) s values =
     ∙ at (meaning g.1 s) (λ v. values_are gs s (set values g.0 (Some v)))
   where
     at : (o : Option Answer) → ((v : Value) → given_by_code (map coded gs) s (set values g.0 (Some v)) ≡ put_in (set values g.0 (Some v)) (values_of gs s))
-        → after (number_or_stop o) (λ v. given_by_code (map coded gs) s (set values g.0 (Some v))) ≡ put_in values (unless_overflow o (λ a. after (values_of gs s) (λ vs. Ok ((g.0, number_in a) ∷ vs))))
+        → after (number_or_stop o) (λ v. given_by_code (map coded gs) s (set values g.0 (Some v))) ≡ put_in values (unless_overflow o (λ a. after (values_of gs s) (λ vs. Ok ((g.0, number_answered a) ∷ vs))))
     at None rest = refl
-    at (Some a) rest = rest (number_in a) ∙ one_more_value g.0 (number_in a) (values_of gs s) values
+    at (Some a) rest = rest (number_answered a) ∙ one_more_value g.0 (number_answered a) (values_of gs s) values
 
 -- ---- sets
 
@@ -113,9 +113,9 @@ variables_are (x ∷ xs) s =
     ∙ at (meaning x.1 s) (λ v. variables_are xs (record s { variables = set s.variables x.0 v }))
   where
     at : (o : Option Answer) → ((v : Value) → set_by_code (map coded xs) (record s { variables = set s.variables x.0 v }) ≡ variables_after xs (record s { variables = set s.variables x.0 v }))
-        → after (number_or_stop o) (λ v. set_by_code (map coded xs) (record s { variables = set s.variables x.0 v })) ≡ unless_overflow o (λ a. variables_after xs (record s { variables = set s.variables x.0 (number_in a) }))
+        → after (number_or_stop o) (λ v. set_by_code (map coded xs) (record s { variables = set s.variables x.0 v })) ≡ unless_overflow o (λ a. variables_after xs (record s { variables = set s.variables x.0 (number_answered a) }))
     at None rest = refl
-    at (Some a) rest = rest (number_in a)
+    at (Some a) rest = rest (number_answered a)
 
 -- ---- rules
 
@@ -125,23 +125,23 @@ made (Ok g) = Ok (record { values = put_all g.values no_values; delay = g.delay;
 made (Err stop) = Err stop
 
 made_is : (values : Result (List (ℕ × Value)) RuleStop) (o : Option Answer) (variables : Result (List Value) RuleStop)
-    → made_of (put_in no_values values) (number_or_stop o) variables
-    ≡ made (after values (λ vs. unless_overflow o (λ d. with_delay (number_in d) (delay_of (number_in d)) (λ ms. after variables (λ xs. Ok (record { values = vs; delay = ms; variables = xs }))))))
+    → made_of (put_in no_values values) (after (number_or_stop o) delay_in) variables
+    ≡ made (after values (λ vs. unless_overflow o (λ d. with_delay (number_answered d) (delay_of (number_answered d)) (λ ms. after variables (λ xs. Ok (record { values = vs; delay = ms; variables = xs }))))))
 made_is (Err stop) o variables = refl
 made_is (Ok vs) None variables = refl
-made_is (Ok vs) (Some d) variables = at (delay_of (number_in d)) variables
+made_is (Ok vs) (Some d) variables = at (delay_of (number_answered d)) variables
   where
-    at : (ms : Option ℕ) (b : Result (List Value) RuleStop) → after (delay_or_stop (number_in d) ms) (λ n. after b (λ xs. Ok (record { values = put_all vs no_values; delay = n; variables = xs })))
-        ≡ made (with_delay (number_in d) ms (λ n. after b (λ xs. Ok (record { values = vs; delay = n; variables = xs }))))
+    at : (ms : Option ℕ) (b : Result (List Value) RuleStop) → after (delay_or_stop (number_answered d) ms) (λ n. after b (λ xs. Ok (record { values = put_all vs no_values; delay = n; variables = xs })))
+        ≡ made (with_delay (number_answered d) ms (λ n. after b (λ xs. Ok (record { values = vs; delay = n; variables = xs }))))
     at None b = refl
     at (Some n) (Ok xs) = refl
     at (Some n) (Err stop) = refl
 
 given_is : (r : Rule) (s : Sight) → made_by_code (codes_of r) s ≡ made (given r s)
 given_is r s =
-    ap (λ (vs : Result (List (Option Value)) RuleStop). made_of vs (number_by_code (code_of r.delay) s) (set_by_code (map coded r.sets) s)) (values_are r.gives s no_values)
-    ∙ ap (λ (n : Result Value RuleStop). made_of (put_in no_values (values_of r.gives s)) n (set_by_code (map coded r.sets) s)) (number_is r.delay s)
-    ∙ ap (λ (xs : Result (List Value) RuleStop). made_of (put_in no_values (values_of r.gives s)) (number_or_stop (meaning r.delay s)) xs) (variables_are r.sets s)
+    ap (λ (vs : Result (List (Option Value)) RuleStop). made_of vs (delay_by_code (code_of r.delay) s) (set_by_code (map coded r.sets) s)) (values_are r.gives s no_values)
+    ∙ ap (λ (n : Result Value RuleStop). made_of (put_in no_values (values_of r.gives s)) (after n delay_in) (set_by_code (map coded r.sets) s)) (number_is r.delay s)
+    ∙ ap (λ (xs : Result (List Value) RuleStop). made_of (put_in no_values (values_of r.gives s)) (after (number_or_stop (meaning r.delay s)) delay_in) xs) (variables_are r.sets s)
     ∙ made_is (values_of r.gives s) (meaning r.delay s) (variables_after r.sets s)
 
 chosen_is : (rs : List Rule) (s : Sight) → first_by_code (map codes_of rs) s ≡ made (chosen rs s)

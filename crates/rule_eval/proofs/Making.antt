@@ -1,5 +1,5 @@
 -- What rules make by their codes, step by step.
-use Rattle.std.proofs.Common.{◌≡◌, ℕ, ◌+◌, ◌<◌, Option, Some, None, Ok, Err, List, length, map, drop, get_or, set, max, refl, sym, ap, subst, ◌∙◌}
+use Rattle.std.proofs.Common.{◌≡◌, ℕ, ◌+◌, ◌<◌, Option, Some, None, Ok, Err, List, length, map, drop, get_or, set, max, refl, sym, ap, subst}
 use Rattle.std.specs.declared.result.Result.{Result}
 use Rattle.std.specs.Prelude.{pos, negsuc, ◌&&◌, ◌==◌, ◌%◌, ◌/◌, nat_le, Bool, true, false, if◌then◌else◌}
 use Rattle.quantity.specs.declared.value.Value.{Value}
@@ -15,7 +15,7 @@ use Rattle.rule_eval.specs.Forms.{expr_of_form}
 use Rattle.rule_eval.specs.Depth.{depth_of}
 use Rattle.rule_eval.specs.RuleCodes.{Codes, deepest}
 use Rattle.rule_eval.specs.Numbered.{plain}
-use Rattle.rule_eval.specs.ByCode.{Outcome, number_by_code, truth_by_code, given_by_code, set_by_code, delay_in, made_of, made_by_code, first_by_code, if_holds}
+use Rattle.rule_eval.specs.ByCode.{number_by_code, truth_by_code, given_by_code, set_by_code, made_of, made_by_code, first_by_code, if_holds}
 use Rattle.rule_eval.specs.Evaluated.{Makes, GivesValues, SetsVariables}
 use Rattle.rule_eval.proofs.Stacks.{drop_here}
 
@@ -39,51 +39,57 @@ first_here rules i r s h is = ap (λ (rs : List Codes). first_by_code rs s) (dro
 
 -- ---- the parts of what a rule makes
 
-pub made_well : (values : Result (List (Option Value)) RuleStop) (delay : Result Value RuleStop) (variables : Result (List Value) RuleStop) (given : Given) (v : Value) (ms : ℕ) (changed : List Value)
-    → GivesValues values (Ok given) → delay ≡ Ok v → delay_in v ≡ Ok ms → SetsVariables {U = Unit {0}} variables (Ok tt) changed → Makes (made_of values delay variables) (Ok (given, ms)) changed
-made_well values delay variables given v ms changed given_is delay_is ms_is set_is =
-    let step : made_of values delay variables ≡ after values (λ vs. after variables (λ xs. Ok (record { values = vs; delay = ms; variables = xs }))) =
-    ap (λ (d : Result Value RuleStop). made_of values d variables) delay_is
-    ∙ ap (λ (m : Result ℕ RuleStop). after values (λ vs. after m (λ n. after variables (λ xs. Ok (record { values = vs; delay = n; variables = xs }))))) ms_is in
-    let P : Outcome → Type 0 = λ o. Makes o (Ok (given, ms)) changed in
-    subst P (sym step) (both values variables given_is set_is)
+pub made_well : (values : Result (List (Option Value)) RuleStop) (delay : Result ℕ RuleStop)
+    (variables : Result (List Value) RuleStop) (given : Given) (ms : ℕ) (changed : List Value)
+    → GivesValues values (Ok given) → delay ≡ Ok ms
+    → SetsVariables {U = Unit {0}} variables (Ok tt) changed
+    → Makes (made_of values delay variables) (Ok (given, ms)) changed
+made_well values delay variables given ms changed given_is delay_is set_is =
+    let P : Result ℕ RuleStop → Type 0 =
+    λ d. Makes (made_of values d variables) (Ok (given, ms)) changed in
+    subst P (sym delay_is) (both values variables given_is set_is)
   where
-    both : (a : Result (List (Option Value)) RuleStop) (b : Result (List Value) RuleStop) → GivesValues a (Ok given) → SetsVariables {U = Unit {0}} b (Ok tt) changed
-        → Makes (after a (λ vs. after b (λ xs. Ok (record { values = vs; delay = ms; variables = xs })))) (Ok (given, ms)) changed
+    both : (a : Result (List (Option Value)) RuleStop) (b : Result (List Value) RuleStop)
+        → GivesValues a (Ok given) → SetsVariables {U = Unit {0}} b (Ok tt) changed
+        → Makes (made_of a (Ok ms) b) (Ok (given, ms)) changed
     both (Ok vs) (Ok xs) p q = record { values = p; delay = refl; variables = q }
     both (Ok vs) (Err e) p q = absurd q
     both (Err e) b p q = absurd p
 
-pub stopped_by_a_value : (values : Result (List (Option Value)) RuleStop) (delay : Result Value RuleStop) (variables : Result (List Value) RuleStop) (stop : RuleStop) (changed : List Value)
+pub stopped_by_a_value : (values : Result (List (Option Value)) RuleStop) (delay : Result ℕ RuleStop)
+    (variables : Result (List Value) RuleStop) (stop : RuleStop) (changed : List Value)
     → GivesValues values (Err stop) → Makes (made_of values delay variables) (Err stop) changed
 stopped_by_a_value (Ok vs) delay variables stop changed p = absurd p
 stopped_by_a_value (Err e) delay variables stop changed p = p
 
-pub stopped_by_the_delay : (values : Result (List (Option Value)) RuleStop) (delay : Result Value RuleStop) (variables : Result (List Value) RuleStop) (given : Given) (stop : RuleStop) (changed : List Value)
-    → GivesValues values (Ok given) → delay ≡ Err stop → Makes (made_of values delay variables) (Err stop) changed
+pub stopped_by_the_delay : (values : Result (List (Option Value)) RuleStop) (delay : Result ℕ RuleStop)
+    (variables : Result (List Value) RuleStop) (given : Given) (stop : RuleStop)
+    (changed : List Value)
+    → GivesValues values (Ok given) → delay ≡ Err stop
+    → Makes (made_of values delay variables) (Err stop) changed
 stopped_by_the_delay (Ok vs) delay variables given stop changed p is =
-    let P : Result Value RuleStop → Type 0 = λ d. Makes (made_of (Ok vs) d variables) (Err stop) changed in subst P (sym is) refl
+    let P : Result ℕ RuleStop → Type 0 =
+    λ d. Makes (made_of (Ok vs) d variables) (Err stop) changed in
+    subst P (sym is) refl
 stopped_by_the_delay (Err e) delay variables given stop changed p is = absurd p
 
-pub stopped_by_a_bad_delay : (values : Result (List (Option Value)) RuleStop) (delay : Result Value RuleStop) (variables : Result (List Value) RuleStop) (given : Given) (v : Value) (stop : RuleStop) (changed : List Value)
-    → GivesValues values (Ok given) → delay ≡ Ok v → delay_in v ≡ Err stop → Makes (made_of values delay variables) (Err stop) changed
-stopped_by_a_bad_delay (Ok vs) delay variables given v stop changed p is bad =
-    let P : Result Value RuleStop → Type 0 = λ d. Makes (made_of (Ok vs) d variables) (Err stop) changed in
-    let Q : Result ℕ RuleStop → Type 0 = λ m. Makes (after m (λ n. after variables (λ xs. Ok (record { values = vs; delay = n; variables = xs })))) (Err stop) changed in
-    subst P (sym is) (subst Q (sym bad) refl)
-stopped_by_a_bad_delay (Err e) delay variables given v stop changed p is bad = absurd p
-
-pub stopped_by_a_set : (values : Result (List (Option Value)) RuleStop) (delay : Result Value RuleStop) (variables : Result (List Value) RuleStop) (given : Given) (v : Value) (ms : ℕ) (stop : RuleStop) (changed : List Value)
-    → GivesValues values (Ok given) → delay ≡ Ok v → delay_in v ≡ Ok ms → SetsVariables {U = Unit {0}} variables (Err stop) changed → Makes (made_of values delay variables) (Err stop) changed
-stopped_by_a_set (Ok vs) delay variables given v ms stop changed p is good set_is =
-    let P : Result Value RuleStop → Type 0 = λ d. Makes (made_of (Ok vs) d variables) (Err stop) changed in
-    let Q : Result ℕ RuleStop → Type 0 = λ m. Makes (after m (λ n. after variables (λ xs. Ok (record { values = vs; delay = n; variables = xs })))) (Err stop) changed in
-    subst P (sym is) (subst Q (sym good) (at variables set_is))
+pub stopped_by_a_set : (values : Result (List (Option Value)) RuleStop) (delay : Result ℕ RuleStop)
+    (variables : Result (List Value) RuleStop) (given : Given) (ms : ℕ) (stop : RuleStop)
+    (changed : List Value)
+    → GivesValues values (Ok given) → delay ≡ Ok ms
+    → SetsVariables {U = Unit {0}} variables (Err stop) changed
+    → Makes (made_of values delay variables) (Err stop) changed
+stopped_by_a_set (Ok vs) delay variables given ms stop changed p is set_is =
+    let P : Result ℕ RuleStop → Type 0 =
+    λ d. Makes (made_of (Ok vs) d variables) (Err stop) changed in
+    subst P (sym is) (at variables set_is)
   where
-    at : (b : Result (List Value) RuleStop) → SetsVariables {U = Unit {0}} b (Err stop) changed → Makes (after b (λ xs. Ok (record { values = vs; delay = ms; variables = xs }))) (Err stop) changed
+    at : (b : Result (List Value) RuleStop)
+        → SetsVariables {U = Unit {0}} b (Err stop) changed
+        → Makes (made_of (Ok vs) (Ok ms) b) (Err stop) changed
     at (Ok xs) q = absurd q
     at (Err e) q = q
-stopped_by_a_set (Err e) delay variables given v ms stop changed p is good set_is = absurd p
+stopped_by_a_set (Err e) delay variables given ms stop changed p is set_is = absurd p
 
 -- ---- delays
 

@@ -44,7 +44,8 @@ GivesValues (Err why) (Ok given) = ⊥
 GivesValues (Err why) (Err stop) = stop ≡ why
 
 -- the variables have these values, or the same stop
-abbrev pub SetsVariables : {U : Type 0} → Result (List Value) RuleStop → Result U RuleStop → List Value → Type 0
+abbrev pub SetsVariables : {U : Type 0} → Result (List Value) RuleStop → Result U RuleStop
+    → List Value → Type 0
 SetsVariables (Ok xs) (Ok u) variables = variables ≡ xs
 SetsVariables (Ok xs) (Err stop) variables = ⊥
 SetsVariables (Err why) (Ok u) variables = ⊥

@@ -1,20 +1,26 @@
 -- The expressions that forms stand for.
 use Rattle.std.specs.Prelude.{List, [], ◌∷◌, map}
+use Rattle.quantity.specs.declared.value.Value.TheVariants.{Num}
+use Rattle.quantity.specs.declared.value.Compare.TheVariants.{Equal}
+use Rattle.rule_tree.specs.Meaning.{whole}
 use Rattle.rule_tree.specs.declared.node.Unary.TheVariants.{Not}
 use Rattle.rule_tree.specs.declared.node.Binary.TheVariants.{Or, And, Cmp, Add}
 use Rattle.rule_tree.specs.Expression.{Expr, Exprs, number, truth, neighbour, variable, now, port_value, counted, one, two, call, nil, cons}
 use Rattle.rule_eval.specs.declared.forms.PortAt.{PortAt}
 use Rattle.rule_eval.specs.declared.forms.PlainTest.{PlainTest}
-use Rattle.rule_eval.specs.declared.forms.PlainTest.TheVariants.{Truth, NeighbourIs, CountIs}
+use Rattle.rule_eval.specs.declared.forms.PlainTest.TheVariants.{Truth, NeighbourIs, CountIs, OutIs, CountEquals}
 use Rattle.rule_eval.specs.declared.forms.Test.{Test}
 use Rattle.rule_eval.specs.declared.forms.Test.TheVariants.{Plain, Not', Both', Either', PlainBoth', PlainEither'}
 use Rattle.rule_eval.specs.declared.forms.Form.{Form, Row_of-Form, end_of-Form, more_of-Form}
 use Rattle.rule_eval.specs.declared.forms.Form.TheVariants.{Number, Neighbour, Variable, Now, PortValue, Counted, Test as Tests, Sum, One', Two', Call'}
 
+-- the expression that a test stands for which is made of no other tests
 abbrev pub expr_of_plain : PlainTest → Expr
 expr_of_plain (Truth t) = truth t
 expr_of_plain (NeighbourIs how k p v) = two (Cmp how) (neighbour k p) (number v)
 expr_of_plain (CountIs how c v) = two (Cmp how) (counted c) (number v)
+expr_of_plain (OutIs k raw) = two (Cmp Equal) (neighbour k 0) (number (Num raw))
+expr_of_plain (CountEquals c n) = two (Cmp Equal) (counted c) (number (whole n))
 
 -- the expression that a test stands for
 abbrev pub expr_of_test : Test → Expr

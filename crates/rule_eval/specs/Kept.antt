@@ -1,13 +1,23 @@
 -- Counts that were made over a view.
-use Rattle.std.specs.Prelude.{◌≡◌, IfSome}
+use Rattle.std.specs.Prelude.{◌≡◌, ℕ, Option, None, IfSome, get_or}
+use Rattle.rule_tree.specs.declared.node.Count.{Count}
 use Rattle.rule_tree.specs.declared.node.Count.TheVariants.{Ones, Zeros, Undefs}
 use Rattle.rule_tree.specs.Meaning.{outs, counted}
 use Rattle.rule_eval.specs.Seen.{sight_of}
 use Rattle.rule_eval.specs.declared.counts.Counts.{Counts}
 use Rattle.rule_eval.specs.declared.view.View.{View}
 
+-- where the number of a word stands
+abbrev pub place_of : Count → ℕ
+place_of Ones = 0
+place_of Zeros = 1
+place_of Undefs = 2
+
+-- the number that a word counts, where it was made
+abbrev pub kept_number : Counts → Count → Option ℕ
+kept_number c count = get_or c.numbers (place_of count) None
+
 -- each that is there is that of the view
 pub record AreCounts (c : Counts) (v : View) : Type 0 where
-  pub ones : IfSome c.ones (λ n. n ≡ counted Ones (outs (sight_of v)))
-  pub zeros : IfSome c.zeros (λ n. n ≡ counted Zeros (outs (sight_of v)))
-  pub undefs : IfSome c.undefs (λ n. n ≡ counted Undefs (outs (sight_of v)))
+  pub each : (count : Count)
+      → IfSome (kept_number c count) (λ n. n ≡ counted count (outs (sight_of v)))

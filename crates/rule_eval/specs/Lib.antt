@@ -6,6 +6,7 @@ pub mod Ran
 pub mod RuleCodes
 pub mod Numbered
 pub mod ByCode
+pub mod Known
 pub mod Evaluated
 pub mod Room
 pub mod Kept

@@ -28,7 +28,8 @@ deepest (g ∷ gs) = max (depth_of g.1) (deepest gs)
 
 -- the most answers that stand on the stack at once, whichever part of the rule is evaluated
 abbrev pub rule_depth : Codes → ℕ
-rule_depth r = max (depth_of r.condition) (max (deepest r.gives) (max (depth_of r.delay) (deepest r.sets)))
+rule_depth r =
+    max (depth_of r.condition) (max (deepest r.gives) (max (depth_of r.delay) (deepest r.sets)))
 
 -- how many nodes an expression has
 abbrev mutual

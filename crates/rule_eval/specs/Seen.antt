@@ -31,7 +31,8 @@ seen v variables =
 abbrev pub sight_of : View → Sight
 sight_of v = seen v v.variables.now
 
--- a view of a group: just the values of all ports for each offset, and no more offsets than a group may have
+-- a view of a group: just the values of all ports for each offset, and no more offsets than a group
+-- may have
 pub record IsView (v : View) : Type 0 where
   pub ports : v.ports ≤ 3
   pub whole : length v.neighbours.now ≡ offsets_of v * width_of v

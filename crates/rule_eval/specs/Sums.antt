@@ -18,4 +18,5 @@ with_value (Some v) go = go v
 -- a value, to which those of neighbours are added one after another
 abbrev pub sum_from : Value → List PortAt → List (List Value) → Option Value
 sum_from v [] nbs = Some v
-sum_from v (n ∷ ns) nbs = with_value (sum_of v (port_value_at nbs n.offset n.port)) (λ w. sum_from w ns nbs)
+sum_from v (n ∷ ns) nbs =
+    with_value (sum_of v (port_value_at nbs n.offset n.port)) (λ w. sum_from w ns nbs)

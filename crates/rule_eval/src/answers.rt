@@ -2,6 +2,7 @@
 ghost use Rattle.std.specs.Prelude.{◌≡◌, IfSome, ◌+◌, ◌<◌, ◌≤◌, Some, None, [], ◌∷◌, ◌++◌, List, MatchResult, OnOk, vec_len, vec_capacity};
 ghost use Rattle.std.specs.Result.{result_ok};
 ghost use Rattle.quantity.specs.declared.value.Value.{Value as AnyValue};
+ghost use Rattle.quantity.specs.Truth.{conjunction};
 ghost use Rattle.rule_tree.specs.Expression as E;
 ghost use Rattle.rule_tree.specs.Meaning.{outs, whole, counted, meaning, meanings};
 ghost use Rattle.rule_eval.specs.Seen.{IsView, neighbours_of, seen, sight_of};
@@ -11,18 +12,20 @@ ghost use Rattle.rule_eval.specs.Depth.{depth_from, depth_of};
 ghost use Rattle.rule_eval.specs.Ran.{answer_of, or_stop};
 ghost use Rattle.rule_eval.specs.Forms.{expr_of_form, exprs_of_forms};
 ghost use Rattle.rule_eval.specs.Tests.{plain_truth, test_truth};
-ghost use Rattle.rule_eval.specs.Sums.{port_value_at, sum_from};
 ghost use Rattle.rule_eval.specs.Stacked.{stacked};
 
 use crate::apply::{apply_binary, apply_function, apply_unary, as_answer};
 use crate::counts::Counts;
-use crate::forms::{Form, PlainTest, PortAt, Test};
+use crate::forms::{Form, PlainTest, Test};
+use crate::outs::{decided, out_is};
 use crate::seen::{neighbour, value_at, whole};
+use crate::sums::sum;
 use crate::view::View;
 use quantity::{Overflow, Tri, Value};
 use rule_tree::{Answer, Count, RuleStop};
 
-/// What a test answers. The right operand of `and` and `or` is left where the left one decides.
+/// What a test answers, those of the usual forms without a call.
+#[inline(always)]
 pub(crate) fn truth(test: &Test, view: &View, counts: &mut Counts) -> Tri
     requires view { IsView view.now }
     requires counts { AreCounts counts.old view.now }
@@ -31,26 +34,71 @@ pub(crate) fn truth(test: &Test, view: &View, counts: &mut Counts) -> Tri
 {
     match test {
         Test::Plain(test) => plain_truth(test, view, counts),
-        Test::Not(a) => truth(a, view, counts).not(),
-        Test::Both(a, b) => match truth(a, view, counts) {
-            Tri::True => truth(b, view, counts),
+        Test::PlainBoth(a, b) => both_true(a, b, view, counts),
+        test => joined_truth(test, view, counts),
+    }
+}
+
+/// Whether a plain test and another are true.
+#[inline(always)]
+fn both_true(a: &PlainTest, b: &Test, view: &View, counts: &mut Counts) -> Tri
+    requires view { IsView view.now }
+    requires counts { AreCounts counts.old view.now }
+    ensures value { result ≡ conjunction (plain_truth a.now (neighbours_of view.now))
+        (test_truth b.now (neighbours_of view.now)) }
+    ensures counts { AreCounts counts.new view.now }
+{
+    match plain_truth(a, view, counts) {
+        Tri::True => second_truth(b, view, counts),
+        Tri::False => Tri::False,
+        Tri::Undef => Tri::Undef.and(joined_truth(b, view, counts)),
+    }
+}
+
+/// What a test answers behind a plain one; another plain one at once.
+#[inline(always)]
+fn second_truth(test: &Test, view: &View, counts: &mut Counts) -> Tri
+    requires view { IsView view.now }
+    requires counts { AreCounts counts.old view.now }
+    ensures value { result ≡ test_truth test.now (neighbours_of view.now) }
+    ensures counts { AreCounts counts.new view.now }
+{
+    match test {
+        Test::Plain(test) => plain_truth(test, view, counts),
+        test => joined_truth(test, view, counts),
+    }
+}
+
+/// What a test answers that may be made of others. The right operand of `and` and `or` is left
+/// where the left one decides.
+fn joined_truth(test: &Test, view: &View, counts: &mut Counts) -> Tri
+    requires view { IsView view.now }
+    requires counts { AreCounts counts.old view.now }
+    ensures value { result ≡ test_truth test.now (neighbours_of view.now) }
+    ensures counts { AreCounts counts.new view.now }
+{
+    match test {
+        Test::Plain(test) => plain_truth(test, view, counts),
+        Test::Not(a) => joined_truth(a, view, counts).not(),
+        Test::Both(a, b) => match joined_truth(a, view, counts) {
+            Tri::True => joined_truth(b, view, counts),
             Tri::False => Tri::False,
-            Tri::Undef => Tri::Undef.and(truth(b, view, counts)),
+            Tri::Undef => Tri::Undef.and(joined_truth(b, view, counts)),
         },
-        Test::Either(a, b) => match truth(a, view, counts) {
+        Test::Either(a, b) => match joined_truth(a, view, counts) {
             Tri::True => Tri::True,
-            Tri::False => truth(b, view, counts),
-            Tri::Undef => Tri::Undef.or(truth(b, view, counts)),
+            Tri::False => joined_truth(b, view, counts),
+            Tri::Undef => Tri::Undef.or(joined_truth(b, view, counts)),
         },
         Test::PlainBoth(a, b) => match plain_truth(a, view, counts) {
-            Tri::True => truth(b, view, counts),
+            Tri::True => joined_truth(b, view, counts),
             Tri::False => Tri::False,
-            Tri::Undef => Tri::Undef.and(truth(b, view, counts)),
+            Tri::Undef => Tri::Undef.and(joined_truth(b, view, counts)),
         },
         Test::PlainEither(a, b) => match plain_truth(a, view, counts) {
             Tri::True => Tri::True,
-            Tri::False => truth(b, view, counts),
-            Tri::Undef => Tri::Undef.or(truth(b, view, counts)),
+            Tri::False => joined_truth(b, view, counts),
+            Tri::Undef => Tri::Undef.or(joined_truth(b, view, counts)),
         },
     }
 }
@@ -71,6 +119,8 @@ fn plain_truth(test: &PlainTest, view: &View, counts: &mut Counts) -> Tri
         PlainTest::CountIs(how, count, number) => {
             number_counted(*count, view, counts).compare(*how, *number)
         }
+        PlainTest::OutIs(k, number) => out_is(view, *k, number),
+        PlainTest::CountEquals(count, number) => decided(counts.number(*count, view) == *number),
     }
 }
 
@@ -85,21 +135,8 @@ fn number_counted(count: Count, view: &View, counts: &mut Counts) -> Value
     whole(u64::from(counts.number(count, view)))
 }
 
-/// A value, to which those of neighbours are added one after another.
-#[tactic(auto, using(crate::proofs::FormSums::sum_here, crate::proofs::Stacks::drop_end))]
-fn sum(first: Value, more: &[PortAt], view: &View) -> Result<Value, Overflow>
-    requires { IsView view.now }
-    ensures { result_ok result ≡ sum_from first more.now (neighbours_of view.now) }
-{
-    let mut total = first;
-    for at in more {
-        total = total.add(neighbour(view, at.offset, at.port))?;
-    }
-    Ok(total)
-}
-
-/// What a form answers over the view, with these values of the variables. The arguments of functions stand on the
-/// stack meanwhile.
+/// What a form answers over the view, with these values of the variables. The arguments of
+/// functions stand on the stack meanwhile.
 #[cycle(answer)]
 fn answer(
     form: &Form,
@@ -110,8 +147,10 @@ fn answer(
 ) -> Result<Answer, Overflow>
     requires view { IsView view.now }
     requires counts { AreCounts counts.old view.now }
-    requires room { depth_from (code_of (expr_of_form form.now)) (vec_len answers.old) ≤ vec_capacity answers.old }
-    ensures value { result_ok result ≡ meaning (expr_of_form form.now) (seen view.now variables.now) }
+    requires room { depth_from (code_of (expr_of_form form.now)) (vec_len answers.old)
+        ≤ vec_capacity answers.old }
+    ensures value { result_ok result ≡ meaning (expr_of_form form.now)
+        (seen view.now variables.now) }
     ensures stack { OnOk result (answers.new.items ≡ answers.old.items) }
     ensures capacity { vec_capacity answers.new ≡ vec_capacity answers.old }
     ensures counts { AreCounts counts.new view.now }
@@ -170,10 +209,13 @@ fn stack_answers(
 ) -> Result<(), Overflow>
     requires view { IsView view.now }
     requires counts { AreCounts counts.old view.now }
-    requires room { depth_from (codes_of (exprs_of_forms forms.now)) (vec_len answers.old) ≤ vec_capacity answers.old }
+    requires room { depth_from (codes_of (exprs_of_forms forms.now)) (vec_len answers.old)
+        ≤ vec_capacity answers.old }
     ensures value { MatchResult result
-        (λ _. stacked answers.old.items (meanings (exprs_of_forms forms.now) (seen view.now variables.now)) ≡ Some answers.new.items)
-        (λ _. stacked answers.old.items (meanings (exprs_of_forms forms.now) (seen view.now variables.now)) ≡ None) }
+        (λ _. stacked answers.old.items (meanings (exprs_of_forms forms.now)
+        (seen view.now variables.now)) ≡ Some answers.new.items)
+        (λ _. stacked answers.old.items (meanings (exprs_of_forms forms.now)
+        (seen view.now variables.now)) ≡ None) }
     ensures capacity { vec_capacity answers.new ≡ vec_capacity answers.old }
     ensures counts { AreCounts counts.new view.now }
 {
@@ -194,7 +236,8 @@ fn push(answers: &mut Vec<Answer>, answer: Answer)
     answers.push_reserved(answer);
 }
 
-/// What a form answers, over the view with these values of the variables; the stack is emptied first.
+/// What a form answers, over the view with these values of the variables; the stack is emptied
+/// first.
 pub(crate) fn run(
     form: &Form,
     view: &View,
@@ -205,7 +248,8 @@ pub(crate) fn run(
     requires view { IsView view.now }
     requires counts { AreCounts counts.old view.now }
     requires room { depth_of (code_of (expr_of_form form.now)) ≤ vec_capacity answers.old }
-    ensures value { result ≡ or_stop (answer_of (code_of (expr_of_form form.now)) (seen view.now variables.now)) }
+    ensures value { result ≡ or_stop (answer_of (code_of (expr_of_form form.now))
+        (seen view.now variables.now)) }
     ensures capacity { vec_capacity answers.new ≡ vec_capacity answers.old }
     ensures counts { AreCounts counts.new view.now }
 {

@@ -4,7 +4,7 @@ ghost use Rattle.std.specs.Result.{result_ok};
 ghost use Rattle.quantity.specs.declared.value.Value.{Value as AnyValue};
 ghost use Rattle.quantity.specs.Arithmetic.{test_of, is_even, is_odd, is_whole};
 ghost use Rattle.quantity.specs.Truth.{tri_of};
-ghost use Rattle.rule_tree.specs.Meaning.{Sight, number_in, truth_in, as_answer, one_meaning, two_meaning, by_truth, is_undefined, call_meaning};
+ghost use Rattle.rule_tree.specs.Meaning.{Sight, number_answered, truth_in, as_answer, one_meaning, two_meaning, by_truth, is_undefined, call_meaning};
 ghost use Rattle.rule_eval.specs.Seen.{IsView, seen};
 
 use crate::seen::{cell_position, state_count};
@@ -13,7 +13,7 @@ use quantity::{Overflow, Tri, Value};
 use rule_tree::{Answer, Binary, Function, Unary};
 
 pub(crate) fn number_in(answer: Answer) -> Value
-    ensures { result ≡ number_in answer }
+    ensures { result ≡ number_answered answer }
 {
     match answer {
         Answer::Num(value) => value,
@@ -67,10 +67,12 @@ pub(crate) fn as_answer(value: Result<Value, Overflow>) -> Result<Answer, Overfl
     }
 }
 
-/// What a function makes of its arguments, the first of them first; `?` where there are too few or too many.
+/// What a function makes of its arguments, the first of them first; `?` where there are too few or
+/// too many.
 pub(crate) fn apply_function(function: Function, arguments: &[Answer], view: &View) -> Answer
     requires { IsView view.now }
-    ensures { (variables : List AnyValue) → call_meaning function arguments.now (seen view.now variables) ≡ Some result }
+    ensures { (variables : List AnyValue)
+        → call_meaning function arguments.now (seen view.now variables) ≡ Some result }
 {
     match arguments {
         [a] => of_one(function, *a, view),
@@ -83,7 +85,8 @@ pub(crate) fn apply_function(function: Function, arguments: &[Answer], view: &Vi
 
 fn of_one(function: Function, a: Answer, view: &View) -> Answer
     requires { IsView view.now }
-    ensures { (variables : List AnyValue) → call_meaning function (a ∷ []) (seen view.now variables) ≡ Some result }
+    ensures { (variables : List AnyValue)
+        → call_meaning function (a ∷ []) (seen view.now variables) ≡ Some result }
 {
     let value = number_in(a);
     match function {
@@ -133,7 +136,8 @@ fn of_four(function: Function, a: Answer, b: Answer, c: Answer, d: Answer) -> An
 }
 
 fn by_truth(truth: Tri, a: &Answer, b: &Answer, u: &Answer) -> Value
-    ensures { result ≡ by_truth truth (number_in a.now) (number_in b.now) (number_in u.now) }
+    ensures { result ≡ by_truth truth (number_answered a.now) (number_answered b.now)
+        (number_answered u.now) }
 {
     match truth {
         Tri::True => number_in(*a),

@@ -7,7 +7,8 @@ use quantity::{OutOfMemory, Tri, Value};
 use rule_tree::{Binary, Count, Function, Node, Unary};
 use std::alloc::{AllocError, Global};
 
-/// One step on a stack of answers, the topmost last: operands are taken off, and the answer is put on.
+/// One step on a stack of answers, the topmost last: operands are taken off, and the answer is put
+/// on.
 #[derive(Drop)]
 pub enum Op {
     Number(Value),

@@ -1,72 +1,97 @@
 // Counts that are made at most once in one evaluation.
-ghost use Rattle.std.specs.Prelude.{◌≡◌, IfSome};
+ghost use Rattle.std.specs.Prelude.{◌≡◌, ◌<◌};
 ghost use Rattle.rule_tree.specs.Meaning.{outs, counted};
 ghost use Rattle.rule_eval.specs.Seen.{IsView, sight_of};
-ghost use Rattle.rule_eval.specs.Kept.{AreCounts};
+ghost use Rattle.rule_eval.specs.Kept.{AreCounts, place_of};
 
-use crate::seen::counted;
+use crate::seen::{counted_first, counted_outs};
 use crate::view::View;
 use rule_tree::Count;
 
 /// The numbers of neighbours that words count over one view, each from when it is first asked for.
 #[derive(Clone, Copy)]
 pub struct Counts {
-    ones: Option<u8>,
-    zeros: Option<u8>,
-    undefs: Option<u8>,
+    // By the place of the word.
+    numbers: [Option<u8>; 3],
 }
 
 impl Counts {
     /// None is counted yet.
+    #[tactic(auto, using(crate::proofs::KeptNumbers::none_kept))]
     pub(crate) fn none(view: &View) -> Counts
         ensures { AreCounts result view.now }
     {
         let _view = view;
         Counts {
-            ones: None,
-            zeros: None,
-            undefs: None,
+            numbers: [None, None, None],
         }
     }
 
     /// The number of neighbours that a word counts.
+    #[tactic(auto, using(crate::proofs::KeptNumbers::kept_is_counted))]
+    #[inline(always)]
     pub(crate) fn number(&mut self, count: Count, view: &View) -> u8
         requires view { IsView view.now }
         requires counts { AreCounts self.old view.now }
         ensures value { result ≡ counted count (outs (sight_of view.now)) }
         ensures counts { AreCounts self.new view.now }
     {
-        match count {
-            Count::Ones => {
-                let number = known(&self.ones, count, view);
-                let kept = number;
-                self.ones = Some(kept);
-                number
-            }
-            Count::Zeros => {
-                let number = known(&self.zeros, count, view);
-                let kept = number;
-                self.zeros = Some(kept);
-                number
-            }
-            Count::Undefs => {
-                let number = known(&self.undefs, count, view);
-                let kept = number;
-                self.undefs = Some(kept);
-                number
-            }
+        match self.numbers[place(count)] {
+            Some(number) => number,
+            None => self.make(count, view),
         }
+    }
+
+    /// Makes the number that a word counts.
+    #[inline(never)]
+    fn make(&mut self, count: Count, view: &View) -> u8
+        requires view { IsView view.now }
+        requires counts { AreCounts self.old view.now }
+        ensures value { result ≡ counted count (outs (sight_of view.now)) }
+        ensures counts { AreCounts self.new view.now }
+    {
+        if view.ports == 0 {
+            self.keep(count, counted_outs(count, view), view)
+        } else {
+            self.make_first(count, view)
+        }
+    }
+
+    /// The same where neighbours have further ports.
+    #[inline(never)]
+    fn make_first(&mut self, count: Count, view: &View) -> u8
+        requires view { IsView view.now }
+        requires counts { AreCounts self.old view.now }
+        ensures value { result ≡ counted count (outs (sight_of view.now)) }
+        ensures counts { AreCounts self.new view.now }
+    {
+        self.keep(count, counted_first(count, view), view)
+    }
+
+    /// Keeps the number that a word counts, and gives it back.
+    #[tactic(auto, using(crate::proofs::KeptNumbers::one_more))]
+    #[inline(always)]
+    fn keep(&mut self, count: Count, number: u8, view: &View) -> u8
+        requires counts { AreCounts self.old view.now }
+        requires number { number ≡ counted count (outs (sight_of view.now)) }
+        ensures value { result ≡ counted count (outs (sight_of view.now)) }
+        ensures counts { AreCounts self.new view.now }
+    {
+        let _view = view;
+        self.numbers[place(count)] = Some(number);
+        number
     }
 }
 
-/// The number that a word counts, which may be known.
-fn known(number: &Option<u8>, count: Count, view: &View) -> u8
-    requires view { IsView view.now }
-    requires known { IfSome number.now (λ n. n ≡ counted count (outs (sight_of view.now))) }
-    ensures { result ≡ counted count (outs (sight_of view.now)) }
+/// Where the number of a word stands.
+#[inline(always)]
+fn place(count: Count) -> usize
+    ensures value { result ≡ place_of count }
+    ensures within { result < 3 }
 {
-    match number {
-        Some(number) => *number,
-        None => counted(count, view),
+    match count {
+        Count::Ones => 0,
+        Count::Zeros => 1,
+        Count::Undefs => 2,
     }
 }

@@ -25,7 +25,8 @@ pub(crate) fn depth_of_rule(alloc: Global, tree: &RuleTree) -> Result<usize, Out
 
 #[tactic(auto, using(crate::proofs::Deepest::give_here, crate::proofs::Stacks::drop_end))]
 fn deepest_of_gives(alloc: Global, gives: &[Give]) -> Result<usize, OutOfMemory>
-    ensures { IfOk result (λ depth. depth ≡ deepest (map coded (map (λ (g : AnyGive). (g.port, expr_of g.value)) gives.now))) }
+    ensures { IfOk result (λ depth. depth
+        ≡ deepest (map coded (map (λ (g : AnyGive). (g.port, expr_of g.value)) gives.now))) }
 {
     let mut most = 0;
     for give in gives {
@@ -36,7 +37,8 @@ fn deepest_of_gives(alloc: Global, gives: &[Give]) -> Result<usize, OutOfMemory>
 
 #[tactic(auto, using(crate::proofs::Deepest::set_here, crate::proofs::Stacks::drop_end))]
 fn deepest_of_sets(alloc: Global, sets: &[SetVariable]) -> Result<usize, OutOfMemory>
-    ensures { IfOk result (λ depth. depth ≡ deepest (map coded (map (λ (x : AnySet). (x.variable, expr_of x.value)) sets.now))) }
+    ensures { IfOk result (λ depth. depth
+        ≡ deepest (map coded (map (λ (x : AnySet). (x.variable, expr_of x.value)) sets.now))) }
 {
     let mut most = 0;
     for set in sets {

@@ -1,5 +1,7 @@
 // Evaluation of rules on a stack.
-ghost use Rattle.std.specs.Prelude.{◌≡◌, ◌≤◌, List, All, IfOk, map, length, vec_capacity, slice_set};
+ghost use Rattle.std.specs.Prelude.{◌≡◌, ◌≤◌, List, All, IfOk, map, length};
+ghost use Rattle.std.specs.Prelude.{vec_capacity, slice_set};
+ghost use Rattle.quantity.specs.declared.bounds.TheConstants.{MAX_DELAY};
 ghost use Rattle.rule_tree.specs.Expression.{Rule};
 ghost use Rattle.rule_tree.specs.Chosen.{chosen};
 ghost use Rattle.rule_eval.specs.Seen.{IsView, seen, sight_of};
@@ -9,7 +11,7 @@ ghost use Rattle.rule_eval.specs.Depth.{depth_of};
 ghost use Rattle.rule_eval.specs.Forms.{expr_of_form};
 ghost use Rattle.rule_eval.specs.RuleCodes.{codes_of, deepest, rule_depth};
 ghost use Rattle.rule_eval.specs.Numbered.{plain};
-ghost use Rattle.rule_eval.specs.ByCode.{no_values, number_by_code, truth_by_code, given_by_code, set_by_code, delay_in, made_by_code, first_by_code};
+ghost use Rattle.rule_eval.specs.ByCode.{no_values, number_by_code, truth_by_code, given_by_code, set_by_code, delay_by_code, made_by_code, first_by_code};
 ghost use Rattle.rule_eval.specs.Evaluated.{Evaluates, Makes, GivesValues, SetsVariables};
 
 use crate::answers::{plain_number, run, truth};
@@ -17,18 +19,19 @@ use crate::apply::{number_in, truth_in};
 use crate::counts::Counts;
 use crate::forms::Form;
 use crate::given::Given;
+use crate::known::delay_in;
 use crate::numbered::NumberedForm;
 use crate::rule_code::RuleCode;
-use crate::seen::whole_number;
 use crate::stack::Stack;
 use crate::view::View;
 use quantity::{Time, Tri, Value};
 use rule_tree::{Answer, RuleStop};
 
-/// What the first true rule gives over a view, by port, and its delay; `changed` then holds the variables after
-/// its sets. Without a true rule, where an evaluated part is too large, and where the delay is no whole number of
-/// milliseconds from 0 to 359999999, the stop; nothing is promised then of `changed`. It takes no memory and gives
-/// none back: the stack stays as it is seen.
+/// What the first true rule gives over a view, by port, and its delay; `changed` then holds the
+/// variables after its sets. Without a true rule, where an evaluated part is too large, and where
+/// the delay is no whole number of milliseconds from 0 to `MAX_DELAY`, the stop; nothing is
+/// promised then of `changed`. It takes no memory and gives none back: the stack stays as it is
+/// seen.
 pub fn evaluate(
     rules: &[RuleCode],
     view: &View,
@@ -42,13 +45,14 @@ pub fn evaluate(
     ensures value { (trees : List Rule) → rules.now ≡ map codes_of trees
         → Evaluates (chosen trees (sight_of view.now)) result changed.new }
     ensures stack { stack.new ≡ stack.old }
-    ensures delay { IfOk result (λ made. made.1 ≤ 359999999) }
+    ensures delay { IfOk result (λ made. made.1 ≤ MAX_DELAY) }
 {
     let mut counts = Counts::none(view);
     first_true(rules, view, changed, &mut counts, &mut stack.answers)
 }
 
 #[tactic(auto, using(crate::proofs::Making::first_here, crate::proofs::Stacks::drop_end))]
+#[inline(always)]
 fn first_true(
     rules: &[RuleCode],
     view: &View,
@@ -63,7 +67,7 @@ fn first_true(
     ensures value { Makes (first_by_code rules.now (sight_of view.now)) result changed.new }
     ensures capacity { vec_capacity answers.new ≡ vec_capacity answers.old }
     ensures counts { AreCounts counts.new view.now }
-    ensures delay { IfOk result (λ made. made.1 ≤ 359999999) }
+    ensures delay { IfOk result (λ made. made.1 ≤ MAX_DELAY) }
 {
     for rule in rules {
         match condition(rule, view, counts, answers)? {
@@ -74,6 +78,7 @@ fn first_true(
     Err(RuleStop::NoTrueRule)
 }
 
+#[inline(always)]
 fn condition(
     rule: &RuleCode,
     view: &View,
@@ -91,6 +96,7 @@ fn condition(
 }
 
 /// The truth value that a form answers.
+#[inline(always)]
 fn truth_of(
     form: &Form,
     view: &View,
@@ -113,7 +119,8 @@ fn truth_of(
     }
 }
 
-#[tactic(auto, using(crate::proofs::Making::made_well, crate::proofs::Making::stopped_by_a_value, crate::proofs::Making::stopped_by_the_delay, crate::proofs::Making::stopped_by_a_bad_delay, crate::proofs::Making::stopped_by_a_set))]
+/// What a rule gives whose condition is true.
+#[inline(always)]
 fn give(
     rule: &RuleCode,
     view: &View,
@@ -128,14 +135,83 @@ fn give(
     ensures value { Makes (made_by_code rule.now (sight_of view.now)) result changed.new }
     ensures capacity { vec_capacity answers.new ≡ vec_capacity answers.old }
     ensures counts { AreCounts counts.new view.now }
-    ensures delay { IfOk result (λ made. made.1 ≤ 359999999) }
+    ensures delay { IfOk result (λ made. made.1 ≤ MAX_DELAY) }
+{
+    match &rule.constant {
+        Some(constant) => {
+            copy(view.variables, changed);
+            Ok((constant.given, constant.delay))
+        }
+        None => give_formed(rule, view, changed, counts, answers),
+    }
+}
+
+/// The same, where its forms are evaluated.
+#[tactic(auto, using(crate::proofs::Making::made_well, crate::proofs::Making::stopped_by_a_value, crate::proofs::Making::stopped_by_the_delay, crate::proofs::Making::stopped_by_a_set))]
+fn give_formed(
+    rule: &RuleCode,
+    view: &View,
+    changed: &mut [Value],
+    counts: &mut Counts,
+    answers: &mut Vec<Answer>,
+) -> Result<(Given, Time), RuleStop>
+    requires view { IsView view.now }
+    requires counts { AreCounts counts.old view.now }
+    requires variables { length changed.old ≡ length view.now.variables.now }
+    requires room { rule_depth rule.now ≤ vec_capacity answers.old }
+    ensures value { Makes (made_by_code rule.now (sight_of view.now)) result changed.new }
+    ensures capacity { vec_capacity answers.new ≡ vec_capacity answers.old }
+    ensures counts { AreCounts counts.new view.now }
+    ensures delay { IfOk result (λ made. made.1 ≤ MAX_DELAY) }
 {
     let given = give_values(&rule.gives, view, counts, answers)?;
-    let delay = number(&rule.delay, view, view.variables, counts, answers)?;
-    let delay = delay_in(&delay)?;
+    let delay = delay(rule, view, counts, answers)?;
     copy(view.variables, changed);
     set_variables(&rule.sets, view, changed, counts, answers)?;
     Ok((given, delay))
+}
+
+/// The delay of a rule.
+#[inline(always)]
+fn delay(
+    rule: &RuleCode,
+    view: &View,
+    counts: &mut Counts,
+    answers: &mut Vec<Answer>,
+) -> Result<Time, RuleStop>
+    requires view { IsView view.now }
+    requires counts { AreCounts counts.old view.now }
+    requires room { rule_depth rule.now ≤ vec_capacity answers.old }
+    ensures value { result ≡ delay_by_code rule.now.delay (sight_of view.now) }
+    ensures bounded { IfOk result (λ ms. ms ≤ MAX_DELAY) }
+    ensures capacity { vec_capacity answers.new ≡ vec_capacity answers.old }
+    ensures counts { AreCounts counts.new view.now }
+{
+    match &rule.constant_delay {
+        Some(delay) => Ok(*delay),
+        None => delay_of(&rule.delay, view, counts, answers),
+    }
+}
+
+/// The delay that a form answers.
+#[inline(never)]
+fn delay_of(
+    form: &Form,
+    view: &View,
+    counts: &mut Counts,
+    answers: &mut Vec<Answer>,
+) -> Result<Time, RuleStop>
+    requires view { IsView view.now }
+    requires counts { AreCounts counts.old view.now }
+    requires room { depth_of (code_of (expr_of_form form.now)) ≤ vec_capacity answers.old }
+    ensures value { result
+        ≡ delay_by_code (code_of (expr_of_form form.now)) (sight_of view.now) }
+    ensures bounded { IfOk result (λ ms. ms ≤ MAX_DELAY) }
+    ensures capacity { vec_capacity answers.new ≡ vec_capacity answers.old }
+    ensures counts { AreCounts counts.new view.now }
+{
+    let value = number(form, view, view.variables, counts, answers)?;
+    delay_in(&value)
 }
 
 #[tactic(auto, using(crate::proofs::Making::give_here, crate::proofs::Making::deepest_here, crate::proofs::Stacks::drop_end))]
@@ -148,7 +224,8 @@ fn give_values(
     requires view { IsView view.now }
     requires counts { AreCounts counts.old view.now }
     requires room { deepest (map plain gives.now) ≤ vec_capacity answers.old }
-    ensures value { GivesValues (given_by_code (map plain gives.now) (sight_of view.now) no_values) result }
+    ensures value { GivesValues (given_by_code (map plain gives.now)
+        (sight_of view.now) no_values) result }
     ensures capacity { vec_capacity answers.new ≡ vec_capacity answers.old }
     ensures counts { AreCounts counts.new view.now }
 {
@@ -171,7 +248,8 @@ fn set_variables(
     requires view { IsView view.now }
     requires counts { AreCounts counts.old view.now }
     requires room { deepest (map plain sets.now) ≤ vec_capacity answers.old }
-    ensures value { SetsVariables (set_by_code (map plain sets.now) (seen view.now changed.old)) result changed.new }
+    ensures value { SetsVariables (set_by_code (map plain sets.now)
+        (seen view.now changed.old)) result changed.new }
     ensures capacity { vec_capacity answers.new ≡ vec_capacity answers.old }
     ensures counts { AreCounts counts.new view.now }
 {
@@ -183,6 +261,7 @@ fn set_variables(
 }
 
 /// Copies the values of variables, where there are any.
+#[inline(always)]
 fn copy(variables: &[Value], changed: &mut [Value])
     requires { length changed.old ≡ length variables.now }
     ensures { changed.new ≡ variables.now }
@@ -211,7 +290,8 @@ fn number(
     requires view { IsView view.now }
     requires counts { AreCounts counts.old view.now }
     requires room { depth_of (code_of (expr_of_form form.now)) ≤ vec_capacity answers.old }
-    ensures value { result ≡ number_by_code (code_of (expr_of_form form.now)) (seen view.now variables.now) }
+    ensures value { result ≡ number_by_code (code_of (expr_of_form form.now))
+        (seen view.now variables.now) }
     ensures capacity { vec_capacity answers.new ≡ vec_capacity answers.old }
     ensures counts { AreCounts counts.new view.now }
 {
@@ -221,27 +301,5 @@ fn number(
     match run(form, view, variables, counts, answers) {
         Ok(answer) => Ok(number_in(answer)),
         Err(stop) => Err(stop),
-    }
-}
-
-#[tactic(auto, using(crate::proofs::Making::delay_is))]
-/// A delay, if it is a whole number of milliseconds that is not too large.
-fn delay_in(value: &Value) -> Result<Time, RuleStop>
-    ensures value { result ≡ delay_in value.now }
-    ensures bounded { IfOk result (λ ms. ms ≤ 359999999) }
-{
-    match whole_number(*value) {
-        Some(ms) if ms <= 359_999_999 => Ok(time(ms)),
-        _ => Err(RuleStop::BadDelay(*value)),
-    }
-}
-
-fn time(ms: u64) -> Time
-    requires { ms ≤ 359999999 }
-    ensures { result ≡ ms }
-{
-    match Time::new(ms as u32) {
-        Some(time) => time,
-        None => unreachable!(),
     }
 }

@@ -1,5 +1,5 @@
 // Expressions as they are evaluated.
-use quantity::{Compare, Tri, Value};
+use quantity::{Compare, Raw, Tri, Value};
 use rule_tree::{Binary, Count, Function, Unary};
 
 /// A port of a neighbour, by offset and port.
@@ -17,6 +17,10 @@ pub enum PlainTest {
     NeighbourIs(Compare, u8, u8, Value),
     /// A count, compared with a number.
     CountIs(Compare, Count, Value),
+    /// Whether a neighbour's value at its port `out` is this number.
+    OutIs(u8, Raw),
+    /// Whether a count is this number.
+    CountEquals(Count, u8),
 }
 
 /// A test none of whose parts can be too large.
@@ -31,7 +35,8 @@ pub enum Test {
     PlainEither(PlainTest, Box<Test>),
 }
 
-/// An expression as it is evaluated: like the tree of a rule, with what often stands together in one node.
+/// An expression as it is evaluated: like the tree of a rule, with what often stands together in
+/// one node.
 #[derive(Drop)]
 pub enum Form {
     Number(Value),

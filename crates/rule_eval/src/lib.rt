@@ -9,14 +9,15 @@ mod depth;
 mod evaluation;
 mod forms;
 pub mod given;
+mod known;
 pub mod laws;
 mod lowering;
 mod numbered;
+mod outs;
 pub mod rule_code;
 mod seen;
 pub mod stack;
-#[cfg(test)]
-mod tests;
+mod sums;
 pub mod view;
 
 pub use code::{Op, postfix};

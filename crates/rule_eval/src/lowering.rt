@@ -1,12 +1,14 @@
 // The forms that stand for the trees of rules.
-ghost use Rattle.std.specs.Prelude.{◌≡◌, ◌∷◌, ◌++◌, [], IfOk, OnOk, map};
+ghost use Rattle.std.specs.Prelude.{◌≡◌, ◌∷◌, ◌++◌, [], IfOk, IfSome, OnOk, map};
 ghost use Rattle.rule_tree.specs.Expression as E;
 ghost use Rattle.rule_tree.specs.Expression.{expr_of};
-ghost use Rattle.rule_eval.specs.Forms.{expr_of_form, expr_of_test};
+ghost use Rattle.rule_tree.specs.Meaning.{whole};
+ghost use Rattle.rule_eval.specs.Forms.{expr_of_form, expr_of_plain, expr_of_test};
 
 use crate::forms::{Form, PlainTest, PortAt, Test};
-use quantity::{Compare, OutOfMemory};
-use rule_tree::{Binary, Node, Unary};
+use crate::seen::whole_number;
+use quantity::{Compare, OutOfMemory, Value};
+use rule_tree::{Binary, Count, Node, Unary};
 use std::alloc::{AllocError, Global};
 
 /// The form that stands for an expression.
@@ -79,7 +81,8 @@ fn one_of(alloc: Global, operator: Unary, a: Form) -> Result<Form, OutOfMemory>
 }
 
 fn two(alloc: Global, operator: Binary, a: Form, c: Form) -> Result<Form, OutOfMemory>
-    ensures { IfOk result (λ form. expr_of_form form ≡ E.two operator (expr_of_form a) (expr_of_form c)) }
+    ensures { IfOk result (λ form. expr_of_form form
+        ≡ E.two operator (expr_of_form a) (expr_of_form c)) }
 {
     match operator {
         Binary::And => both(alloc, a, c),
@@ -91,7 +94,8 @@ fn two(alloc: Global, operator: Binary, a: Form, c: Form) -> Result<Form, OutOfM
 }
 
 fn both(alloc: Global, a: Form, c: Form) -> Result<Form, OutOfMemory>
-    ensures { IfOk result (λ form. expr_of_form form ≡ E.two Binary.And (expr_of_form a) (expr_of_form c)) }
+    ensures { IfOk result (λ form. expr_of_form form
+        ≡ E.two Binary.And (expr_of_form a) (expr_of_form c)) }
 {
     match (a, c) {
         (Form::Test(a), Form::Test(c)) => {
@@ -103,7 +107,8 @@ fn both(alloc: Global, a: Form, c: Form) -> Result<Form, OutOfMemory>
 }
 
 fn both_tests(alloc: Global, a: Test, c: Test) -> Result<Test, OutOfMemory>
-    ensures { IfOk result (λ test. expr_of_test test ≡ E.two Binary.And (expr_of_test a) (expr_of_test c)) }
+    ensures { IfOk result (λ test. expr_of_test test
+        ≡ E.two Binary.And (expr_of_test a) (expr_of_test c)) }
 {
     let c = Box::new(alloc, c).map_err(AllocError::from)?;
     match a {
@@ -116,7 +121,8 @@ fn both_tests(alloc: Global, a: Test, c: Test) -> Result<Test, OutOfMemory>
 }
 
 fn either(alloc: Global, a: Form, c: Form) -> Result<Form, OutOfMemory>
-    ensures { IfOk result (λ form. expr_of_form form ≡ E.two Binary.Or (expr_of_form a) (expr_of_form c)) }
+    ensures { IfOk result (λ form. expr_of_form form
+        ≡ E.two Binary.Or (expr_of_form a) (expr_of_form c)) }
 {
     match (a, c) {
         (Form::Test(a), Form::Test(c)) => {
@@ -128,7 +134,8 @@ fn either(alloc: Global, a: Form, c: Form) -> Result<Form, OutOfMemory>
 }
 
 fn either_tests(alloc: Global, a: Test, c: Test) -> Result<Test, OutOfMemory>
-    ensures { IfOk result (λ test. expr_of_test test ≡ E.two Binary.Or (expr_of_test a) (expr_of_test c)) }
+    ensures { IfOk result (λ test. expr_of_test test
+        ≡ E.two Binary.Or (expr_of_test a) (expr_of_test c)) }
 {
     let c = Box::new(alloc, c).map_err(AllocError::from)?;
     match a {
@@ -141,22 +148,57 @@ fn either_tests(alloc: Global, a: Test, c: Test) -> Result<Test, OutOfMemory>
 }
 
 fn compared(alloc: Global, how: Compare, a: Form, c: Form) -> Result<Form, OutOfMemory>
-    ensures { IfOk result (λ form. expr_of_form form ≡ E.two (Binary.Cmp how) (expr_of_form a) (expr_of_form c)) }
+    ensures { IfOk result (λ form. expr_of_form form
+        ≡ E.two (Binary.Cmp how) (expr_of_form a) (expr_of_form c)) }
 {
     match (a, c) {
         (Form::Neighbour(k, port), Form::Number(value)) => {
-            Ok(Form::Test(Test::Plain(PlainTest::NeighbourIs(how, k, port, value))))
+            Ok(Form::Test(Test::Plain(neighbour_is(how, k, port, &value))))
         }
         (Form::Counted(count), Form::Number(value)) => {
-            Ok(Form::Test(Test::Plain(PlainTest::CountIs(how, count, value))))
+            Ok(Form::Test(Test::Plain(count_is(how, count, &value))))
         }
         (a, c) => two_of(alloc, Binary::Cmp(how), a, c),
     }
 }
 
+/// The test of a neighbour's value.
+fn neighbour_is(how: Compare, k: u8, port: u8, value: &Value) -> PlainTest
+    ensures { expr_of_plain result
+        ≡ E.two (Binary.Cmp how) (E.neighbour k port) (E.number value.now) }
+{
+    match (how, port, value) {
+        (Compare::Equal, 0, Value::Num(number)) => PlainTest::OutIs(k, *number),
+        (how, port, value) => PlainTest::NeighbourIs(how, k, port, *value),
+    }
+}
+
+/// The test of a count.
+fn count_is(how: Compare, count: Count, value: &Value) -> PlainTest
+    ensures { expr_of_plain result
+        ≡ E.two (Binary.Cmp how) (E.counted count) (E.number value.now) }
+{
+    match (how, small_number(value)) {
+        (Compare::Equal, Some(number)) => PlainTest::CountEquals(count, number),
+        (how, _) => PlainTest::CountIs(how, count, *value),
+    }
+}
+
+/// The whole number from 0 to 255 that a value is.
+#[tactic(auto, using(crate::proofs::FormTests::whole_again))]
+fn small_number(value: &Value) -> Option<u8>
+    ensures { IfSome result (λ n. value.now ≡ whole n) }
+{
+    match whole_number(*value) {
+        Some(n) if n <= 255 => Some(n as u8),
+        _ => None,
+    }
+}
+
 #[tactic(auto, using(crate::proofs::FormTrees::one_more))]
 fn added(alloc: Global, a: Form, c: Form) -> Result<Form, OutOfMemory>
-    ensures { IfOk result (λ form. expr_of_form form ≡ E.two Binary.Add (expr_of_form a) (expr_of_form c)) }
+    ensures { IfOk result (λ form. expr_of_form form
+        ≡ E.two Binary.Add (expr_of_form a) (expr_of_form c)) }
 {
     match (a, c) {
         (Form::Sum(k, p, mut more), Form::Neighbour(offset, port)) => {
@@ -173,7 +215,8 @@ fn added(alloc: Global, a: Form, c: Form) -> Result<Form, OutOfMemory>
 }
 
 fn put(ports: &mut Vec<PortAt>, offset: u8, port: u8) -> Result<(), OutOfMemory>
-    ensures { OnOk result (ports.new.items ≡ ports.old.items ++ record { offset = offset; port = port } ∷ []) }
+    ensures { OnOk result (ports.new.items
+        ≡ ports.old.items ++ record { offset = offset; port = port } ∷ []) }
 {
     ports
         .push(PortAt { offset, port })
@@ -182,7 +225,8 @@ fn put(ports: &mut Vec<PortAt>, offset: u8, port: u8) -> Result<(), OutOfMemory>
 }
 
 fn two_of(alloc: Global, operator: Binary, a: Form, c: Form) -> Result<Form, OutOfMemory>
-    ensures { IfOk result (λ form. expr_of_form form ≡ E.two operator (expr_of_form a) (expr_of_form c)) }
+    ensures { IfOk result (λ form. expr_of_form form
+        ≡ E.two operator (expr_of_form a) (expr_of_form c)) }
 {
     let a = Box::new(alloc, a).map_err(AllocError::from)?;
     let c = Box::new(alloc, c).map_err(AllocError::from)?;

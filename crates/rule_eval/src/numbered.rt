@@ -25,7 +25,8 @@ pub(crate) fn forms_of_gives(
     alloc: Global,
     gives: &[Give],
 ) -> Result<Vec<NumberedForm>, OutOfMemory>
-    ensures { IfOk result (λ forms. map plain forms.items ≡ map coded (map (λ (g : AnyGive). (g.port, expr_of g.value)) gives.now)) }
+    ensures { IfOk result (λ forms. map plain forms.items
+        ≡ map coded (map (λ (g : AnyGive). (g.port, expr_of g.value)) gives.now)) }
 {
     let mut forms = Vec::new(alloc);
     for give in gives {
@@ -39,7 +40,8 @@ pub(crate) fn forms_of_sets(
     alloc: Global,
     sets: &[SetVariable],
 ) -> Result<Vec<NumberedForm>, OutOfMemory>
-    ensures { IfOk result (λ forms. map plain forms.items ≡ map coded (map (λ (x : AnySet). (x.variable, expr_of x.value)) sets.now)) }
+    ensures { IfOk result (λ forms. map plain forms.items
+        ≡ map coded (map (λ (x : AnySet). (x.variable, expr_of x.value)) sets.now)) }
 {
     let mut forms = Vec::new(alloc);
     for set in sets {
@@ -50,7 +52,8 @@ pub(crate) fn forms_of_sets(
 }
 
 fn add(forms: &mut Vec<NumberedForm>, number: u8, form: Form) -> Result<(), OutOfMemory>
-    ensures { OnOk result (map plain forms.new.items ≡ map plain forms.old.items ++ (number, code_of (expr_of_form form)) ∷ []) }
+    ensures { OnOk result (map plain forms.new.items
+        ≡ map plain forms.old.items ++ (number, code_of (expr_of_form form)) ∷ []) }
 {
     forms
         .push(NumberedForm { number, form })

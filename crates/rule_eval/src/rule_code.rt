@@ -1,16 +1,15 @@
 // A rule as it is evaluated.
-ghost use Rattle.std.specs.Prelude.{◌≡◌, ◌≤◌, IfOk, map};
+ghost use Rattle.std.specs.Prelude.{◌≡◌, ◌≤◌, IfOk};
 ghost use Rattle.rule_tree.specs.Expression.{rule_of};
-ghost use Rattle.rule_eval.specs.Code.{code_of};
-ghost use Rattle.rule_eval.specs.Forms.{expr_of_form};
 ghost use Rattle.rule_eval.specs.RuleCodes.{codes_of, rule_depth, rule_nodes};
-ghost use Rattle.rule_eval.specs.Numbered.{plain};
+ghost use Rattle.rule_eval.specs.Numbered.{codes_of_forms};
 
 use crate::depth::depth_of_rule;
 use crate::forms::Form;
+use crate::known::{Constant, constant_delay, constant_of};
 use crate::lowering::form_of;
 use crate::numbered::{NumberedForm, forms_of_gives, forms_of_sets};
-use quantity::OutOfMemory;
+use quantity::{OutOfMemory, Time};
 use rule_tree::RuleTree;
 use std::alloc::Global;
 use std::marker::Model;
@@ -22,25 +21,30 @@ pub struct RuleCode {
     pub(crate) delay: Form,
     pub(crate) condition: Form,
     pub(crate) sets: Vec<NumberedForm>,
+    /// The delay, where it is the same whatever a cell sees.
+    pub(crate) constant_delay: Option<Time>,
+    /// All that is given, where it is the same whatever a cell sees and nothing is set.
+    pub(crate) constant: Option<Constant>,
     depth: usize,
 }
 
 impl Model for RuleCode {
-    ghost use Rattle.std.specs.Prelude.{◌≡◌, map};
-    ghost use Rattle.rule_eval.specs.Code.{code_of};
-    ghost use Rattle.rule_eval.specs.Forms.{expr_of_form};
-    ghost use Rattle.rule_eval.specs.RuleCodes.{Codes, rule_depth};
-    ghost use Rattle.rule_eval.specs.Numbered.{plain};
+    ghost use Rattle.rule_eval.specs.RuleCodes.{Codes};
+    ghost use Rattle.rule_eval.specs.Numbered.{codes_of_forms};
+    ghost use Rattle.rule_eval.specs.Known.{IsKnown};
 
     ghost Value = { Codes };
 
-    ghost view = { λ r. record { gives = map plain r.gives.items; delay = code_of (expr_of_form r.delay); condition = code_of (expr_of_form r.condition); sets = map plain r.sets.items } };
+    ghost view = { λ r. codes_of_forms r.gives.items r.delay r.condition r.sets.items };
 
-    ghost invariant = { λ r. r.depth ≡ rule_depth (record { gives = map plain r.gives.items; delay = code_of (expr_of_form r.delay); condition = code_of (expr_of_form r.condition); sets = map plain r.sets.items }) };
+    ghost invariant = { λ r.
+        IsKnown (codes_of_forms r.gives.items r.delay r.condition r.sets.items)
+        r.depth r.constant_delay r.constant };
 }
 
 impl RuleCode {
-    /// The code that stands for a rule's tree: for each of its expressions the postfix code, in the tree's order.
+    /// The code that stands for a rule's tree: for each of its expressions the postfix code, in the
+    /// tree's order.
     pub fn make(alloc: Global, tree: &RuleTree) -> Result<RuleCode, OutOfMemory>
         ensures codes { IfOk result (λ code. code ≡ codes_of (rule_of tree.now)) }
         ensures depth { IfOk result (λ code. rule_depth code ≤ rule_nodes (rule_of tree.now)) }
@@ -60,20 +64,24 @@ impl RuleCode {
         sets: Vec<NumberedForm>,
         depth: usize,
     ) -> RuleCode
-        requires { depth ≡ rule_depth (record { gives = map plain gives.items; delay = code_of (expr_of_form delay); condition = code_of (expr_of_form condition); sets = map plain sets.items }) }
-        ensures { result ≡ record { gives = map plain gives.items; delay = code_of (expr_of_form delay); condition = code_of (expr_of_form condition); sets = map plain sets.items } }
+        requires { depth ≡ rule_depth (codes_of_forms gives.items delay condition sets.items) }
+        ensures { result ≡ codes_of_forms gives.items delay condition sets.items }
     {
+        let constant_delay = constant_delay(&delay);
+        let constant = constant_of(&gives, &delay, &sets);
         RuleCode {
             gives,
             delay,
             condition,
             sets,
+            constant_delay,
+            constant,
             depth,
         }
     }
 
-    /// The most answers that stand on the stack at once while a part of the rule is evaluated: at most
-    /// the number of nodes of the rule's trees.
+    /// The most answers that stand on the stack at once while a part of the rule is evaluated: at
+    /// most the number of nodes of the rule's trees.
     pub fn depth(&self) -> usize
         ensures { result ≡ rule_depth self.now }
     {

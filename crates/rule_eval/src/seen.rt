@@ -3,7 +3,8 @@ ghost use Rattle.std.specs.Prelude.{◌≡◌, ◌≤◌, ◌^◌, List, [], len
 ghost use Rattle.std.specs.Option.{unwrap_or};
 ghost use Rattle.quantity.specs.declared.value.Value.{Value as AnyValue};
 ghost use Rattle.quantity.specs.Arithmetic.{same_value};
-ghost use Rattle.rule_tree.specs.Meaning.{value_at, whole, outs, how_many, counted, state_count, coordinates, cell_position};
+ghost use Rattle.rule_tree.specs.Meaning.{value_at, whole, outs, how_many, counted, state_count};
+ghost use Rattle.rule_tree.specs.Meaning.{coordinates, cell_position};
 ghost use Rattle.rule_eval.specs.Seen.{IsView, neighbours_of, seen, sight_of, whole_number_in};
 
 use crate::view::View;
@@ -141,6 +142,7 @@ fn is_number(wanted: i64, value: &Value) -> bool
 }
 
 /// The same where they have further ports.
+#[inline(never)]
 fn how_many_first(wanted: &Value, view: &View) -> u64
     requires { IsView view.now }
     ensures value { result ≡ how_many wanted.now (outs (sight_of view.now)) }
@@ -170,14 +172,34 @@ fn is_same(a: &Value, b: &Value) -> bool
     x.get() == y.get()
 }
 
-/// The number of neighbours that a word counts.
-#[inline(never)]
-pub(crate) fn counted(count: Count, view: &View) -> u8
+/// The number of neighbours that a word counts, where they have no port but `out`.
+#[inline(always)]
+pub(crate) fn counted_outs(count: Count, view: &View) -> u8
+    requires view { IsView view.now }
+    requires single { view.now.ports ≡ 0 }
+    ensures { result ≡ counted count (outs (sight_of view.now)) }
+{
+    counted_in(count, view.neighbours)
+}
+
+#[inline(always)]
+fn counted_in(count: Count, values: &[Value]) -> u8
+    requires { length values.now ≤ 128 }
+    ensures { result ≡ counted count values.now }
+{
+    match count {
+        Count::Ones => how_many_numbers(100_000, values) as u8,
+        Count::Zeros => how_many_numbers(0, values) as u8,
+        Count::Undefs => how_many_undefined(values) as u8,
+    }
+}
+
+/// The number of neighbours that a word counts, by their ports `out`.
+pub(crate) fn counted_first(count: Count, view: &View) -> u8
     requires { IsView view.now }
     ensures { result ≡ counted count (outs (sight_of view.now)) }
 {
-    let wanted = counted_value(count);
-    how_many(&wanted, view) as u8
+    how_many_first(&counted_value(count), view) as u8
 }
 
 /// The value that a word counts.
@@ -204,7 +226,8 @@ pub(crate) fn state_count(value: Value, view: &View) -> Value
 
 /// The coordinate of this number, or `?` where it is the number of none.
 pub(crate) fn cell_position(value: Value, view: &View) -> Value
-    ensures { (variables : List Value) → result ≡ cell_position value (seen view.now variables) }
+    ensures { (variables : List Value)
+        → result ≡ cell_position value (seen view.now variables) }
 {
     match whole_number(value) {
         Some(k) if k < u64::from(view.dims) => whole(u64::from(coordinate(&view.place, k))),

@@ -6,8 +6,8 @@ use rule_tree::Answer;
 use std::alloc::Global;
 use std::marker::Model;
 
-/// Room for the answers of a rule's parts, made once and used for many evaluations. It is seen as the number of
-/// answers that it was made for, and the number for which it holds memory.
+/// Room for the answers of a rule's parts, made once and used for many evaluations. It is seen as
+/// the number of answers that it was made for, and the number for which it holds memory.
 #[derive(Drop)]
 pub struct Stack {
     pub(crate) answers: Vec<Answer>,

@@ -26,7 +26,8 @@ most_operators l n = n
 
 -- operands with operators of a level between
 abbrev pub operands_before : Level → Reader → Reader
-operands_before l operand ts = then_on (operand ts) (λ x rest. joined (most_operators l (length rest)) operand l x rest)
+operands_before l operand ts =
+    then_on (operand ts) (λ x rest. joined (most_operators l (length rest)) operand l x rest)
 
 -- the sign that a token is before an operand of a level
 abbrev pub sign_at : Level → Token → Option Unary
@@ -53,8 +54,10 @@ abbrev pub AreArguments : Names → Part (List Phrase) → Option Arguments → 
 AreArguments names None None = ⊤
 AreArguments names None (Some a) = ⊥
 AreArguments names (Some p) None = ⊥
-AreArguments names (Some p) (Some a) = AllStand names a.terms.items p.0 × (tokens_of a.rest.now ≡ p.1)
+AreArguments names (Some p) (Some a) =
+    AllStand names a.terms.items p.0 × (tokens_of a.rest.now ≡ p.1)
 
 -- a function of what was read, where a closing parenthesis follows
 abbrev pub called_before : Function → Part (List Phrase) → Part Phrase
-called_before f p = then_on (then_on p closed) (λ xs rest. option_map (λ x. (x, rest)) (called f (Some xs)))
+called_before f p =
+    then_on (then_on p closed) (λ xs rest. option_map (λ x. (x, rest)) (called f (Some xs)))

@@ -10,7 +10,7 @@ ghost use Rattle.rule_tree.specs.Phrases as P;
 ghost use Rattle.rule_tree.specs.Phrases.{looked_up};
 ghost use Rattle.rule_words.specs.Reading.{block, cell_before, cell_phrase_before, constants};
 ghost use Rattle.rule_words.specs.Reading.{number_before, question_before, word_phrase};
-ghost use Rattle.rule_words.specs.Shown.{AreFew, cell_of, names_of, text_of, token_of, tokens_of};
+ghost use Rattle.rule_words.specs.Shown.{cell_of, names_of, text_of, token_of, tokens_of};
 ghost use Rattle.rule_terms.specs.Terms.{IsFront, IsTerm};
 ghost use Rattle.rule_words.specs.Tokens as T;
 ghost use Rattle.rule_words.specs.Tokens.{is_mark};
@@ -83,7 +83,6 @@ pub fn cell_before<'t, 'a>(tokens: &'t [Token<'a>]) -> Option<(WrittenCell<'a>, 
 
 /// A primary without expressions in it at the front, and the tokens behind it.
 pub fn atom_before<'t, 'a>(names: &Names, tokens: &'t [Token<'a>]) -> Option<Front<'t, 'a>>
-    requires { AreFew (names_of names.now) }
     ensures atom { IsFront (names_of names.now) (atom_before (tokens_of tokens.now)) result }
     ensures shorter { IfSome result (λ front. length front.rest.now < length tokens.now) }
 {
@@ -177,7 +176,6 @@ fn after_word<'t, 'a>(word: &[u8], tokens: &'t [Token<'a>]) -> Option<&'t [Token
 
 // What begins with a mark: `?`, a variable or a cell.
 fn mark_before<'t, 'a>(names: &Names, tokens: &'t [Token<'a>]) -> Option<Front<'t, 'a>>
-    requires { AreFew (names_of names.now) }
     ensures atom { IsFront (names_of names.now) (marked_before (tokens_of tokens.now)) result }
     ensures shorter { IfSome result (λ front. length front.rest.now < length tokens.now) }
 {
@@ -200,7 +198,6 @@ fn question_before<'t, 'a>(tokens: &'t [Token<'a>]) -> Option<Front<'t, 'a>>
 }
 
 fn variable_before<'t, 'a>(names: &Names, tokens: &'t [Token<'a>]) -> Option<Front<'t, 'a>>
-    requires { AreFew (names_of names.now) }
     ensures atom { IsFront (names_of names.now) (variable_before (tokens_of tokens.now)) result }
     ensures shorter { IfSome result (λ front. length front.rest.now < length tokens.now) }
 {
@@ -212,7 +209,6 @@ fn variable_before<'t, 'a>(names: &Names, tokens: &'t [Token<'a>]) -> Option<Fro
 }
 
 fn cell_phrase_before<'t, 'a>(names: &Names, tokens: &'t [Token<'a>]) -> Option<Front<'t, 'a>>
-    requires { AreFew (names_of names.now) }
     ensures atom { IsFront (names_of names.now) (cell_phrase_before (tokens_of tokens.now)) result }
     ensures shorter { IfSome result (λ front. length front.rest.now < length tokens.now) }
 {

@@ -6,7 +6,7 @@ ghost use Rattle.rule_words.specs.Descent.{at_level, call_before, enclosed_befor
 ghost use Rattle.rule_words.specs.Descent.{prefixed, primary_before, reading};
 ghost use Rattle.rule_tree.specs.Phrases.{expr};
 ghost use Rattle.rule_words.specs.Reading.{phrase_of};
-ghost use Rattle.rule_words.specs.Shown.{AreFew, level_of, names_of, tokens_of};
+ghost use Rattle.rule_words.specs.Shown.{level_of, names_of, tokens_of};
 ghost use Rattle.rule_terms.specs.Terms.{IsFront, IsTerm};
 
 use crate::atom::{atom_before, opening_before};
@@ -29,7 +29,6 @@ pub fn phrase(
     names: &Names,
     tokens: &[Token<'_>],
 ) -> Result<Option<Term>, OutOfMemory>
-    requires { AreFew (names_of names.now) }
     ensures { IfOk result (λ term. IsTerm (names_of names.now)
         (phrase_of (tokens_of tokens.now)) term) }
 {
@@ -51,7 +50,6 @@ fn front<'t, 'a>(
     level: Level,
     tokens: &'t [Token<'a>],
 ) -> Result<Option<Front<'t, 'a>>, OutOfMemory>
-    requires { AreFew (names_of names.now) }
     ensures read { IfOk result (λ front. (n : ℕ) → length tokens.now ≤ n → IsFront
         (names_of names.now) (at_level (reading n) (level_of level) (tokens_of tokens.now)) front) }
     ensures shorter { IfOk result (λ front. IfSome front
@@ -79,7 +77,6 @@ fn operands<'t, 'a>(
     operand: Level,
     tokens: &'t [Token<'a>],
 ) -> Result<Option<Front<'t, 'a>>, OutOfMemory>
-    requires { AreFew (names_of names.now) }
     ensures read { IfOk result (λ front. (n : ℕ) → length tokens.now ≤ n
         → IsFront (names_of names.now) (operands_before (level_of level)
         (at_level (reading n) (level_of operand)) (tokens_of tokens.now)) front) }
@@ -115,7 +112,6 @@ fn prefixed<'t, 'a>(
     operand: Level,
     tokens: &'t [Token<'a>],
 ) -> Result<Option<Front<'t, 'a>>, OutOfMemory>
-    requires { AreFew (names_of names.now) }
     ensures read { IfOk result (λ front. (n : ℕ) → length tokens.now ≤ n
         → IsFront (names_of names.now) (prefixed (sign_at (level_of level))
         (at_level (reading n) (level_of operand)) (tokens_of tokens.now)) front) }
@@ -140,7 +136,6 @@ fn primary<'t, 'a>(
     names: &Names,
     tokens: &'t [Token<'a>],
 ) -> Result<Option<Front<'t, 'a>>, OutOfMemory>
-    requires { AreFew (names_of names.now) }
     ensures read { IfOk result (λ front. (n : ℕ) → length tokens.now ≤ n
         → IsFront (names_of names.now) (primary_before (reading n) (tokens_of tokens.now)) front) }
     ensures shorter { IfOk result (λ front. IfSome front
@@ -165,7 +160,6 @@ fn enclosed<'t, 'a>(
     names: &Names,
     tokens: &'t [Token<'a>],
 ) -> Result<Option<Front<'t, 'a>>, OutOfMemory>
-    requires { AreFew (names_of names.now) }
     ensures read { IfOk result (λ front. (n : ℕ) → length tokens.now ≤ n
         → IsFront (names_of names.now)
         (enclosed_before (at_level (reading n) expr) (tokens_of tokens.now)) front) }
@@ -186,7 +180,6 @@ fn call<'t, 'a>(
     function: Function,
     tokens: &'t [Token<'a>],
 ) -> Result<Option<Front<'t, 'a>>, OutOfMemory>
-    requires { AreFew (names_of names.now) }
     ensures read { IfOk result (λ front. (n : ℕ) → length tokens.now ≤ n
         → IsFront (names_of names.now)
         (call_before function (at_level (reading n) expr) (tokens_of tokens.now)) front) }
@@ -206,7 +199,6 @@ fn arguments<'t, 'a>(
     names: &Names,
     tokens: &'t [Token<'a>],
 ) -> Result<Option<Arguments<'t, 'a>>, OutOfMemory>
-    requires { AreFew (names_of names.now) }
     ensures read { IfOk result (λ list. (n : ℕ) → length tokens.now ≤ n
         → AreArguments (names_of names.now)
         (list_before (at_level (reading n) expr) (tokens_of tokens.now)) list) }

@@ -94,11 +94,13 @@ abbrev pub set_of : NamedValue → SetVariable
 set_of v = record { variable = v.number; value = v.value }
 
 -- values that were read are what assigned phrases are in a group
-pub record AreNamed (names : Names) (kind : Kind) (vs : NamedValues) (xs : List Assigned) : Type 0 where
+pub record AreNamed (names : Names) (kind : Kind) (vs : NamedValues)
+    (xs : List Assigned) : Type 0 where
   pub words : words_of vs.list.items ≡ map (λ (x : Assigned). x.name) xs
   pub values : values_of vs.list.items ≡ map (value_for names kind) xs
   pub misses : Misses names vs.lacks (flat_map (names_for kind) xs)
-  pub sorted : vs.are_numbers ≡ list_all (is_number (length names.offsets)) (map (value_for names kind) xs)
+  pub sorted : vs.are_numbers ≡ list_all (is_number (length names.offsets))
+      (map (value_for names kind) xs)
 
 -- the same, where there are any
 abbrev pub AreValues : Names → Kind → Option (List Assigned) → Option NamedValues → Type 0
@@ -118,18 +120,22 @@ some_parts parts = and_on parts (λ ps. then_some (not (is_empty ps)) ps)
 -- a value is added where there is one
 abbrev pub IsAdded : Names → Kind → Option Assigned → NamedValues → NamedValues → Bool → Type 0
 IsAdded names kind None old new is = is ≡ false
-IsAdded names kind (Some x) old new is = (is ≡ true) × ((xs : List Assigned) → AreNamed names kind old xs → AreNamed names kind new (xs ++ x ∷ []))
+IsAdded names kind (Some x) old new is =
+    (is ≡ true) × ((xs : List Assigned) → AreNamed names kind old xs
+    → AreNamed names kind new (xs ++ x ∷ []))
 
 -- values and the tokens behind them are what was read at the front of tokens
 abbrev pub IsNamedFront : Names → Kind → Part (List Assigned) → Option NamedFront → Type 0
 IsNamedFront names kind None None = ⊤
 IsNamedFront names kind None (Some f) = ⊥
 IsNamedFront names kind (Some p) None = ⊥
-IsNamedFront names kind (Some p) (Some f) = AreNamed names kind f.values p.0 × (tokens_of f.rest.now ≡ p.1)
+IsNamedFront names kind (Some p) (Some f) =
+    AreNamed names kind f.values p.0 × (tokens_of f.rest.now ≡ p.1)
 
 -- a mark and a word, then :=, and the tokens behind them
 abbrev pub word_before : Bytes → List Token → Option (Bytes × List Token)
-word_before kind (mark m ∷ word w ∷ mark a ∷ ts) = then_some (bytes_eq m kind && bytes_eq a (codes ":=")) (w, ts)
+word_before kind (mark m ∷ word w ∷ mark a ∷ ts) =
+    then_some (bytes_eq m kind && bytes_eq a (codes ":=")) (w, ts)
 word_before kind ts = None
 
 -- := is the third token
@@ -139,7 +145,8 @@ holds_sets ts = false
 
 -- values in a block, and a value that is none
 abbrev pub braced_value : List Token → Part (List Assigned)
-braced_value ts = and_on (block (codes "{") (codes "}") ts) (λ b. option_map (λ xs. (xs, b.1)) (given_in b.0))
+braced_value ts =
+    and_on (block (codes "{") (codes "}") ts) (λ b. option_map (λ xs. (xs, b.1)) (given_in b.0))
 
 -- the undefined value, or a neighbour
 abbrev pub question_or_cell : List Token → Part Phrase

@@ -30,13 +30,20 @@ offset row column = record { row = row; column = column; plane = pos 0 }
 
 -- a line of cells that see the one to the left, themselves and the one to the right
 abbrev pub line : Names
-line = record { offsets = offset (pos 0) (negsuc 0) ∷ offset (pos 0) (pos 0) ∷ offset (pos 0) (pos 1) ∷ []; dims = 2; variables = []; ports = [] }
+line =
+    record {
+      offsets = offset (pos 0) (negsuc 0) ∷ offset (pos 0) (pos 0) ∷ offset (pos 0) (pos 1) ∷ [];
+      dims = 2;
+      variables = [];
+      ports = [];
+    }
 
 abbrev pub with_names : List Bytes → List Bytes → Names
 with_names variables ports = record line { variables = variables; ports = ports }
 
 abbrev pub always : Expr → Rule
-always v = record { gives = (0, v) ∷ []; delay = number (whole 100); condition = truth True; sets = [] }
+always v =
+    record { gives = (0, v) ∷ []; delay = number (whole 100); condition = truth True; sets = [] }
 
 abbrev pub refuses : Bytes → RuleRefusal → Type 0
 refuses text kind = rule_of line text ≡ Err kind
@@ -70,18 +77,23 @@ pub record TokensAreBounded : Type 0 where
   pub one_more : is_large (replicate 4097 (word (codes "t"))) ≡ true
 
 pub record RulesAreRead : Type 0 where
-  pub pieces : tokens (codes "a1.5<=$b :=1.") ≡ Some (word (codes "a1") ∷ number' (codes ".5") ∷ mark (codes "<=") ∷ mark (codes "$") ∷ word (codes "b") ∷ mark (codes ":=") ∷ number' (codes "1.") ∷ [])
+  pub pieces : tokens (codes "a1.5<=$b :=1.")
+      ≡ Some (word (codes "a1") ∷ number' (codes ".5") ∷ mark (codes "<=") ∷ mark (codes "$")
+      ∷ word (codes "b") ∷ mark (codes ":=") ∷ number' (codes "1.") ∷ [])
   pub no_piece : tokens (codes "1a") ≡ None
   pub plain : rule_of line (codes "1 100 { t }") ≡ Ok (always (number (whole 1)))
   pub minus : rule_of line (codes "-1 100 { t }") ≡ Ok (always (number (Num (negsuc 99999))))
   pub cell : rule_of line (codes "(0,-1) 100 { t }") ≡ Ok (always (neighbour 0 0))
   pub to_the_left : rule_of line (codes "{ 1 - 2 - -3 * 4 } 100 { t }") ≡ Ok (always
-      (two Sub (two Sub (number (whole 1)) (number (whole 2))) (two Mul (one Minus (number (whole 3))) (number (whole 4)))))
+      (two Sub (two Sub (number (whole 1)) (number (whole 2)))
+      (two Mul (one Minus (number (whole 3))) (number (whole 4)))))
   pub logic : rule_of line (codes "1 100 { not t and time > 3 or t imp t }") ≡ Ok (record {
     gives = (0, number (whole 1)) ∷ [];
     delay = number (whole 100);
     sets = [];
-    condition = two Imp (two Or (two And (one Not (truth True)) (two (Cmp Greater) now (number (whole 3)))) (truth True)) (truth True);
+    condition =
+        two Imp (two Or (two And (one Not (truth True)) (two (Cmp Greater) now (number (whole 3))))
+        (truth True)) (truth True);
   })
   pub counts : rule_of line (codes "1 100 { truecount = 1 }") ≡ Ok (record {
     gives = (0, number (whole 1)) ∷ [];
@@ -89,11 +101,20 @@ pub record RulesAreRead : Type 0 where
     sets = [];
     condition = two (Cmp Equal) (counted Ones) (number (whole 1));
   })
-  pub calls : rule_of line (codes "{ min((0,0), (1 + 2)) } 100 { t }") ≡ Ok (always (call Min (cons (neighbour 1 0) (cons (two Add (number (whole 1)) (number (whole 2))) nil))))
-  pub sets : rule_of (with_names (codes "and" ∷ codes "b" ∷ []) []) (codes "{ $b + $and } { $and := $and + 1; $b := $and; } 100 { t }") ≡
-      Ok (record (always (two Add (variable 1) (variable 0))) { sets = (0, two Add (variable 0) (number (whole 1))) ∷ (1, variable 0) ∷ [] })
-  pub gives : rule_of (with_names [] (codes "p" ∷ [])) (codes "{ ~p := (0,0)~p + 1; ~out := (0,0) + (0,0)~p; } 100 { t }") ≡
-      Ok (record (always now) { gives = (1, two Add (neighbour 1 1) (number (whole 1))) ∷ (0, two Add (neighbour 1 0) (neighbour 1 1)) ∷ [] })
+  pub calls : rule_of line (codes "{ min((0,0), (1 + 2)) } 100 { t }")
+      ≡ Ok (always (call Min (cons (neighbour 1 0)
+      (cons (two Add (number (whole 1)) (number (whole 2))) nil))))
+  pub sets : rule_of (with_names (codes "and" ∷ codes "b" ∷ []) [])
+      (codes "{ $b + $and } { $and := $and + 1; $b := $and; } 100 { t }") ≡
+      Ok (record (always (two Add (variable 1) (variable 0))) {
+        sets = (0, two Add (variable 0) (number (whole 1))) ∷ (1, variable 0) ∷ [];
+      })
+  pub gives : rule_of (with_names [] (codes "p" ∷ []))
+      (codes "{ ~p := (0,0)~p + 1; ~out := (0,0) + (0,0)~p; } 100 { t }") ≡
+      Ok (record (always now) {
+        gives = (1, two Add (neighbour 1 1) (number (whole 1)))
+            ∷ (0, two Add (neighbour 1 0) (neighbour 1 1)) ∷ [];
+      })
   pub random : refuses (codes "{ uniform(0,1) } 100 { t }") RandomRefused
   pub stranger : refuses (codes "{ (0,2) } 100 { t }") NotANeighbour
   pub deep : refuses (codes "{ (0,0,0) } 100 { t }") NotANeighbour

@@ -7,7 +7,7 @@ ghost use Rattle.quantity.specs.Bytes.{all_there};
 ghost use Rattle.rule_words.specs.Reading.{all_assigned, assigned, block_begins, ended_parts};
 ghost use Rattle.rule_syntax.specs.RulesRead.{AreValues, IsAdded, holds_sets, mark_for};
 ghost use Rattle.rule_syntax.specs.RulesRead.{shown_parts, some_parts, word_before};
-ghost use Rattle.rule_words.specs.Shown.{AreFew, names_of, text_of, token_of, tokens_of};
+ghost use Rattle.rule_words.specs.Shown.{names_of, text_of, token_of, tokens_of};
 ghost use Rattle.rule_words.specs.Tokens.{is_mark};
 
 use crate::named::{Kind, NamedValues};
@@ -33,7 +33,6 @@ pub(crate) fn all_assigned<'a>(
     kind: Kind,
     tokens: &[Token<'a>],
 ) -> Result<Option<NamedValues<'a>>, OutOfMemory>
-    requires { AreFew (names_of names.now) }
     ensures { IfOk result (λ values. AreValues (names_of names.now) kind
         (all_assigned (mark_for kind) (tokens_of tokens.now)) values) }
 {
@@ -75,7 +74,6 @@ fn assign_all<'a>(
     kind: Kind,
     parts: &[&[Token<'a>]],
 ) -> Result<Option<NamedValues<'a>>, OutOfMemory>
-    requires { AreFew (names_of names.now) }
     ensures { IfOk result (λ values. AreValues (names_of names.now) kind
         (all_there (map (assigned (mark_for kind)) (shown_parts parts.now))) values) }
 {
@@ -96,7 +94,6 @@ fn assign<'a>(
     kind: Kind,
     tokens: &[Token<'a>],
 ) -> Result<bool, OutOfMemory>
-    requires { AreFew (names_of names.now) }
     ensures { IfOk result (λ is. IsAdded (names_of names.now) kind
         (assigned (mark_for kind) (tokens_of tokens.now)) values.old values.new is) }
 {

@@ -4,8 +4,6 @@
 mod assigned;
 mod named;
 pub mod rule;
-#[cfg(test)]
-mod tests;
 pub mod texts;
 mod written;
 

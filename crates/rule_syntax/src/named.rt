@@ -7,7 +7,7 @@ ghost use Rattle.rule_words.specs.Grammar.{at_out};
 ghost use Rattle.rule_tree.specs.Phrases.{Assigned, Phrase};
 ghost use Rattle.rule_syntax.specs.RulesRead.{AreNamed, give_of, mark_for, named_for, number_for};
 ghost use Rattle.rule_syntax.specs.RulesRead.{set_of, phrase_for, words_of};
-ghost use Rattle.rule_words.specs.Shown.{AreFew, names_of, text_of};
+ghost use Rattle.rule_words.specs.Shown.{names_of, text_of};
 ghost use Rattle.rule_tree.specs.Sound.{is_sort};
 ghost use Rattle.rule_terms.specs.Terms.{Misses, Stands};
 ghost use Rattle.rule_syntax.specs.declared.named.NamedValue.{NamedValue as AnyValue};
@@ -41,7 +41,6 @@ impl Kind {
 
     /// The number of the port or the variable; 0 where the group has none of this word.
     fn number(self, names: &Names, word: &[u8]) -> u8
-        requires { AreFew (names_of names.now) }
         ensures { result ≡ number_for (names_of names.now) self word.now }
     {
         match self {
@@ -52,7 +51,6 @@ impl Kind {
 
     /// Whether the group lacks this port or variable.
     fn lacks(self, names: &Names, word: &[u8]) -> Lacks
-        requires { AreFew (names_of names.now) }
         ensures { Misses (names_of names.now) result (named_for self word.now ∷ []) }
     {
         match self {
@@ -97,7 +95,6 @@ impl<'a> NamedValues<'a> {
         names: &Names,
         term: Term,
     ) -> Result<NamedValues<'a>, OutOfMemory>
-        requires { AreFew (names_of names.now) }
         ensures { IfOk result (λ values. (x : Phrase) → Stands (names_of names.now) term x
             → AreNamed (names_of names.now) Kind.Port values (at_out x)) }
     {
@@ -114,7 +111,6 @@ impl<'a> NamedValues<'a> {
         word: &'a [u8],
         term: Term,
     ) -> Result<(), OutOfMemory>
-        requires { AreFew (names_of names.now) }
         ensures { OnOk result ((xs : List Assigned) (x : Phrase)
             → AreNamed (names_of names.now) kind self.old xs → Stands (names_of names.now) term x
             → AreNamed (names_of names.now) kind self.new (xs ++ phrase_for word.now x ∷ [])) }

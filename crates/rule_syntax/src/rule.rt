@@ -5,7 +5,7 @@ ghost use Rattle.rule_tree.specs.Expression as E;
 ghost use Rattle.rule_words.specs.RuleOf.{judged, rule_of};
 ghost use Rattle.rule_syntax.specs.RulesRead.{IsRead};
 ghost use Rattle.rule_tree.specs.Scope.{extent_of, is_sound};
-ghost use Rattle.rule_words.specs.Shown.{AreFew, names_of};
+ghost use Rattle.rule_words.specs.Shown.{names_of};
 
 use crate::written::{ReadRule, written_rule};
 use rule_tree::RuleTree;
@@ -25,7 +25,6 @@ impl Rule {
     /// BadSort. Memory says nothing of the text. The law `one_outcome` says that this is the one
     /// outcome that the grammar gives.
     pub fn read(alloc: Global, text: &[u8], names: &Names) -> Result<RuleTree, RuleRefusal>
-        requires { AreFew (names_of names.now) }
         ensures rule { IfOk result (λ tree. rule_of (names_of names.now) text.now
             ≡ Ok (E.rule_of tree)) }
         ensures refusal { IfErr result (λ why. ((why ≡ RuleRefusal.Memory) → ⊥)

@@ -9,7 +9,7 @@ ghost use Rattle.rule_words.specs.Reading.{written_rule};
 ghost use Rattle.rule_syntax.specs.RulesRead.{AreNamed, AreRead, AreValues, IsNamedFront, IsRead};
 ghost use Rattle.rule_syntax.specs.RulesRead.{braced_value, plain_before, plain_value};
 ghost use Rattle.rule_syntax.specs.RulesRead.{question_or_cell};
-ghost use Rattle.rule_words.specs.Shown.{AreFew, names_of, tokens_of};
+ghost use Rattle.rule_words.specs.Shown.{names_of, tokens_of};
 ghost use Rattle.rule_terms.specs.Terms.{IsFront, IsTerm, Stands};
 
 use crate::assigned::{NamedFront, all_assigned, begins_with_tilde, holds_sets, is_question};
@@ -41,7 +41,6 @@ pub(crate) fn written_rule(
     names: &Names,
     tokens: &[Token<'_>],
 ) -> Result<Option<ReadRule>, OutOfMemory>
-    requires { AreFew (names_of names.now) }
     ensures { IfOk result (λ rule. AreRead (names_of names.now)
         (written_rule (tokens_of tokens.now)) rule) }
 {
@@ -104,7 +103,6 @@ fn value_before<'t, 'a>(
     names: &Names,
     tokens: &'t [Token<'a>],
 ) -> Result<Option<NamedFront<'t, 'a>>, OutOfMemory>
-    requires { AreFew (names_of names.now) }
     ensures { IfOk result (λ front. IsNamedFront (names_of names.now) Kind.Port
         (value_before (tokens_of tokens.now)) front) }
 {
@@ -120,7 +118,6 @@ fn braced_value<'t, 'a>(
     names: &Names,
     tokens: &'t [Token<'a>],
 ) -> Result<Option<NamedFront<'t, 'a>>, OutOfMemory>
-    requires { AreFew (names_of names.now) }
     ensures { IfOk result (λ front. IsNamedFront (names_of names.now) Kind.Port
         (braced_value (tokens_of tokens.now)) front) }
 {
@@ -139,7 +136,6 @@ fn given_in<'a>(
     names: &Names,
     tokens: &[Token<'a>],
 ) -> Result<Option<NamedValues<'a>>, OutOfMemory>
-    requires { AreFew (names_of names.now) }
     ensures { IfOk result (λ values. AreValues (names_of names.now) Kind.Port
         (given_in (tokens_of tokens.now)) values) }
 {
@@ -159,7 +155,6 @@ fn plain_value<'t, 'a>(
     names: &Names,
     tokens: &'t [Token<'a>],
 ) -> Result<Option<NamedFront<'t, 'a>>, OutOfMemory>
-    requires { AreFew (names_of names.now) }
     ensures { IfOk result (λ front. IsNamedFront (names_of names.now) Kind.Port
         (plain_value (tokens_of tokens.now)) front) }
 {
@@ -175,7 +170,6 @@ fn plain_value<'t, 'a>(
 
 /// A number, `?` or a cell.
 fn plain_front<'t, 'a>(names: &Names, tokens: &'t [Token<'a>]) -> Option<Front<'t, 'a>>
-    requires { AreFew (names_of names.now) }
     ensures { IsFront (names_of names.now) (plain_before (tokens_of tokens.now)) result }
 {
     match number_front(tokens) {
@@ -185,7 +179,6 @@ fn plain_front<'t, 'a>(names: &Names, tokens: &'t [Token<'a>]) -> Option<Front<'
 }
 
 fn question_or_cell<'t, 'a>(names: &Names, tokens: &'t [Token<'a>]) -> Option<Front<'t, 'a>>
-    requires { AreFew (names_of names.now) }
     ensures { IsFront (names_of names.now) (question_or_cell (tokens_of tokens.now)) result }
 {
     match question_front(tokens) {
@@ -222,7 +215,6 @@ fn question_front<'t, 'a>(tokens: &'t [Token<'a>]) -> Option<Front<'t, 'a>>
 }
 
 fn cell_front<'t, 'a>(names: &Names, tokens: &'t [Token<'a>]) -> Option<Front<'t, 'a>>
-    requires { AreFew (names_of names.now) }
     ensures { IsFront (names_of names.now) (cell_phrase_before (tokens_of tokens.now)) result }
 {
     let (cell, rest) = cell_before(tokens)?;
@@ -238,7 +230,6 @@ fn sets_before<'t, 'a>(
     names: &Names,
     tokens: &'t [Token<'a>],
 ) -> Result<Option<NamedFront<'t, 'a>>, OutOfMemory>
-    requires { AreFew (names_of names.now) }
     ensures { IfOk result (λ front. IsNamedFront (names_of names.now) Kind.Variable
         (sets_before (tokens_of tokens.now)) front) }
 {
@@ -274,7 +265,6 @@ fn delay_before<'t, 'a>(
     names: &Names,
     tokens: &'t [Token<'a>],
 ) -> Result<Option<Front<'t, 'a>>, OutOfMemory>
-    requires { AreFew (names_of names.now) }
     ensures { IfOk result (λ front. IsFront (names_of names.now)
         (delay_before (tokens_of tokens.now)) front) }
 {
@@ -290,7 +280,6 @@ fn phrase_block<'t, 'a>(
     names: &Names,
     tokens: &'t [Token<'a>],
 ) -> Result<Option<Front<'t, 'a>>, OutOfMemory>
-    requires { AreFew (names_of names.now) }
     ensures { IfOk result (λ front. IsFront (names_of names.now)
         (phrase_block (tokens_of tokens.now)) front) }
 {
@@ -309,7 +298,6 @@ fn last_block(
     names: &Names,
     tokens: &[Token<'_>],
 ) -> Result<Option<Term>, OutOfMemory>
-    requires { AreFew (names_of names.now) }
     ensures { IfOk result (λ term. IsTerm (names_of names.now)
         (last_block (tokens_of tokens.now)) term) }
 {

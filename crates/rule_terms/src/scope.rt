@@ -6,7 +6,7 @@ ghost use Rattle.quantity.specs.Arithmetic.{is_zero};
 ghost use Rattle.rule_tree.specs.Phrases.{out};
 ghost use Rattle.rule_tree.specs.Scope.{offset_number, offset_of, port_number, same_offset};
 ghost use Rattle.rule_tree.specs.Scope.{variable_number};
-ghost use Rattle.rule_words.specs.Shown.{AreFew, cell_of, names_of};
+ghost use Rattle.rule_words.specs.Shown.{cell_of, names_of};
 
 use quantity::{Name, Offset};
 use rule_words::cell::WrittenCell;
@@ -15,7 +15,6 @@ use rule_words::names::Names;
 /// The number of the offset that a cell's coordinates are, counted from 0; None where there is no
 /// such offset.
 pub fn offset_number(names: &Names, cell: &WrittenCell<'_>) -> Option<u8>
-    requires { AreFew (names_of names.now) }
     ensures { result ≡ offset_number (names_of names.now) (cell_of cell.now).place }
 {
     small(place_at(cell, &names.offsets))
@@ -78,7 +77,6 @@ fn is_at_plane(cell: &WrittenCell<'_>, offset: &Offset) -> bool
 
 /// The number of a state variable, counted from 0; None where there is no such variable.
 pub fn variable_number(names: &Names, word: &[u8]) -> Option<u8>
-    requires { AreFew (names_of names.now) }
     ensures { result ≡ variable_number (names_of names.now) word.now }
 {
     let number = place_called(word, &names.variables)?;
@@ -88,7 +86,6 @@ pub fn variable_number(names: &Names, word: &[u8]) -> Option<u8>
 /// The number of a neighbour's port: 0 for `out`, and the others counted from 1; None where there
 /// is no such port.
 pub fn port_number(names: &Names, word: &[u8]) -> Option<u8>
-    requires { AreFew (names_of names.now) }
     ensures { result ≡ port_number (names_of names.now) word.now }
 {
     if is_out(word) {

@@ -5,7 +5,7 @@ ghost use Rattle.rule_tree.specs.Expression as E;
 ghost use Rattle.rule_tree.specs.Expression.{expr_of};
 ghost use Rattle.rule_tree.specs.Phrases as P;
 ghost use Rattle.rule_tree.specs.Scope.{a_cell, a_port, a_variable, all_named_in, offset_number};
-ghost use Rattle.rule_words.specs.Shown.{AreFew, cell_of, names_of};
+ghost use Rattle.rule_words.specs.Shown.{cell_of, names_of};
 ghost use Rattle.rule_terms.specs.Terms.{AllStand, Misses, Stands};
 ghost use Rattle.rule_terms.specs.declared.term.Term.{Term as AnyTerm};
 
@@ -49,7 +49,6 @@ impl Lacks {
 
     /// Whether the group lacks this port.
     pub fn of_port(names: &Names, word: &[u8]) -> Lacks
-        requires { AreFew (names_of names.now) }
         ensures { Misses (names_of names.now) result (a_port word.now ∷ []) }
     {
         Lacks {
@@ -61,7 +60,6 @@ impl Lacks {
 
     /// Whether the group lacks this variable.
     pub fn of_variable(names: &Names, word: &[u8]) -> Lacks
-        requires { AreFew (names_of names.now) }
         ensures { Misses (names_of names.now) result (a_variable word.now ∷ []) }
     {
         Lacks {
@@ -73,7 +71,6 @@ impl Lacks {
 
     /// What the group lacks of a cell and of its port.
     fn of_cell(names: &Names, cell: &WrittenCell<'_>) -> Lacks
-        requires { AreFew (names_of names.now) }
         ensures { Misses (names_of names.now) result
             (a_cell (cell_of cell.now) ∷ a_port cell.now.port.now ∷ []) }
     {
@@ -161,7 +158,6 @@ impl Term {
 
     /// The neighbour's port that a cell names.
     pub fn cell(names: &Names, cell: &WrittenCell<'_>) -> Term
-        requires { AreFew (names_of names.now) }
         ensures { Stands (names_of names.now) result (P.cell (cell_of cell.now)) }
     {
         let offset = offset_number(names, cell).unwrap_or(0);
@@ -175,7 +171,6 @@ impl Term {
 
     /// The state variable of this name.
     pub fn variable(names: &Names, word: &[u8]) -> Term
-        requires { AreFew (names_of names.now) }
         ensures { Stands (names_of names.now) result (P.variable word.now) }
     {
         let variable = variable_number(names, word).unwrap_or(0);
@@ -265,7 +260,6 @@ fn either(left: bool, right: bool) -> bool
 
 /// Whether a cell has as many coordinates as the space, and is an offset of the neighbourhood.
 fn is_neighbour(names: &Names, cell: &WrittenCell<'_>) -> bool
-    requires { AreFew (names_of names.now) }
     ensures { result ≡ ((length (cell_of cell.now).place == names.now.dims) && is_some
         (offset_number (names_of names.now) (cell_of cell.now).place)) }
 {

@@ -1,5 +1,5 @@
--- The functions of the language. Each is one row: its word, the sorts that it takes and gives, and what it makes of a
--- value for each of them, over what a cell sees.
+-- The functions of the language. Each is one row: its word, the sorts that it takes and gives, and
+-- what it makes of a value for each of them, over what a cell sees.
 use Rattle.std.specs.Prelude.{ℕ, ◌/◌, ◌%◌, ◌&&◌, ◌==◌, nat_lt, Option, Some, List, [], ◌∷◌, slice_get, pos, negsuc, if◌then◌else◌, codes}
 use Rattle.std.specs.Option.{unwrap_or, option_map}
 use Rattle.quantity.specs.declared.place.Place.{Place}
@@ -15,7 +15,7 @@ use Rattle.rule_tree.specs.declared.function.Sort.{Sort}
 use Rattle.rule_tree.specs.declared.function.Sort.TheVariants.{Number, Truth}
 use Rattle.rule_tree.specs.declared.function.Function.{Function}
 use Rattle.rule_tree.specs.declared.function.Function.TheVariants.{StateCount, CellPos, If, Ifu, Abs, Sign, Sqrt, Trunc, Fractional, Round, Min, Max, Remainder, Even, Odd, IsInt, IsUndefined}
-use Rattle.rule_tree.specs.Sight.{Sight, outs, whole, how_many, number_in, truth_in}
+use Rattle.rule_tree.specs.Sight.{Sight, outs, whole, how_many, number_answered, truth_in}
 
 -- ---- what some functions make
 
@@ -62,7 +62,7 @@ Maker (a ∷ more) gives = Of a → Maker more gives
 
 -- an operand of this sort
 abbrev pub taken : (a : Sort) → Answer → Of a
-taken Number x = number_in x
+taken Number x = number_answered x
 taken Truth x = truth_in x
 
 -- an answer of this sort
@@ -75,7 +75,8 @@ abbrev pub miscounted : Option Answer
 miscounted = Some (Number' Undefined)
 
 -- what a maker makes of arguments, the first of them first
-abbrev pub made : (takes : List Sort) (gives : Sort) → Maker takes gives → List Answer → Option Answer
+abbrev pub made : (takes : List Sort) (gives : Sort) → Maker takes gives → List Answer
+    → Option Answer
 made [] gives maker [] = option_map (given gives) maker
 made [] gives maker (x ∷ xs) = miscounted
 made (a ∷ takes) gives maker [] = miscounted
@@ -88,9 +89,16 @@ pub record Row : Type 0 where
   pub gives : Sort
   pub makes : Sight → List Answer → Option Answer
 
--- the row of a function that makes this of what a cell sees and of things of the sorts that it takes
+-- the row of a function that makes this of what a cell sees and of things of the sorts that it
+-- takes
 abbrev pub made_row : Bytes → (takes : List Sort) (gives : Sort) → (Sight → Maker takes gives) → Row
-made_row word takes gives maker = record { word = word; takes = takes; gives = gives; makes = λ s xs. made takes gives (maker s) xs }
+made_row word takes gives maker =
+    record {
+      word = word;
+      takes = takes;
+      gives = gives;
+      makes = λ s xs. made takes gives (maker s) xs;
+    }
 
 -- a number of a number
 abbrev pub of_number : Bytes → (Value → Value) → Row
@@ -112,8 +120,11 @@ of_two_numbers word f = made_row word (Number ∷ Number ∷ []) Number (λ s v 
 abbrev pub row : Function → Row
 row StateCount = of_sight (codes "statecount") (λ v s. state_count v (outs s))
 row CellPos = of_sight (codes "cellpos") cell_position
-row If = made_row (codes "if") (Truth ∷ Number ∷ Number ∷ []) Number (λ s t a b. Some (by_truth t a b b))
-row Ifu = made_row (codes "ifu") (Truth ∷ Number ∷ Number ∷ Number ∷ []) Number (λ s t a b u. Some (by_truth t a b u))
+row If =
+    made_row (codes "if") (Truth ∷ Number ∷ Number ∷ []) Number (λ s t a b. Some (by_truth t a b b))
+row Ifu =
+    made_row (codes "ifu") (Truth ∷ Number ∷ Number ∷ Number ∷ []) Number
+    (λ s t a b u. Some (by_truth t a b u))
 row Abs = of_number (codes "abs") size_of
 row Sign = of_number (codes "sign") sign_of
 row Sqrt = of_number (codes "sqrt") root_of

@@ -119,7 +119,8 @@ operator_marks disj = []
 operator_marks conj = []
 operator_marks neg = []
 operator_marks comp =
-    (codes "=", Cmp Equal) ∷ (codes "!=", Cmp Unequal) ∷ (codes "<", Cmp Less) ∷ (codes "<=", Cmp LessEqual) ∷ (codes ">", Cmp Greater)
+    (codes "=", Cmp Equal) ∷ (codes "!=", Cmp Unequal) ∷ (codes "<", Cmp Less)
+    ∷ (codes "<=", Cmp LessEqual) ∷ (codes ">", Cmp Greater)
     ∷ (codes ">=", Cmp GreaterEqual) ∷ []
 operator_marks sum = (codes "+", Add) ∷ (codes "-", Sub) ∷ []
 operator_marks prod = (codes "*", Mul) ∷ (codes "/", Div) ∷ []
@@ -136,7 +137,8 @@ functions = map (λ (f : Function). ((row f).word, f)) ALL
 
 -- what a table has for a text
 abbrev pub looked_up : {A : Type 0} → List (Bytes × A) → Bytes → Option A
-looked_up {A} table text = option_map (λ (p : Bytes × A). p.1) (find (λ (p : Bytes × A). bytes_eq p.0 text) table)
+looked_up {A} table text =
+    option_map (λ (p : Bytes × A). p.1) (find (λ (p : Bytes × A). bytes_eq p.0 text) table)
 
 -- how many operands a function takes
 abbrev pub argument_count : Function → ℕ

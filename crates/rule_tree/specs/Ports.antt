@@ -8,7 +8,8 @@ abbrev pub or_earlier : Option Value → Option Value → Option Value
 or_earlier None earlier = earlier
 or_earlier (Some v) earlier = Some v
 
--- what is given at a port, if anything is (the ports of a sound rule's gives differ; else the last counts)
+-- what is given at a port, if anything is (the ports of a sound rule's gives differ; else the last
+-- counts)
 abbrev pub given_at : List (ℕ × Value) → ℕ → Option Value
 given_at [] port = None
 given_at (g ∷ gs) port = or_earlier (given_at gs port) (if g.0 == port then Some g.1 else None)
@@ -42,5 +43,6 @@ taken_by_port take (v ∷ vs) (p ∷ ps) = taken_at take v p ∷ taken_by_port t
 -- values for different ports are taken in any order, so port by port
 abbrev pub IsTakenByPort : (P : Type 0) → Type 0
 IsTakenByPort P =
-    (take : Value → P → P) (gs : List (ℕ × Value)) (ps : List P) → differ (map (λ (g : ℕ × Value). g.0) gs) ≡ true → length ps ≤ 4
+    (take : Value → P → P) (gs : List (ℕ × Value)) (ps : List P)
+    → differ (map (λ (g : ℕ × Value). g.0) gs) ≡ true → length ps ≤ 4
     → taken_in_order take gs ps ≡ taken_by_port take (by_port gs) ps

@@ -30,7 +30,8 @@ offset_of place = record { row = pos 0; column = pos 0; plane = pos 0 }
 
 -- the same neighbour
 abbrev pub same_offset : Offset → Offset → Bool
-same_offset a b = is_zero (a.row -ℤ b.row) && is_zero (a.column -ℤ b.column) && is_zero (a.plane -ℤ b.plane)
+same_offset a b =
+    is_zero (a.row -ℤ b.row) && is_zero (a.column -ℤ b.column) && is_zero (a.plane -ℤ b.plane)
 
 -- the number of a declared neighbour
 abbrev pub offset_number : Names → List ℤ → Option ℕ
@@ -42,7 +43,8 @@ variable_number names w = position (bytes_eq w) names.variables
 
 -- out is port 0, and the others are counted from 1
 abbrev pub port_number : Names → Bytes → Option ℕ
-port_number names w = if bytes_eq w out then Some 0 else option_map (λ k. k + 1) (position (bytes_eq w) names.ports)
+port_number names w =
+    if bytes_eq w out then Some 0 else option_map (λ k. k + 1) (position (bytes_eq w) names.ports)
 
 -- ---- what a rule names
 
@@ -72,12 +74,14 @@ abbrev mutual
 -- all that a rule names
 abbrev pub named_by : Written → List Named
 named_by r =
-    flat_map (λ (g : Assigned). a_port g.name ∷ named_in g.phrase) r.gives ++ named_in r.delay ++ named_in r.condition
+    flat_map (λ (g : Assigned). a_port g.name ∷ named_in g.phrase) r.gives ++ named_in r.delay
+    ++ named_in r.condition
     ++ flat_map (λ (s : Assigned). a_variable s.name ∷ named_in s.phrase) r.sets
 
 -- a cell that isn't an offset, or has another number of coordinates
 abbrev pub is_no_neighbour : Names → Named → Bool
-is_no_neighbour names (a_cell c) = not ((length c.place == names.dims) && is_some (offset_number names c.place))
+is_no_neighbour names (a_cell c) =
+    not ((length c.place == names.dims) && is_some (offset_number names c.place))
 is_no_neighbour names (a_variable w) = false
 is_no_neighbour names (a_port w) = false
 
@@ -99,7 +103,9 @@ abbrev mutual
   pub numbered : Names → Phrase → Expr
   numbered names (P.value v) = E.number v
   numbered names (P.truth t) = E.truth t
-  numbered names (P.cell c) = E.neighbour (unwrap_or (offset_number names c.place) 0) (unwrap_or (port_number names c.port) 0)
+  numbered names (P.cell c) =
+      E.neighbour (unwrap_or (offset_number names c.place) 0)
+      (unwrap_or (port_number names c.port) 0)
   numbered names (P.variable w) = E.variable (unwrap_or (variable_number names w) 0)
   numbered names P.now = E.now
   numbered names P.port_value = E.port_value
@@ -116,17 +122,21 @@ abbrev mutual
 abbrev pub rule_in : Names → Written → Rule
 rule_in names r =
     record {
-      gives = map (λ (g : Assigned). (unwrap_or (port_number names g.name) 0, numbered names g.phrase)) r.gives;
+      gives = map (λ (g : Assigned).
+          (unwrap_or (port_number names g.name) 0, numbered names g.phrase)) r.gives;
       delay = numbered names r.delay;
       condition = numbered names r.condition;
-      sets = map (λ (s : Assigned). (unwrap_or (variable_number names s.name) 0, numbered names s.phrase)) r.sets;
+      sets = map (λ (s : Assigned).
+          (unwrap_or (variable_number names s.name) 0, numbered names s.phrase)) r.sets;
     }
 
 -- ---- soundness
 
 -- values and delay are numbers, the condition is a truth value, and what is set is a number
 abbrev pub has_right_sorts : ℕ → Rule → Bool
-has_right_sorts offsets r = is_sound_rule offsets r && list_all (λ (s : ℕ × Expr). is_sort Number (sort_of s.1 offsets)) r.sets
+has_right_sorts offsets r =
+    is_sound_rule offsets r && list_all
+    (λ (s : ℕ × Expr). is_sort Number (sort_of s.1 offsets)) r.sets
 
 -- the numbers of offsets, variables and further ports of a group
 pub record Extent : Type 0 where
@@ -163,6 +173,8 @@ differ (k ∷ ks) = not (list_any (λ j. j == k) ks) && differ ks
 -- a rule that a group with these numbers can evaluate
 abbrev pub is_sound : Extent → Rule → Bool
 is_sound n r =
-    has_right_sorts n.offsets r && is_within n r.delay && is_within n r.condition && not (is_empty r.gives)
-    && list_all (λ (g : ℕ × Expr). nat_le g.0 n.ports && is_within n g.1) r.gives && differ (map (λ (g : ℕ × Expr). g.0) r.gives)
+    has_right_sorts n.offsets r && is_within n r.delay && is_within n r.condition
+    && not (is_empty r.gives)
+    && list_all (λ (g : ℕ × Expr). nat_le g.0 n.ports && is_within n g.1) r.gives
+    && differ (map (λ (g : ℕ × Expr). g.0) r.gives)
     && list_all (λ (s : ℕ × Expr). nat_lt s.0 n.variables && is_within n s.1) r.sets

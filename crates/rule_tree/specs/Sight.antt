@@ -37,9 +37,9 @@ abbrev pub how_many : Value → List Value → ℕ
 how_many v vs = count_by (λ w. same_value v w) vs
 
 -- the number that an answer is; a truth value counts as ?
-abbrev pub number_in : Answer → Value
-number_in (Number' v) = v
-number_in (Logic t) = Undefined
+abbrev pub number_answered : Answer → Value
+number_answered (Number' v) = v
+number_answered (Logic t) = Undefined
 
 -- the truth value that an answer is; a number counts as ?
 abbrev pub truth_in : Answer → Tri

@@ -20,8 +20,11 @@ after_word text (t ∷ ts) = then_some (is_word text t) ts
 
 -- the tokens behind (thisport)
 abbrev pub behind_this_port : List Token → Option (List Token)
-behind_this_port ts = and_on (after_mark (codes "(") ts) (λ inner. and_on (after_word (codes "thisport") inner) (after_mark (codes ")")))
+behind_this_port ts =
+    and_on (after_mark (codes "(") ts)
+    (λ inner. and_on (after_word (codes "thisport") inner) (after_mark (codes ")")))
 
 -- a phrase that begins with a mark
 abbrev pub marked_before : List Token → Part Phrase
-marked_before ts = option_or (question_before ts) (option_or (variable_before ts) (cell_phrase_before ts))
+marked_before ts =
+    option_or (question_before ts) (option_or (variable_before ts) (cell_phrase_before ts))

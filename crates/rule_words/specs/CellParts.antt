@@ -11,7 +11,9 @@ use Rattle.rule_words.specs.AtomParts.{after_mark}
 -- a whole number, with a sign or without
 abbrev pub int_before : List Token → Part ℤ
 int_before (number text ∷ ts) = option_map (λ n. (pos n, ts)) (whole_number 10 text)
-int_before (mark m ∷ number text ∷ ts) = if is_sign m then option_map (λ n. (with_sign_of m (pos n), ts)) (whole_number 10 text) else None
+int_before (mark m ∷ number text ∷ ts) =
+    if is_sign m then option_map (λ n. (with_sign_of m (pos n), ts)) (whole_number 10 text)
+    else None
 int_before ts = None
 
 -- a number behind a comma
@@ -34,4 +36,6 @@ place_before ts =
 
 -- a neighbour with its port
 abbrev pub cell_in_pieces : List Token → Part Cell
-cell_in_pieces ts = and_on (place_before ts) (λ p. option_map (λ q. (record { place = p.0; port = q.0 }, q.1)) (port_in p.1))
+cell_in_pieces ts =
+    and_on (place_before ts) (λ p. option_map (λ q. (record { place = p.0; port = q.0 }, q.1))
+    (port_in p.1))

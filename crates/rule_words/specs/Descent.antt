@@ -59,18 +59,21 @@ sign_in t = if is_mark (codes "+") t then Some Plus else then_some (is_mark (cod
 -- an operand behind any number of signs
 abbrev pub prefixed : (Token → Option Unary) → Reader → Reader
 prefixed sign operand [] = operand []
-prefixed sign operand (t ∷ ts) = elim (sign t) [ None ↦ operand (t ∷ ts) | Some u ↦ mapped (P.one u) (prefixed sign operand ts) ]
+prefixed sign operand (t ∷ ts) =
+    elim (sign t) [ None ↦ operand (t ∷ ts) | Some u ↦ mapped (P.one u) (prefixed sign operand ts) ]
 
 -- ---- primaries
 
 -- the value at the port that the rules are for
 abbrev pub port_value_before : Reader
-port_value_before (a ∷ b ∷ c ∷ d ∷ ts) = then_some (is_port_value (a ∷ b ∷ c ∷ d ∷ [])) (P.port_value, ts)
+port_value_before (a ∷ b ∷ c ∷ d ∷ ts) =
+    then_some (is_port_value (a ∷ b ∷ c ∷ d ∷ [])) (P.port_value, ts)
 port_value_before ts = None
 
 -- a phrase that begins with this word
 abbrev pub word_before : Bytes → Reader
-word_before w ts = option_or (option_map (λ x. (x, ts)) (word_phrase w)) (port_value_before (word w ∷ ts))
+word_before w ts =
+    option_or (option_map (λ x. (x, ts)) (word_phrase w)) (port_value_before (word w ∷ ts))
 
 -- a variable
 abbrev pub variable_before : Reader
@@ -93,7 +96,8 @@ atom_before (mark m ∷ ts) = mark_before m ts
 -- an opening parenthesis, behind the name of a function or behind nothing
 abbrev pub opening_before : List Token → Part (Option Function)
 opening_before (mark m ∷ ts) = then_some (bytes_eq m (codes "(")) (None, ts)
-opening_before (word w ∷ mark m ∷ ts) = if bytes_eq m (codes "(") then option_map (λ f. (Some f, ts)) (looked_up functions w) else None
+opening_before (word w ∷ mark m ∷ ts) =
+    if bytes_eq m (codes "(") then option_map (λ f. (Some f, ts)) (looked_up functions w) else None
 opening_before ts = None
 
 -- what was read, where a closing parenthesis follows
@@ -106,7 +110,8 @@ abbrev pub listed : ℕ → Reader → List Phrase → List Token → Part (List
 listed k read xs [] = Some (xs, [])
 listed zero read xs (t ∷ ts) = Some (xs, t ∷ ts)
 listed (suc k) read xs (t ∷ ts) =
-    if is_mark (codes ",") t then then_on (read ts) (λ y rest. listed k read (xs ++ y ∷ []) rest) else Some (xs, t ∷ ts)
+    if is_mark (codes ",") t then then_on (read ts) (λ y rest. listed k read (xs ++ y ∷ []) rest)
+    else Some (xs, t ∷ ts)
 
 -- phrases between commas
 abbrev pub list_before : Reader → List Token → Part (List Phrase)
@@ -119,7 +124,8 @@ enclosed_before read ts = then_on (read ts) closed
 -- the arguments of a function
 abbrev pub call_before : Function → Reader → Reader
 call_before f read ts =
-    then_on (then_on (list_before read ts) closed) (λ xs rest. option_map (λ x. (x, rest)) (called f (Some xs)))
+    then_on (then_on (list_before read ts) closed)
+    (λ xs rest. option_map (λ x. (x, rest)) (called f (Some xs)))
 
 -- what stands in parentheses: a phrase, or the operands of a function
 abbrev pub opened : Reader → Option Function → Reader

@@ -3,6 +3,7 @@ pub mod RuleOf
 pub mod Reading
 pub mod AtomParts
 pub mod TokenSteps
+pub mod Few
 pub mod Shown
 pub mod CellParts
 pub mod Descent

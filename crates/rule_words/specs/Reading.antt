@@ -43,7 +43,8 @@ cuts (t ∷ ts) = record { before = []; at = t; after = ts } ∷ map (cut_later 
 -- no parenthesis is open after these tokens, and none was closed that wasn't open
 abbrev pub is_closed : ℕ → List Token → Bool
 is_closed n [] = n == 0
-is_closed n (t ∷ ts) = not (is_mark (codes ")") t && (n == 0)) && is_closed (parentheses_after n t) ts
+is_closed n (t ∷ ts) =
+    not (is_mark (codes ")") t && (n == 0)) && is_closed (parentheses_after n t) ts
 
 -- an operand may end with this token
 abbrev pub ends : Token → Bool
@@ -64,7 +65,8 @@ operator_in l (mark m) = looked_up (operator_marks l) m
 
 -- the cut is at an operator between two operands, outside parentheses
 abbrev pub joins_at : Level → Cut → Bool
-joins_at l c = is_some (operator_in l c.at) && is_closed 0 c.before && ends_operand (last_or None c.before)
+joins_at l c =
+    is_some (operator_in l c.at) && is_closed 0 c.before && ends_operand (last_or None c.before)
 
 -- the last operator of a level outside parentheses
 abbrev pub last_join : Level → List Token → Option Cut
@@ -95,22 +97,32 @@ has text ts = list_any (is_mark text) ts
 abbrev pub block : Bytes → Bytes → List Token → Option (List Token × List Token)
 block opening closing [] = None
 block opening closing (t ∷ ts) =
-    then_some (is_mark opening t && has closing ts) (before_first (is_mark closing) ts, after_first (is_mark closing) ts)
+    then_some (is_mark opening t && has closing ts)
+    (before_first (is_mark closing) ts, after_first (is_mark closing) ts)
 
 -- a port behind its mark, or else the port out
 abbrev pub port_in : List Token → Option (Bytes × List Token)
-port_in (mark m ∷ word w ∷ ts) = Some (if bytes_eq m (codes "~") then (w, ts) else (out, mark m ∷ word w ∷ ts))
+port_in (mark m ∷ word w ∷ ts) =
+    Some (if bytes_eq m (codes "~") then (w, ts) else (out, mark m ∷ word w ∷ ts))
 port_in ts = Some (out, ts)
 
 -- two or three whole numbers between commas
 abbrev pub places_in : List Token → Option (List ℤ)
-places_in ts = option_and_then (λ is. then_some (has_length 2 3 is) is) (all_there (map int_in (slice_split (is_mark (codes ",")) ts)))
+places_in ts =
+    option_and_then (λ is. then_some (has_length 2 3 is) is)
+    (all_there (map int_in (slice_split (is_mark (codes ",")) ts)))
 
 -- a cell, and the tokens after it
 abbrev pub cell_before : List Token → Option (Cell × List Token)
 cell_before ts =
     option_and_then (λ b.
-    option_and_then (λ is. option_map (λ p. (record { place = is; port = p.0 }, p.1)) (port_in b.1)) (places_in b.0))
+    option_and_then (λ is. option_map (λ p. (
+      record {
+        place = is;
+        port = p.0;
+      },
+      p.1,
+    )) (port_in b.1)) (places_in b.0))
     (block (codes "(") (codes ")") ts)
 
 -- a neighbour behind which nothing stands
@@ -129,7 +141,8 @@ word_phrase w = option_or (looked_up constants w) (option_map P.counted (looked_
 -- the tokens of portValue(thisPort)
 abbrev pub is_port_value : List Token → Bool
 is_port_value (word w ∷ a ∷ word v ∷ b ∷ []) =
-    bytes_eq w (codes "portvalue") && is_mark (codes "(") a && bytes_eq v (codes "thisport") && is_mark (codes ")") b
+    bytes_eq w (codes "portvalue") && is_mark (codes "(") a && bytes_eq v (codes "thisport")
+    && is_mark (codes ")") b
 is_port_value ts = false
 
 -- a primary without phrases in it
@@ -164,9 +177,12 @@ without_last_close ts = then_some (closes (last_or None ts)) (without_last ts)
 -- what stands between parentheses, and the function before them
 abbrev pub enclosed : List Token → Option Enclosed
 enclosed (mark m ∷ ts) =
-    option_and_then (λ inner. then_some (bytes_eq m (codes "(")) (record { function = None; inner = inner })) (without_last_close ts)
+    option_and_then (λ inner. then_some (bytes_eq m (codes "("))
+    (record { function = None; inner = inner })) (without_last_close ts)
 enclosed (word w ∷ mark m ∷ ts) =
-    option_and_then (λ f. option_and_then (λ inner. then_some (bytes_eq m (codes "(")) (record { function = Some f; inner = inner })) (without_last_close ts))
+    option_and_then (λ f. option_and_then
+    (λ inner. then_some (bytes_eq m (codes "(")) (record { function = Some f; inner = inner }))
+    (without_last_close ts))
     (looked_up functions w)
 enclosed ts = None
 
@@ -189,7 +205,8 @@ after_not (t ∷ ts) = then_some (is_word (codes "not") t) ts
 -- a sign, and what follows it
 abbrev pub after_sign : List Token → Option (Unary × List Token)
 after_sign [] = None
-after_sign (t ∷ ts) = if is_mark (codes "+") t then Some (Plus, ts) else then_some (is_mark (codes "-") t) (Minus, ts)
+after_sign (t ∷ ts) =
+    if is_mark (codes "+") t then Some (Plus, ts) else then_some (is_mark (codes "-") t) (Minus, ts)
 
 -- an operator between two phrases
 abbrev pub both : Option Binary → Option Phrase → Option Phrase → Option Phrase
@@ -200,9 +217,17 @@ both b x y = None
 abbrev pub phrase_within : ℕ → Level → List Token → Option Phrase
 phrase_within zero l ts = None
 phrase_within (suc n) neg ts =
-    elim (after_not ts) [ None ↦ phrase_within n comp ts | Some us ↦ option_map (P.one Not) (phrase_within n neg us) ]
+    elim (after_not ts) [
+      | None ↦ phrase_within n comp ts
+      | Some us ↦ option_map (P.one Not)
+          (phrase_within n neg us)
+    ]
 phrase_within (suc n) signed ts =
-    elim (after_sign ts) [ None ↦ phrase_within n primary ts | Some s ↦ option_map (P.one s.0) (phrase_within n signed s.1) ]
+    elim (after_sign ts) [
+      | None ↦ phrase_within n primary ts
+      | Some s ↦ option_map (P.one s.0)
+          (phrase_within n signed s.1)
+    ]
 phrase_within (suc n) primary ts =
     option_or (atom ts) (elim (enclosed ts) [
       | None ↦ None
@@ -236,17 +261,20 @@ and_on (Some x) go = go x
 abbrev pub number_before : List Token → Part Phrase
 number_before (number text ∷ ts) = option_map (λ n. (P.value (Num n), ts)) (unsigned_literal text)
 number_before (mark m ∷ number text ∷ ts) =
-    and_on (then_some (is_sign m) m) (λ s. option_map (λ n. (P.value (Num (with_sign_of s n)), ts)) (unsigned_literal text))
+    and_on (then_some (is_sign m) m) (λ s.
+    option_map (λ n. (P.value (Num (with_sign_of s n)), ts)) (unsigned_literal text))
 number_before ts = None
 
 -- a phrase in braces
 abbrev pub phrase_block : List Token → Part Phrase
-phrase_block ts = and_on (block (codes "{") (codes "}") ts) (λ b. option_map (λ x. (x, b.1)) (phrase_of b.0))
+phrase_block ts =
+    and_on (block (codes "{") (codes "}") ts) (λ b. option_map (λ x. (x, b.1)) (phrase_of b.0))
 
 -- a mark and a word, then := and a phrase
 abbrev pub assigned : Bytes → List Token → Option Assigned
 assigned kind (mark m ∷ word w ∷ mark a ∷ ts) =
-    and_on (then_some (bytes_eq m kind && bytes_eq a (codes ":=")) w) (λ name. option_map (λ x. record { name = name; phrase = x }) (phrase_of ts))
+    and_on (then_some (bytes_eq m kind && bytes_eq a (codes ":=")) w)
+    (λ name. option_map (λ x. record { name = name; phrase = x }) (phrase_of ts))
 assigned kind ts = None
 
 -- the parts that end with a semicolon, where nothing follows the last
@@ -258,7 +286,9 @@ ended_parts (p ∷ q ∷ ps) = option_map (λ rest. p ∷ rest) (ended_parts (q 
 -- names that are given phrases, each ended
 abbrev pub all_assigned : Bytes → List Token → Option (List Assigned)
 all_assigned kind ts =
-    and_on (ended_parts (slice_split (is_mark (codes ";")) ts)) (λ parts. and_on (then_some (not (is_empty parts)) parts) (λ ps. all_there (map (assigned kind) ps)))
+    and_on (ended_parts (slice_split (is_mark (codes ";")) ts))
+    (λ parts. and_on (then_some (not (is_empty parts)) parts)
+    (λ ps. all_there (map (assigned kind) ps)))
 
 -- a block of names with this mark begins
 abbrev pub block_begins : Bytes → List Token → Bool
@@ -267,7 +297,9 @@ block_begins kind (t ∷ ts) = is_mark kind t
 
 -- a block of gives, or of one phrase at the port out
 abbrev pub given_in : List Token → Option (List Assigned)
-given_in ts = if block_begins (codes "~") ts then all_assigned (codes "~") ts else option_map at_out (phrase_of ts)
+given_in ts =
+    if block_begins (codes "~") ts then all_assigned (codes "~") ts
+    else option_map at_out (phrase_of ts)
 
 -- the mark of the undefined value
 abbrev pub question_before : List Token → Part Phrase
@@ -281,21 +313,26 @@ cell_phrase_before ts = option_map (λ c. (P.cell c.0, c.1)) (cell_before ts)
 -- what a rule gives
 abbrev pub value_before : List Token → Part (List Assigned)
 value_before ts =
-    option_or (and_on (block (codes "{") (codes "}") ts) (λ b. option_map (λ xs. (xs, b.1)) (given_in b.0)))
-    (option_map (λ x. (at_out x.0, x.1)) (option_or (number_before ts) (option_or (question_before ts) (cell_phrase_before ts))))
+    option_or (and_on (block (codes "{") (codes "}") ts)
+    (λ b. option_map (λ xs. (xs, b.1)) (given_in b.0)))
+    (option_map (λ x. (at_out x.0, x.1))
+    (option_or (number_before ts) (option_or (question_before ts) (cell_phrase_before ts))))
 
 -- a block of sets has := as its third token
 abbrev pub sets_in : List Token → Option (Option (List Assigned))
-sets_in (d ∷ w ∷ a ∷ ts) = if is_mark (codes ":=") a then Some (all_assigned (codes "$") (d ∷ w ∷ a ∷ ts)) else None
+sets_in (d ∷ w ∷ a ∷ ts) =
+    if is_mark (codes ":=") a then Some (all_assigned (codes "$") (d ∷ w ∷ a ∷ ts)) else None
 sets_in ts = None
 
 -- what a first block holds, where it holds sets, and the tokens after it
 abbrev pub sets_block : List Token → Part (Option (List Assigned))
-sets_block ts = and_on (block (codes "{") (codes "}") ts) (λ b. option_map (λ s. (s, b.1)) (sets_in b.0))
+sets_block ts =
+    and_on (block (codes "{") (codes "}") ts) (λ b. option_map (λ s. (s, b.1)) (sets_in b.0))
 
 -- the variables that a rule sets; none where no block stands
 abbrev pub sets_before : List Token → Part (List Assigned)
-sets_before ts = elim (sets_block ts) [ None ↦ Some ([], ts) | Some s ↦ option_map (λ xs. (xs, s.1)) s.0 ]
+sets_before ts =
+    elim (sets_block ts) [ None ↦ Some ([], ts) | Some s ↦ option_map (λ xs. (xs, s.1)) s.0 ]
 
 -- the delay of a rule
 abbrev pub delay_before : List Token → Part Phrase
@@ -311,4 +348,9 @@ written_rule ts =
     and_on (value_before ts) (λ v.
     and_on (sets_before v.1) (λ s.
     and_on (delay_before s.1) (λ d.
-    option_map (λ c. record { gives = v.0; delay = d.0; condition = c; sets = s.0 }) (last_block d.1))))
+    option_map (λ c. record {
+      gives = v.0;
+      delay = d.0;
+      condition = c;
+      sets = s.0;
+    }) (last_block d.1))))

@@ -32,12 +32,15 @@ random_names =
 -- the words of the language
 abbrev pub language : List Bytes
 language =
-    (codes "imp" ∷ codes "eqv" ∷ codes "or" ∷ codes "xor" ∷ codes "and" ∷ codes "not" ∷ codes "t" ∷ codes "f" ∷ codes "time"
+    (codes "imp" ∷ codes "eqv" ∷ codes "or" ∷ codes "xor" ∷ codes "and" ∷ codes "not" ∷ codes "t"
+    ∷ codes "f" ∷ codes "time"
     ∷ codes "portvalue" ∷ codes "thisport" ∷ []) ++ first_texts counts ++ first_texts functions
 
 -- why a word is refused
 abbrev pub word_refused : Bytes → Option RuleRefusal
-word_refused w = if is_among random_names w then Some RandomRefused else if is_among language w then None else Some UnknownFunction
+word_refused w =
+    if is_among random_names w then Some RandomRefused else if is_among language w then None
+    else Some UnknownFunction
 
 -- the first word that is no word of the language decides
 abbrev pub words_refused : List Bytes → Option RuleRefusal
@@ -57,7 +60,8 @@ unless None next = next
 unless (Some why) next = Err why
 
 -- what follows, unless the rule is refused
-abbrev pub and_on : {A B : Type 0} → Result A RuleRefusal → (A → Result B RuleRefusal) → Result B RuleRefusal
+abbrev pub and_on : {A B : Type 0} → Result A RuleRefusal → (A → Result B RuleRefusal)
+    → Result B RuleRefusal
 and_on (Ok x) go = go x
 and_on (Err why) go = Err why
 
@@ -94,10 +98,14 @@ pub record Readable (text : Bytes) (ts : List Token) : Type 0 where
 -- the rule that a text is, or its refusal, by the grammar
 pub data RuleIs (names : Names) (text : Bytes) : Result Rule RuleRefusal → Type 0 where
   no_token : tokens text ≡ None → RuleIs names text (Err BadRule)
-  strange_word : (ts : List Token) (why : RuleRefusal) → tokens text ≡ Some ts → words_refused (words_in ts) ≡ Some why → RuleIs names text (Err why)
-  large : (ts : List Token) → tokens text ≡ Some ts → words_refused (words_in ts) ≡ None → is_large ts ≡ true → RuleIs names text (Err TooLarge)
-  no_rule : (ts : List Token) → Readable text ts → ((r : Written) → IsRule ts r → ⊥) → RuleIs names text (Err BadRule)
-  a_rule : (ts : List Token) (r : Written) → Readable text ts → IsRule ts r → RuleIs names text (judged names r)
+  strange_word : (ts : List Token) (why : RuleRefusal) → tokens text ≡ Some ts
+      → words_refused (words_in ts) ≡ Some why → RuleIs names text (Err why)
+  large : (ts : List Token) → tokens text ≡ Some ts → words_refused (words_in ts) ≡ None
+      → is_large ts ≡ true → RuleIs names text (Err TooLarge)
+  no_rule : (ts : List Token) → Readable text ts → ((r : Written) → IsRule ts r → ⊥)
+      → RuleIs names text (Err BadRule)
+  a_rule : (ts : List Token) (r : Written) → Readable text ts → IsRule ts r
+      → RuleIs names text (judged names r)
 
 -- what is found is what the grammar says, and all of it
 pub record FindsTheGrammar : Type 0 where
@@ -111,8 +119,12 @@ pub record ReadsOneWay : Type 0 where
 
 -- a text has one outcome, and it is the one that is found
 abbrev pub HasOneOutcome : Type 0
-HasOneOutcome = (names : Names) (text : Bytes) (a : Result Rule RuleRefusal) → (rule_of names text ≡ a) ↔ RuleIs names text a
+HasOneOutcome =
+    (names : Names) (text : Bytes) (a : Result Rule RuleRefusal)
+    → (rule_of names text ≡ a) ↔ RuleIs names text a
 
 -- what a text is read to is sound for the group whose names it was read with
 abbrev pub ReadsSoundRules : Type 0
-ReadsSoundRules = (names : Names) (text : Bytes) (r : Rule) → rule_of names text ≡ Ok r → is_sound (extent_of names) r ≡ true
+ReadsSoundRules =
+    (names : Names) (text : Bytes) (r : Rule) → rule_of names text ≡ Ok r
+    → is_sound (extent_of names) r ≡ true

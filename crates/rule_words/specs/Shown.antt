@@ -1,5 +1,5 @@
 -- What the code's tokens, levels and names stand for.
-use Rattle.std.specs.Prelude.{◌≤◌, ℤ, Option, Some, None, List, [], ◌∷◌, map, length, codes}
+use Rattle.std.specs.Prelude.{ℤ, Option, Some, None, List, [], ◌∷◌, map, codes}
 use Rattle.quantity.specs.Bytes.{Bytes}
 use Rattle.rule_words.specs.Tokens.{Token, word, number, mark}
 use Rattle.rule_tree.specs.Phrases as P
@@ -77,10 +77,10 @@ cell_of c = record { place = c.row ∷ c.column ∷ plane_of c.plane; port = c.p
 
 -- names in code as those of the definitions
 abbrev pub names_of : N.Names → S.Names
-names_of n = record { offsets = n.offsets.items; dims = n.dims; variables = n.variables.items; ports = n.ports.items }
-
--- as many names as a group may have
-pub record AreFew (n : S.Names) : Type 0 where
-  pub offsets : length n.offsets ≤ 128
-  pub variables : length n.variables ≤ 8
-  pub ports : length n.ports ≤ 3
+names_of n =
+    record {
+      offsets = n.offsets.items;
+      dims = n.dims;
+      variables = n.variables.items;
+      ports = n.ports.items;
+    }

@@ -16,7 +16,8 @@ names_next (mark m) = is_among (codes "$" ∷ codes "~" ∷ []) m
 abbrev pub plain_words : List Bytes
 plain_words =
     codes "imp" ∷ codes "eqv" ∷ codes "or" ∷ codes "xor" ∷ codes "and" ∷ codes "not" ∷ codes "t" ∷ codes "f" ∷ codes "time"
-    ∷ codes "portvalue" ∷ codes "thisport" ∷ codes "truecount" ∷ codes "falsecount" ∷ codes "undefcount" ∷ []
+    ∷ codes "portvalue" ∷ codes "thisport" ∷ codes "truecount" ∷ codes "falsecount"
+    ∷ codes "undefcount" ∷ []
 
 -- a mark of two bytes stands at the front
 abbrev pub is_pair : Bytes → Bool
@@ -30,4 +31,5 @@ piece_length text = if is_pair text then 2 else max 1 (prefix_len is_of_run text
 
 -- the tokens of a run that begins with a letter
 abbrev pub run_tokens : Bytes → Option (List Token)
-run_tokens run = option_map (λ ts. word (word_in run) ∷ ts) (rest_tokens (drop (length (word_in run)) run))
+run_tokens run =
+    option_map (λ ts. word (word_in run) ∷ ts) (rest_tokens (drop (length (word_in run)) run))

@@ -40,7 +40,9 @@ is_of_run c = is_of_word c || (c == 46)
 -- >= :=
 abbrev pub holds : ℕ → Bytes → Bool
 holds c [] = false
-holds c (d ∷ ds) = (is_of_run c && is_of_run d) || (list_any (is_byte c) (codes "!<>:") && bytes_eq (d ∷ ds) (codes "="))
+holds c (d ∷ ds) =
+    (is_of_run c && is_of_run d) || (list_any (is_byte c) (codes "!<>:")
+    && bytes_eq (d ∷ ds) (codes "="))
 
 -- a byte before pieces, held by the first where both belong together
 abbrev pub held : ℕ → List Bytes → List Bytes
@@ -58,7 +60,8 @@ pieces (c ∷ cs) = held c (pieces cs)
 abbrev pub marks : List Bytes
 marks =
     codes "?" ∷ codes "(" ∷ codes ")" ∷ codes "{" ∷ codes "}" ∷ codes "," ∷ codes "+" ∷ codes "-" ∷ codes "*" ∷ codes "/" ∷ codes "="
-    ∷ codes "!=" ∷ codes "<" ∷ codes "<=" ∷ codes ">" ∷ codes ">=" ∷ codes "$" ∷ codes "~" ∷ codes ":=" ∷ codes ";" ∷ []
+    ∷ codes "!=" ∷ codes "<" ∷ codes "<=" ∷ codes ">" ∷ codes ">=" ∷ codes "$" ∷ codes "~"
+    ∷ codes ":=" ∷ codes ";" ∷ []
 
 -- the token of a number
 abbrev pub number_token : Bytes → Option (List Token)
@@ -78,14 +81,16 @@ abbrev pub tokens_in : Bytes → Option (List Token)
 tokens_in [] = Some []
 tokens_in (c ∷ cs) =
     if is_blank c then Some []
-    else if is_ascii_alphabetic c then option_map (λ ts. word (word_in (c ∷ cs)) ∷ ts) (rest_tokens (drop (length (word_in (c ∷ cs))) (c ∷ cs)))
+    else if is_ascii_alphabetic c then option_map (λ ts. word (word_in (c ∷ cs)) ∷ ts)
+    (rest_tokens (drop (length (word_in (c ∷ cs))) (c ∷ cs)))
     else if is_of_run c then number_token (c ∷ cs)
     else if is_among marks (c ∷ cs) then Some (mark (c ∷ cs) ∷ [])
     else None
 
 -- the tokens of a text, or none where a piece is no token
 unfoldable pub tokens : Bytes → Option (List Token)
-tokens text = option_map (λ parts. flat_map (λ p. p) parts) (all_there (map tokens_in (pieces text)))
+tokens text =
+    option_map (λ parts. flat_map (λ p. p) parts) (all_there (map tokens_in (pieces text)))
 
 -- ---- what is said of tokens
 

@@ -1,4 +1,6 @@
 // The names that the rules of a group may use.
+ghost use Rattle.rule_words.specs.Few.{AreFew};
+
 use quantity::{Name, Offset};
 
 /// The names that the rules of a cell group may use.
@@ -12,4 +14,5 @@ pub struct Names {
     pub variables: Vec<Name>,
     /// The neighbour ports beside `out`, at most 3.
     pub ports: Vec<Name>,
+    pub ghost few: { AreFew offsets.items variables.items ports.items },
 }

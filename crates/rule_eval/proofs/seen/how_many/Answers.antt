@@ -7,4 +7,6 @@ use Rattle.rule_eval.proofs.seen.how_many.Goals as goal
 pub returns-then-view-eq0-clause-value : goal.returns-then-view-eq0-clause-value
 returns-then-view-eq0-clause-value c =
     let v = c.args.view.now in
-    c.how_many_in.ensures.value ∙ sym (ap (how_many c.args.wanted.now) (all_firsts v.neighbours.now (width_of v) (offsets_of v) (omega arith) c.requires.whole))
+    let all = all_firsts v.neighbours.now (width_of v) (offsets_of v) (omega arith)
+    c.requires.whole in
+    c.how_many_in.ensures.value ∙ sym (ap (how_many c.args.wanted.now) all)

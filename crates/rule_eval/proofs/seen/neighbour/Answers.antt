@@ -5,9 +5,13 @@ use Rattle.rule_eval.proofs.seen.neighbour.Goals as goal
 
 pub returns-then-port-view : goal.returns-then-port-view
 returns-then-port-view c =
-    let v = c.args.view.now in in_piece_past v.neighbours.now (width_of v) (offsets_of v) c.args.offset c.args.port (omega arith)
+    let v = c.args.view.now in
+    in_piece_past v.neighbours.now (width_of v) (offsets_of v) c.args.offset c.args.port
+    (omega arith)
 
 pub returns : goal.returns
 returns c =
     let v = c.args.view.now in
-    let found = in_piece_within v.neighbours.now (width_of v) (offsets_of v) c.args.offset c.args.port (omega arith) c.requires.whole in cc
+    let found = in_piece_within v.neighbours.now (width_of v) (offsets_of v) c.args.offset
+    c.args.port (omega arith) c.requires.whole in
+    cc

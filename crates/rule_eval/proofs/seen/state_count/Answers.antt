@@ -6,4 +6,6 @@ use Rattle.rule_eval.proofs.seen.state_count.Goals as goal
 
 pub returns-in-Num : goal.returns-in-Num
 returns-in-Num c =
-    c.whole.ensures ∙ ap whole c.how_many.ensures.value ∙ sym (counted_number c.args.value c.in-Num.field-0 (outs (sight_of c.args.view.now)) c.in-Num.is)
+    let seen = outs (sight_of c.args.view.now) in
+    let number = counted_number c.args.value c.in-Num.field-0 seen c.in-Num.is in
+    c.whole.ensures ∙ ap whole c.how_many.ensures.value ∙ sym number

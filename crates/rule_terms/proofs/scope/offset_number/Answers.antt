@@ -6,7 +6,7 @@ use Rattle.rule_terms.proofs.scope.offset_number.Goals as goal
 
 pub small-requires : goal.small-requires
 small-requires c =
-    small_position (same_offset (offset_of (cell_of c.args.cell.now).place)) c.args.names.now.offsets.items _ (rw c.deref.ensures.value at c.place_at.ensures) c.requires.offsets
+    small_position (same_offset (offset_of (cell_of c.args.cell.now).place)) c.args.names.now.offsets.items _ (rw c.deref.ensures.value at c.place_at.ensures) c.args.names.now.few.offsets
 
 pub returns : goal.returns
 returns c = c.small.ensures ∙ (rw c.deref.ensures.value at c.place_at.ensures)
