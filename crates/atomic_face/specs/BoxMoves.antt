@@ -1,4 +1,5 @@
--- Boxes by their calls: a generator that counts, a cpu, a counter with two inputs, and a stock of one queue.
+-- Boxes by their calls: a generator that counts, a cpu, a counter with two inputs, and a stock of
+-- one queue.
 use Rattle.std.specs.Prelude.{◌≡◌, ℕ, ◌*◌, Bool, true, false, Some, None, List, [], ◌∷◌, ℤ, pos, negsuc, codes}
 use Rattle.std.specs.Option.{unwrap_or}
 use Rattle.std.specs.declared.result.Result.TheVariants.{Ok, Err}
@@ -54,7 +55,9 @@ pub record CpuMoves : Type 0 where
 
 -- the state after an input and a reset at 3
 abbrev pub counted : List ℤ
-counted = unwrap_or (moved_state Counter (pos 0 ∷ pos 0 ∷ pos 100000 ∷ []) (initial_state Counter (pos 0 ∷ pos 0 ∷ pos 100000 ∷ [])) 3 (at 0 9 ∷ at 1 9 ∷ [])) []
+counted =
+    unwrap_or (moved_state Counter (pos 0 ∷ pos 0 ∷ pos 100000 ∷ [])
+    (initial_state Counter (pos 0 ∷ pos 0 ∷ pos 100000 ∷ [])) 3 (at 0 9 ∷ at 1 9 ∷ [])) []
 
 -- steps of 6000000000: the second passes the bound
 abbrev pub large_steps : List ℤ
@@ -64,14 +67,24 @@ large_steps = pos 0 ∷ pos 0 ∷ pos (6000000000 * 100000) ∷ []
 pub record CounterMoves : Type 0 where
   pub next : next_of Counter counted ≡ Some 3
   pub reset : output_of Counter (pos 0 ∷ pos 0 ∷ pos 100000 ∷ []) counted ≡ gives 0
-  pub first_step : moved_state Counter large_steps (initial_state Counter large_steps) 0 (at 0 1 ∷ []) ≡ Some (pos (6000000000 * 100000) ∷ pos 0 ∷ [])
-  pub overflows : moved_state Counter large_steps (initial_state Counter large_steps) 0 (at 0 1 ∷ at 0 1 ∷ []) ≡ None
+  pub first_step : moved_state Counter large_steps (initial_state Counter large_steps) 0
+      (at 0 1 ∷ []) ≡ Some (pos (6000000000 * 100000) ∷ pos 0 ∷ [])
+  pub overflows : moved_state Counter large_steps (initial_state Counter large_steps) 0
+      (at 0 1 ∷ at 0 1 ∷ []) ≡ None
 
 -- ---- a stock of one queue
 
 -- a queue that does not prepare, taken or not
 abbrev pub one_queue : Bool → List Stocked
-one_queue taken = record { box = record { kind = Queue; settings = pos 0 ∷ []; state = pos 0 ∷ negsuc 0 ∷ [] }; taken = taken } ∷ []
+one_queue taken =
+    record {
+      box = record {
+        kind = Queue;
+        settings = pos 0 ∷ [];
+        state = pos 0 ∷ negsuc 0 ∷ [];
+      };
+      taken = taken;
+    } ∷ []
 
 -- a stock of one queue gives it once, and has no other class
 pub record OneQueueIsTaken : Type 0 where

@@ -1,9 +1,10 @@
 -- The class counter, over the settings [delay, start, step] and the state [total, due].
-use Rattle.std.specs.Prelude.{ℕ, ◌+◌, ◌==◌, Bool, false, ◌&&◌, ◌||◌, Option, Some, None}
+use Rattle.std.specs.Prelude.{ℕ, ◌+◌, ◌==◌, Bool, false, ◌&&◌, ◌||◌, Option, Some}
 use Rattle.std.specs.Prelude.{List, [], ◌∷◌, ℤ, pos, if◌then◌else◌, codes}
 use Rattle.std.specs.Option.{option_map}
 use Rattle.quantity.specs.declared.value.Value.{Value}
 use Rattle.quantity.specs.Arithmetic.{sum_of}
+pub use Rattle.quantity.specs.Written.{for_some}
 use Rattle.atomic_face.specs.declared.class.PortNo.{PortNo}
 use Rattle.atomic_face.specs.Words.{no_time, time_in, word_of, value_in, milliseconds}
 use Rattle.atomic_face.specs.Words.{is_time_word, is_none_word, is_value_word}
@@ -40,16 +41,11 @@ counter_input settings c i =
     (sum_of (value_in c.total) (value_in (setting settings 2)))
     else Some (record c { total = setting settings 1 })
 
--- what comes of a value that is there
-abbrev pub or_none : {A B : Type 0} → Option A → (A → Option B) → Option B
-or_none None go = None
-or_none (Some x) go = go x
-
 -- all inputs, one after another
 abbrev pub counter_inputs : List ℤ → CounterState → Bag → Option CounterState
 counter_inputs settings c [] = Some c
 counter_inputs settings c (i ∷ is) =
-    or_none (counter_input settings c i) (λ d. counter_inputs settings d is)
+    for_some (counter_input settings c i) (λ d. counter_inputs settings d is)
 
 -- any input makes the total due after the delay
 abbrev pub counter_closing : ℕ → ℕ → Bag → CounterState → CounterState

@@ -8,7 +8,7 @@ use Rattle.quantity.specs.declared.value.Value.{Value}
 use Rattle.atomic_face.specs.Words.{time_in, word_of, value_in, milliseconds}
 use Rattle.atomic_face.specs.Words.{is_time_word, is_value_word}
 use Rattle.atomic_face.specs.Bags.{Bag, outputs, is_at, same_time}
-use Rattle.atomic_face.specs.Parameters.{Parameter, parameter, time_word, first_time}
+use Rattle.atomic_face.specs.Parameters.{Parameter, parameter, time_word, time_setting}
 use Rattle.atomic_face.specs.Parameters.{keys_of, settings_by, lines_off_by}
 use Rattle.atomic_face.specs.ClassRules.{ClassRules}
 
@@ -63,7 +63,7 @@ cpu_moved delay now ps bag =
 -- the state after a move at a time
 abbrev pub cpu_after : List ℤ → List ℤ → ℕ → Bag → List ℤ
 cpu_after settings state now bag =
-    cpu_words (cpu_moved (first_time settings) now (cpu_pairs state) bag)
+    cpu_words (cpu_moved (time_setting settings) now (cpu_pairs state) bag)
 
 -- how long each value stays
 abbrev pub cpu_parameters : List Parameter

@@ -76,9 +76,9 @@ lines_off_by parameters ps = flat_map (lines_off_of ps) parameters
 -- ---- settings by their places
 
 -- the setting that stands first, as a time
-abbrev pub first_time : List ℤ → ℕ
-first_time [] = 0
-first_time (w ∷ ws) = milliseconds w
+abbrev pub time_setting : List ℤ → ℕ
+time_setting [] = 0
+time_setting (w ∷ ws) = milliseconds w
 
 -- the setting at a place; 0 where there is none
 abbrev pub setting : List ℤ → ℕ → ℤ

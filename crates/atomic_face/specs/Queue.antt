@@ -7,7 +7,7 @@ use Rattle.atomic_face.specs.declared.class.PortNo.{PortNo}
 use Rattle.atomic_face.specs.Words.{no_time, time_in, word_of, value_in, milliseconds}
 use Rattle.atomic_face.specs.Words.{is_number, is_due, are_values}
 use Rattle.atomic_face.specs.Bags.{Bag, outputs, is_at}
-use Rattle.atomic_face.specs.Parameters.{Parameter, parameter, time_word, first_time}
+use Rattle.atomic_face.specs.Parameters.{Parameter, parameter, time_word, time_setting}
 use Rattle.atomic_face.specs.Parameters.{keys_of, settings_by, lines_off_by}
 use Rattle.atomic_face.specs.ClassRules.{ClassRules}
 
@@ -95,7 +95,7 @@ queue_moved preparation now q bag =
 -- the state after a move at a time
 abbrev pub queue_after : List ℤ → List ℤ → ℕ → Bag → List ℤ
 queue_after settings state now bag =
-    queue_words (queue_moved (first_time settings) now (queue_state state) bag)
+    queue_words (queue_moved (time_setting settings) now (queue_state state) bag)
 
 -- how long it prepares
 abbrev pub queue_parameters : List Parameter

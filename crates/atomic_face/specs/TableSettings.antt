@@ -52,12 +52,12 @@ abbrev pub states_of : List Param → Option (List Bytes)
 states_of es = states_in (value_with (codes "states") es)
 
 -- the number of a name among these
-abbrev pub number_in : List Bytes → Bytes → Option ℕ
-number_in names text = position (bytes_eq text) names
+abbrev pub number_of_name : List Bytes → Bytes → Option ℕ
+number_of_name names text = position (bytes_eq text) names
 
 -- the same as a number of the settings
 abbrev pub word_in : List Bytes → Bytes → Option ℤ
-word_in names text = option_map (λ n. pos n) (number_in names text)
+word_in names text = option_map (λ n. pos n) (number_of_name names text)
 
 -- ---- hold and take
 
@@ -79,7 +79,7 @@ hold_of state words = None
 -- the words STATE TIME VALUE NEXT as a hold
 abbrev pub hold_of_words : List Bytes → List Bytes → Option HoldWords
 hold_of_words names (state ∷ time ∷ value ∷ next ∷ []) =
-    hold_of (number_in names state)
+    hold_of (number_of_name names state)
     (all_there (option_map (λ n. pos n) (time_in time) ∷ value_or (codes "last") value
     ∷ word_in names next ∷ []))
 hold_of_words names texts = None
@@ -157,7 +157,7 @@ one_too_many es =
 abbrev pub lines_off_with : Option (List Bytes) → List Param → List ℕ
 lines_off_with None es = map (λ (e : Param). e.line) (take 1 (with_key (codes "states") es))
 lines_off_with (Some names) es =
-    flat_map (λ (e : Param). line_unless (is_some (number_in names e.value)) e)
+    flat_map (λ (e : Param). line_unless (is_some (number_of_name names e.value)) e)
     (with_key (codes "initial") es)
     ++ holds_off names [] (with_key (codes "hold") es)
     ++ flat_map (λ (e : Param). line_unless (is_some (take_in names e)) e)

@@ -1,6 +1,7 @@
 // Values and times, and the numbers that stand for them in a state.
 ghost use Rattle.std.specs.Prelude.{◌≡◌, ◌≤◌, ◌^◌, ◌++◌, [], ◌∷◌, pos, unsigned_abs, OnOk, OnErr};
 ghost use Rattle.std.specs.Result.{result_ok};
+ghost use Rattle.quantity.specs.declared.bounds.TheConstants.{MAX_TIME};
 ghost use Rattle.quantity.specs.Arithmetic.{sum_of};
 ghost use Rattle.atomic_face.specs.Words.{word_of, word_or_none, value_in, Reads};
 ghost use Rattle.atomic_face.specs.Words.{is_due, is_due_word, is_time_word, is_value_word};
@@ -19,7 +20,7 @@ pub const NONE: i64 = -1;
 
 /// So many milliseconds.
 pub fn time(ms: u32) -> Time
-    requires { ms ≤ 719999998 }
+    requires { ms ≤ MAX_TIME }
     ensures { result ≡ ms }
 {
     match Time::new(ms) {

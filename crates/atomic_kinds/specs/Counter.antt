@@ -18,7 +18,12 @@ counter_settings c = pos c.delay ∷ word_of c.start ∷ word_of c.step ∷ []
 
 -- a counter in code as a box of the definitions
 abbrev pub held_counter : CounterModel → Held
-held_counter c = record { kind = Counter; settings = counter_settings c; state = word_of c.total ∷ word_or_none c.due ∷ [] }
+held_counter c =
+    record {
+      kind = Counter;
+      settings = counter_settings c;
+      state = word_of c.total ∷ word_or_none c.due ∷ [];
+    }
 
 -- a counter with another total
 abbrev pub with_total : ℤ → AnyValue → CounterState
@@ -27,14 +32,18 @@ with_total due total = record { total = word_of total; due = due }
 -- what one input makes of a total, or its overflow, whenever the counter is due
 abbrev pub Counts : CounterModel → AnyValue → PortNo × AnyValue → Result AnyValue Overflow → Type 0
 Counts c total input (Ok after) =
-    (due : ℤ) → counter_input (counter_settings c) (with_total due total) input ≡ Some (with_total due after)
-Counts c total input (Err e) = (due : ℤ) → counter_input (counter_settings c) (with_total due total) input ≡ None
+    (due : ℤ) → counter_input (counter_settings c) (with_total due total) input
+    ≡ Some (with_total due after)
+Counts c total input (Err e) =
+    (due : ℤ) → counter_input (counter_settings c) (with_total due total) input ≡ None
 
 -- what the inputs make of the total, or their overflow, whenever the counter is due
 abbrev pub CountsAll : CounterModel → Bag → Result AnyValue Overflow → Type 0
 CountsAll c bag (Ok after) =
-    (due : ℤ) → counter_inputs (counter_settings c) (with_total due c.total) bag ≡ Some (with_total due after)
-CountsAll c bag (Err e) = (due : ℤ) → counter_inputs (counter_settings c) (with_total due c.total) bag ≡ None
+    (due : ℤ) → counter_inputs (counter_settings c) (with_total due c.total) bag
+    ≡ Some (with_total due after)
+CountsAll c bag (Err e) =
+    (due : ℤ) → counter_inputs (counter_settings c) (with_total due c.total) bag ≡ None
 
 -- when the counter is due after a move
 abbrev pub due_after : ℕ → ℕ → Bag → Option ℕ → Option ℕ

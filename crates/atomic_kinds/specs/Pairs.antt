@@ -43,7 +43,9 @@ GivenFrom t ps place None = given_at t (drop place ps) ≡ []
 
 -- the pairs that stay at this time: where the first is of it, all that are not
 abbrev pub left_at : ℕ → List (ℕ × AnyValue) → List (ℕ × AnyValue)
-left_at now ps = if is_at now (cpu_next (word_pairs ps)) then filter (λ (p : ℕ × AnyValue). not (p.0 == now)) ps else ps
+left_at now ps =
+    if is_at now (cpu_next (word_pairs ps)) then filter (λ (p : ℕ × AnyValue). not (p.0 == now)) ps
+    else ps
 
 -- the place of the first pair that is later, or behind the last
 abbrev pub place_for : ℕ → List (ℕ × AnyValue) → ℕ
@@ -52,20 +54,23 @@ place_for at ps = position_or_len (λ (p : ℕ × AnyValue). nat_lt at p.0) ps
 -- what two words after a time are read as: a pair of these words, where it is no earlier
 abbrev pub ReadsPair : ℕ → ℤ → ℤ → Option (ℕ × AnyValue) → Type 0
 ReadsPair before t v (Some p) =
-    (is_time_word t && int_le (pos before) t && is_value_word v ≡ true) × (pos p.0 ≡ t) × (word_of p.1 ≡ v)
+    (is_time_word t && int_le (pos before) t && is_value_word v ≡ true) × (pos p.0 ≡ t)
+    × (word_of p.1 ≡ v)
 ReadsPair before t v None = is_time_word t && int_le (pos before) t && is_value_word v ≡ false
 
 -- words that begin with this pair, and go on with these
 abbrev pub HasPair : ℕ → List ℤ → ℕ × AnyValue → List ℤ → Type 0
 HasPair before words p others =
-    (words ≡ pos p.0 ∷ word_of p.1 ∷ others) × (are_pairs (pos before) words ≡ are_pairs (pos p.0) others)
+    (words ≡ pos p.0 ∷ word_of p.1 ∷ others)
+    × (are_pairs (pos before) words ≡ are_pairs (pos p.0) others)
 
 -- words that begin with no such pair are none unless there are none
 abbrev pub LacksPair : ℕ → List ℤ → Type 0
 LacksPair before words = 0 < length words → are_pairs (pos before) words ≡ false
 
 -- the pairs that words are read as, where they are pairs by rising time
-abbrev pub ReadsPairs : {Z : Type 0} → List ℤ → Result (VecDeque (ℕ × AnyValue) Z) RestoreRefusal → Type 0
+abbrev pub ReadsPairs : {Z : Type 0} → List ℤ → Result (VecDeque (ℕ × AnyValue) Z) RestoreRefusal
+    → Type 0
 ReadsPairs words (Ok pairs) = (are_pairs (pos 0) words ≡ true) × (pair_words pairs.items ≡ words)
 ReadsPairs words (Err BadState) = are_pairs (pos 0) words ≡ false
 ReadsPairs words (Err Memory) = Unit {0}

@@ -23,14 +23,17 @@ phase_due Idle = no_time
 phase_due (Preparing t) = pos t
 phase_due GivenOut = no_time
 
--- what two words and those behind them are read as: a phase with these words, where they pass the test of a state
+-- what two words and those behind them are read as: a phase with these words, where they pass the
+-- test of a state
 abbrev pub ReadsPhase : ℤ → ℤ → List ℤ → Option Phase → Type 0
 ReadsPhase phase due waiting (Some p) =
-    (is_due (is_one phase) due && is_waiting phase waiting ≡ true) × (pos (phase_number p) ≡ phase) × (phase_due p ≡ due)
+    (is_due (is_one phase) due && is_waiting phase waiting ≡ true) × (pos (phase_number p) ≡ phase)
+    × (phase_due p ≡ due)
 ReadsPhase phase due waiting None = is_due (is_one phase) due && is_waiting phase waiting ≡ false
 
 -- the values that words are read as, where each is the word of a value
-abbrev pub ReadsValues : {Z : Type 0} → List ℤ → Result (VecDeque AnyValue Z) RestoreRefusal → Type 0
+abbrev pub ReadsValues : {Z : Type 0} → List ℤ → Result (VecDeque AnyValue Z) RestoreRefusal
+    → Type 0
 ReadsValues words (Ok values) = (are_values words ≡ true) × (map word_of values.items ≡ words)
 ReadsValues words (Err BadState) = are_values words ≡ false
 ReadsValues words (Err Memory) = Unit {0}

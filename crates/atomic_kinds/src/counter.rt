@@ -1,5 +1,6 @@
 // Counters.
 ghost use Rattle.std.specs.Prelude.{◌≡◌, ◌≤◌};
+ghost use Rattle.quantity.specs.declared.bounds.TheConstants.{MAX_DELAY};
 ghost use Rattle.atomic_face.specs.Settings.{first_line_off};
 
 use crate::parameters::{Form, least, line_off, time_setting, value_setting};
@@ -12,8 +13,8 @@ use atomic_face::{
 use quantity::{OutOfMemory, Overflow, Time, Value};
 use std::alloc::Global;
 
-/// Counts its inputs: each value at `in` adds the step to the total, and each at `reset` sets it back
-/// to the start. It gives the total a delay after an input.
+/// Counts its inputs: each value at `in` adds the step to the total, and each at `reset` sets it
+/// back to the start. It gives the total a delay after an input.
 #[derive(Drop)]
 pub struct CounterModel {
     delay: Time,
@@ -21,7 +22,7 @@ pub struct CounterModel {
     step: Value,
     total: Value,
     due: Option<Time>,
-    ghost short: { delay ≤ 359999999 },
+    ghost short: { delay ≤ MAX_DELAY },
 }
 
 impl AtomicModel for CounterModel {
@@ -123,7 +124,7 @@ impl CounterModel {
     }
 
     fn due_after(&self, now: Time, bag: &[(PortNo, Value)]) -> Option<Time>
-        requires { now ≤ 359999999 }
+        requires { now ≤ MAX_DELAY }
         ensures { result ≡ due_after self.now.delay now bag.now self.now.due }
     {
         if !bag.is_empty() {

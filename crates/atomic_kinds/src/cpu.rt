@@ -1,6 +1,7 @@
 // Cpus.
 ghost use Rattle.std.specs.Prelude.{◌≡◌, ◌<◌, ◌≤◌, ◌+◌, ◌++◌, length, drop, true, IfOk, MatchOption, OnOk, OnErr};
 ghost use Rattle.std.specs.VecDeque.{deque_len, deque_capacity};
+ghost use Rattle.quantity.specs.declared.bounds.TheConstants.{MAX_DELAY};
 ghost use Rattle.atomic_face.specs.Cpu.{cpu_inputs, cpu_next, cpu_put};
 ghost use Rattle.atomic_face.specs.Settings.{first_line_off};
 ghost use Rattle.atomic_kinds.specs.Pairs.{given_at, given_by, left_at, pair_words, place_for, rises_from, word_pairs, GivenFrom, HasPair, LacksPair, ReadsPair, ReadsPairs};
@@ -20,7 +21,7 @@ pub struct CpuModel {
     delay: Time,
     // By rising time, and at one time in the order of their arrival.
     pairs: VecDeque<(Time, Value)>,
-    ghost short: { delay ≤ 359999999 },
+    ghost short: { delay ≤ MAX_DELAY },
     ghost rising: { rises_from 0 pairs.items ≡ true },
 }
 
@@ -101,8 +102,8 @@ fn first_time(pairs: &VecDeque<(Time, Value)>) -> Option<Time>
     }
 }
 
-// Appends the values of the pairs of this time, the first of all. Where memory is refused, `into` stays
-// as it was.
+// Appends the values of the pairs of this time, the first of all. Where memory is refused, `into`
+// stays as it was.
 fn give_due(
     pairs: &VecDeque<(Time, Value)>,
     due: Time,
@@ -162,7 +163,8 @@ fn leave(pairs: &mut VecDeque<(Time, Value)>, now: Time)
 fn put_all(pairs: &mut VecDeque<(Time, Value)>, at: Time, bag: &[(PortNo, Value)])
     requires rising { rises_from 0 pairs.old.items ≡ true }
     requires room { deque_len pairs.old + length bag.now ≤ deque_capacity pairs.old }
-    ensures items { word_pairs pairs.new.items ≡ cpu_inputs at (word_pairs pairs.old.items) bag.now }
+    ensures items { word_pairs pairs.new.items
+        ≡ cpu_inputs at (word_pairs pairs.old.items) bag.now }
     ensures rising { rises_from 0 pairs.new.items ≡ true }
 {
     for input in bag {
@@ -183,8 +185,8 @@ fn put_at(pairs: &mut VecDeque<(Time, Value)>, at: Time, value: &Value)
     let _ = pairs.insert(place, (at, *value));
 }
 
-// The place of the first pair that is later, or behind the last. As nearly every value is put behind all
-// others, it is looked for from there.
+// The place of the first pair that is later, or behind the last. As nearly every value is put
+// behind all others, it is looked for from there.
 fn place_after(pairs: &VecDeque<(Time, Value)>, at: Time) -> usize
     requires { rises_from 0 pairs.now.items ≡ true }
     ensures place { result ≡ place_for at pairs.now.items }
@@ -238,9 +240,11 @@ fn pairs_of(alloc: Global, words: &[i64]) -> Result<VecDeque<(Time, Value)>, Res
     }
 }
 
-// The pair of the first two of these numbers, which is no earlier than the one before it, and the others.
+// The pair of the first two of these numbers, which is no earlier than the one before it, and the
+// others.
 fn first_pair(before: Time, words: &[i64]) -> Option<((Time, Value), &[i64])>
-    ensures { MatchOption result (LacksPair before words.now) (λ r. HasPair before words.now r.0 r.1.now) }
+    ensures { MatchOption result (LacksPair before words.now)
+        (λ r. HasPair before words.now r.0 r.1.now) }
 {
     match words {
         [at, value, others @ ..] => match pair_of(before, *at, *value) {

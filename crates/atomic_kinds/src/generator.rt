@@ -1,5 +1,6 @@
 // Generators.
 ghost use Rattle.std.specs.Prelude.{◌≡◌, ◌≤◌};
+ghost use Rattle.quantity.specs.declared.bounds.TheConstants.{MAX_DELAY};
 ghost use Rattle.atomic_face.specs.Words.{is_zero_word, word_or_none, Reads};
 ghost use Rattle.atomic_face.specs.Generator.{is_left, is_none_left, one_less};
 ghost use Rattle.atomic_face.specs.Settings.{first_line_off};
@@ -16,8 +17,8 @@ use atomic_face::{
 use quantity::{OutOfMemory, Overflow, Time, Value};
 use std::alloc::Global;
 
-/// Gives a value again and again: first at the start, and then each time a period later, raised by a
-/// step. A count bounds how often.
+/// Gives a value again and again: first at the start, and then each time a period later, raised by
+/// a step. A count bounds how often.
 #[derive(Drop)]
 pub struct GeneratorModel {
     start: Time,
@@ -28,7 +29,7 @@ pub struct GeneratorModel {
     next: Option<Time>,
     current: Value,
     left: Option<u32>,
-    ghost short: { period ≤ 359999999 },
+    ghost short: { period ≤ MAX_DELAY },
 }
 
 impl AtomicModel for GeneratorModel {
@@ -117,7 +118,7 @@ impl GeneratorModel {
 
     // The value was given: it is raised, and due again a period later, unless none is left to give.
     fn go_on(&mut self, now: Time) -> Result<(), Overflow>
-        requires { now ≤ 359999999 }
+        requires { now ≤ MAX_DELAY }
         ensures { InternalGives now self.old self.new result }
     {
         let left = one_less(self.left);
@@ -135,7 +136,8 @@ impl GeneratorModel {
 
     // The state of these three numbers, if they are one.
     fn take_state(&mut self, next: i64, current: i64, left: i64) -> Result<(), RestoreRefusal>
-        ensures { RestoreGives (next ∷ current ∷ left ∷ []) (held_generator self.old) (held_generator self.new) result }
+        ensures { RestoreGives (next ∷ current ∷ left ∷ []) (held_generator self.old)
+            (held_generator self.new) result }
     {
         let Some(left) = left_of(self.count, left) else {
             return Err(RestoreRefusal::BadState);
@@ -169,7 +171,8 @@ fn is_none_left(left: Option<u32>) -> bool
     matches!(left, Some(0))
 }
 
-// How many are left to give, where so many are counted: at most these, and none are counted where there is no count.
+// How many are left to give, where so many are counted: at most these, and none are counted where
+// there is no count.
 fn left_of(count: Option<u32>, word: i64) -> Option<Option<u32>>
     ensures { Reads (is_left (word_or_none count)) word_or_none word result }
 {

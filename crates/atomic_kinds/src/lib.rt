@@ -1,4 +1,5 @@
-// The four classes of atomic models whose behaviour is fixed: queues, generators, cpus and counters.
+// The four classes of atomic models whose behaviour is fixed: queues, generators, cpus and
+// counters.
 #![tactic(auto)]
 
 mod counter;
@@ -11,6 +12,3 @@ pub use counter::CounterModel;
 pub use cpu::CpuModel;
 pub use generator::GeneratorModel;
 pub use queue::QueueModel;
-
-#[cfg(test)]
-mod tests;

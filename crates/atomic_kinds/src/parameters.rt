@@ -3,6 +3,7 @@ ghost use Rattle.std.specs.Prelude.{◌≡◌, ◌≤◌, ℕ, ◌∷◌, [], ma
 ghost use Rattle.std.specs.List.{find};
 ghost use Rattle.std.specs.Option.{is_some, option_copied, option_map};
 ghost use Rattle.std.specs.Str.{bytes_eq};
+ghost use Rattle.quantity.specs.declared.bounds.TheConstants.{MAX_DELAY};
 ghost use Rattle.atomic_face.specs.Parameters.{parameter, is_off, lines_off_of, setting_of, time_word, period_word, value_word, count_word};
 ghost use Rattle.atomic_face.specs.Settings.{least_line};
 ghost use Rattle.atomic_face.specs.Words.{no_time, word_of, word_or_none};
@@ -35,7 +36,8 @@ pub(crate) fn least(a: Option<u32>, b: Option<u32>) -> Option<u32>
 
 /// The least line of an entry with this key whose value is off this form.
 pub(crate) fn line_off(params: &Params, key: &[u8], form: Form) -> Option<u32>
-    ensures { result ≡ least_line (lines_off_of params.now.entries.items (parameter key.now (word_in form) (pos 0))) }
+    ensures { result ≡ least_line (lines_off_of params.now.entries.items
+        (parameter key.now (word_in form) (pos 0))) }
 {
     let mut first = None;
     for entry in &params.entries {
@@ -65,7 +67,7 @@ fn is_of_form(form: Form, text: &[u8]) -> bool
 
 fn period(text: &[u8]) -> Option<Time>
     ensures value { option_map (λ t. pos t) result ≡ period_word text.now }
-    ensures bounded { IfSome result (λ t. t ≤ 359999999) }
+    ensures bounded { IfSome result (λ t. t ≤ MAX_DELAY) }
 {
     let time = Time::parse(text)?;
     if time.ms() == 0 {
@@ -96,8 +98,9 @@ fn entry_of<'a>(params: &'a Params, key: &[u8]) -> Option<&'a Param>
 
 /// The time that the parameter of this key gives, or this one where there is none.
 pub(crate) fn time_setting(params: &Params, key: &[u8], default: Time) -> Time
-    ensures value { pos result ≡ setting_of params.now.entries.items (parameter key.now time_word (pos default)) }
-    ensures bounded { default ≤ 359999999 → result ≤ 359999999 }
+    ensures value { pos result ≡ setting_of params.now.entries.items
+        (parameter key.now time_word (pos default)) }
+    ensures bounded { default ≤ MAX_DELAY → result ≤ MAX_DELAY }
 {
     let Some(entry) = entry_of(params, key) else {
         return default;
@@ -106,8 +109,9 @@ pub(crate) fn time_setting(params: &Params, key: &[u8], default: Time) -> Time
 }
 
 pub(crate) fn period_setting(params: &Params, key: &[u8], default: Time) -> Time
-    ensures value { pos result ≡ setting_of params.now.entries.items (parameter key.now period_word (pos default)) }
-    ensures bounded { default ≤ 359999999 → result ≤ 359999999 }
+    ensures value { pos result ≡ setting_of params.now.entries.items
+        (parameter key.now period_word (pos default)) }
+    ensures bounded { default ≤ MAX_DELAY → result ≤ MAX_DELAY }
 {
     let Some(entry) = entry_of(params, key) else {
         return default;
@@ -116,7 +120,8 @@ pub(crate) fn period_setting(params: &Params, key: &[u8], default: Time) -> Time
 }
 
 pub(crate) fn value_setting(params: &Params, key: &[u8], default: Value) -> Value
-    ensures { word_of result ≡ setting_of params.now.entries.items (parameter key.now value_word (word_of default)) }
+    ensures { word_of result ≡ setting_of params.now.entries.items
+        (parameter key.now value_word (word_of default)) }
 {
     let Some(entry) = entry_of(params, key) else {
         return default;
@@ -125,7 +130,8 @@ pub(crate) fn value_setting(params: &Params, key: &[u8], default: Value) -> Valu
 }
 
 pub(crate) fn count_setting(params: &Params, key: &[u8]) -> Option<u32>
-    ensures { word_or_none result ≡ setting_of params.now.entries.items (parameter key.now count_word no_time) }
+    ensures { word_or_none result ≡ setting_of params.now.entries.items
+        (parameter key.now count_word no_time) }
 {
     count(entry_of(params, key)?.value.as_bytes())
 }

@@ -1,6 +1,7 @@
 // Queues.
 ghost use Rattle.std.specs.Prelude.{◌≡◌, ◌<◌, ◌≤◌, ◌+◌, pos, length, map, if◌then◌else◌, IfOk};
 ghost use Rattle.std.specs.VecDeque.{deque_len, deque_capacity};
+ghost use Rattle.quantity.specs.declared.bounds.TheConstants.{MAX_DELAY};
 ghost use Rattle.atomic_face.specs.Settings.{first_line_off};
 ghost use Rattle.atomic_face.specs.Words.{word_of};
 ghost use Rattle.atomic_kinds.specs.Phases.{phase_number, ReadsPhase, ReadsValues};
@@ -25,14 +26,14 @@ pub enum Phase {
     GivenOut,
 }
 
-/// Gives the values at `in` out one by one, in the order of their arrival: each after a preparation, and
-/// the next one only once a value at `done` says that the last one is done.
+/// Gives the values at `in` out one by one, in the order of their arrival: each after a
+/// preparation, and the next one only once a value at `done` says that the last one is done.
 #[derive(Drop)]
 pub struct QueueModel {
     preparation: Time,
     phase: Phase,
     waiting: VecDeque<Value>,
-    ghost short: { preparation ≤ 359999999 },
+    ghost short: { preparation ≤ MAX_DELAY },
 }
 
 impl AtomicModel for QueueModel {
@@ -126,7 +127,9 @@ impl QueueModel {
 
     // Where the first value is due, it leaves.
     fn give_out(&mut self, now: Time)
-        ensures state { state_in self.new ≡ (if is_at now (queue_next (state_in self.old)) then queue_internal (state_in self.old) else state_in self.old) }
+        ensures state { state_in self.new ≡
+            (if is_at now (queue_next (state_in self.old)) then queue_internal (state_in self.old)
+            else state_in self.old) }
         ensures preparation { self.new.preparation ≡ self.old.preparation }
         ensures fewer { deque_len self.new.waiting ≤ deque_len self.old.waiting }
         ensures capacity { deque_capacity self.new.waiting ≡ deque_capacity self.old.waiting }
@@ -164,8 +167,9 @@ impl QueueModel {
 
     // An idle queue prepares the first value that waits.
     fn prepare(&mut self, now: Time)
-        requires { now ≤ 359999999 }
-        ensures state { state_in self.new ≡ queue_closing self.old.preparation now (state_in self.old) }
+        requires { now ≤ MAX_DELAY }
+        ensures state { state_in self.new ≡ queue_closing self.old.preparation now
+            (state_in self.old) }
         ensures preparation { self.new.preparation ≡ self.old.preparation }
     {
         if let Phase::Idle = self.phase

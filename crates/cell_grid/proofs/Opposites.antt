@@ -11,7 +11,7 @@ use Rattle.quantity.specs.declared.place.Offset.{Offset}
 use Rattle.quantity.specs.declared.place.Place.{Place}
 use Rattle.cell_grid.specs.declared.grid.Border.{Border}
 use Rattle.cell_grid.specs.declared.grid.Border.TheVariants.{Wrapped, NoWrapped}
-use Rattle.cell_grid.specs.Space.{Space, IsInside, plane_count, cell_count, place_of, number_of, if_below, moved, with_coordinate, neighbour, opposite}
+use Rattle.cell_grid.specs.Space.{Space, IsInside, plane_count, cell_count, place_of, number_of, if_below, moved, for_some, neighbour, opposite}
 use Rattle.cell_grid.proofs.Places.{sizes-from_cell, place-inside, number-of_place, place-of_number, number-inside}
 
 -- ---- one coordinate of a wrapped space
@@ -110,11 +110,11 @@ record MovesTo (s : Space) (x : ℕ) (o : Offset) (p : Place) : Type 0 where
   plane : moved s.border (plane_count s) (place_of s x).plane o.plane ≡ Some p.plane
 
 pub with_three : (a b c : Option ℕ) (go : ℕ → ℕ → ℕ → ℕ) (i j k : ℕ) → a ≡ Some i → b ≡ Some j → c ≡ Some k
-    → with_coordinate a (λ i. with_coordinate b (λ j. with_coordinate c (λ k. Some (go i j k)))) ≡ Some (go i j k)
+    → for_some a (λ i. for_some b (λ j. for_some c (λ k. Some (go i j k)))) ≡ Some (go i j k)
 with_three a b c go i j k first second third = rw (first, second, third) refl
 
 three-from_some : (a b c : Option ℕ) (go : ℕ → ℕ → ℕ → ℕ) (n : ℕ)
-    → with_coordinate a (λ i. with_coordinate b (λ j. with_coordinate c (λ k. Some (go i j k)))) ≡ Some n
+    → for_some a (λ i. for_some b (λ j. for_some c (λ k. Some (go i j k)))) ≡ Some n
     → (i : ℕ) × (j : ℕ) × (k : ℕ) × (a ≡ Some i) × (b ≡ Some j) × (c ≡ Some k) × (go i j k ≡ n)
 three-from_some (Some i) (Some j) (Some k) go n is = (i, j, k, refl, refl, refl, some_is (go i j k) n is)
 three-from_some (Some i) (Some j) None go n is = cc

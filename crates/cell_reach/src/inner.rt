@@ -1,20 +1,18 @@
 // Places from which no step leads past an edge.
 ghost use Rattle.std.specs.Prelude.{◌≡◌, ℕ, ◌+◌, ◌<◌, ◌≤◌, IsTrue};
+ghost use Rattle.quantity.specs.declared.bounds.TheConstants.{MAX_CELLS};
 
 use cell_grid::Grid;
 use cell_grid::step::Step;
-use quantity::Place;
-
-/// The most cells that a space has, and so the most that a size is.
-const MOST: u32 = 1048576;
+use quantity::{MAX_CELLS, Place};
 
 /// So many numbers from the first on.
 #[derive(Clone, Copy, Debug)]
 pub struct Span {
     pub first: u32,
     pub count: u32,
-    ghost short_before: { first ≤ 1048576 },
-    ghost short: { count ≤ 1048576 },
+    ghost short_before: { first ≤ MAX_CELLS },
+    ghost short: { count ≤ MAX_CELLS },
 }
 
 /// The rows, columns and planes of the places from which no step leads past an edge.
@@ -31,7 +29,7 @@ impl Span {
 
     /// The numbers below a size.
     fn below(size: u32) -> Span
-        requires { size ≤ 1048576 }
+        requires { size ≤ MAX_CELLS }
         ensures { (n : ℕ) → IsIn result n → n < size }
     {
         Span {
@@ -58,7 +56,7 @@ impl Span {
         let end = (self.first + self.count).min(size.saturating_sub(ahead));
         Span {
             first,
-            count: end.saturating_sub(first).min(MOST),
+            count: end.saturating_sub(first).min(MAX_CELLS),
         }
     }
 }

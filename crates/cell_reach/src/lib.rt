@@ -5,7 +5,5 @@ mod inner;
 pub mod laws;
 pub mod reach;
 mod strides;
-#[cfg(test)]
-mod tests;
 
 pub use reach::Reach;

@@ -1,14 +1,15 @@
 // The neighbours and the watchers of all cells of a space.
-ghost use Rattle.std.specs.Prelude.{◌≡◌, ◌<◌, ◌≤◌, length, IfOk, IfSome};
+ghost use Rattle.std.specs.Prelude.{◌≡◌, ℕ, ◌<◌, ◌≤◌, length, IfOk, IfSome};
 ghost use Rattle.std.specs.List.{All};
 ghost use Rattle.std.specs.Vec.{vec_capacity};
-ghost use Rattle.cell_grid.specs.Space.{cell_count};
-ghost use Rattle.cell_reach.specs.Neighbourhoods.{Neighbourhood, neighbours, AreDifferences, AreWatchers};
+ghost use Rattle.cell_grid.specs.Space.{cell_count, place_of};
+ghost use Rattle.cell_reach.specs.Neighbourhoods.{Neighbourhood, neighbours};
+ghost use Rattle.cell_reach.specs.Neighbourhoods.{AreDifferences, AreWatchers};
 
 use crate::strides::Strides;
 use cell_grid::Grid;
 use cell_grid::step::Step;
-use quantity::{Offset, OutOfMemory};
+use quantity::{Offset, OutOfMemory, Place};
 use std::alloc::Global;
 use std::marker::Model;
 
@@ -48,14 +49,15 @@ impl Reach {
     }
 
     /// How far each neighbour's number is from the cell's, in the order of the offsets, where the
-    /// cell stands so far from the edges that no offset leads past one. The differences are the
-    /// same for all such cells.
-    pub fn differences(&self, cell: u32) -> Option<&[i32]>
-        requires here { cell < cell_count self.now.space }
+    /// cell at this place stands so far from the edges that no offset leads past one. The
+    /// differences are the same for all such cells. Nothing is divided, so a cell's place is worked
+    /// out once, for all that it is needed for.
+    pub fn differences_at(&self, place: Place) -> Option<&[i32]>
         ensures all { IfSome result (λ ds. length ds.now ≡ length self.now.offsets) }
-        ensures far { IfSome result (λ ds. AreDifferences self.now cell ds.now) }
+        ensures far { (cell : ℕ) → place ≡ place_of self.now.space cell
+            → IfSome result (λ ds. AreDifferences self.now cell ds.now) }
     {
-        self.ahead.differences(cell)
+        self.ahead.differences_at(place)
     }
 
     /// Writes the neighbours of a cell by all offsets, in the order of the offsets, into a slice

@@ -1,10 +1,11 @@
 // Strides from the cells of a space: at the edges as each coordinate moves, elsewhere by fixed
 // differences.
-ghost use Rattle.std.specs.Prelude.{◌≡◌, [], ◌∷◌, ◌++◌, ◌+◌, ◌<◌, ◌≤◌, Some, length, map, pos};
+ghost use Rattle.std.specs.Prelude.{◌≡◌, ℕ, [], ◌∷◌, ◌++◌, ◌+◌, ◌<◌, ◌≤◌, Some, length, map, pos};
 ghost use Rattle.std.specs.Prelude.{◌*◌, ◌^◌, ◌+ℤ◌, ◌*ℤ◌, ◌≤ℤ◌, ◌<ℤ◌, unsigned_abs, OnOk, IfSome};
 ghost use Rattle.std.specs.List.{All, filter_map};
 ghost use Rattle.std.specs.Vec.{vec_capacity};
-ghost use Rattle.cell_grid.specs.Space.{IsInside, cell_count, neighbour, neighbour_at};
+ghost use Rattle.quantity.specs.declared.bounds.TheConstants.{MAX_CELLS};
+ghost use Rattle.cell_grid.specs.Space.{IsInside, cell_count, place_of, neighbour, neighbour_at};
 ghost use Rattle.cell_reach.specs.Neighbourhoods.{Neighbourhood, neighbours, difference};
 ghost use Rattle.cell_reach.specs.Neighbourhoods.{further, LeadsInside, AreDifferences};
 ghost use Rattle.cell_grid.specs.Steps.{offset_of_step};
@@ -12,12 +13,9 @@ ghost use Rattle.cell_grid.specs.Steps.{offset_of_step};
 use crate::inner::Inner;
 use cell_grid::Grid;
 use cell_grid::step::Step;
-use quantity::{OutOfMemory, Place};
+use quantity::{MAX_CELLS, OutOfMemory, Place};
 use std::alloc::Global;
 use std::marker::Model;
-
-/// The most cells that a space has.
-const MOST: u64 = 1048576;
 
 /// A space and steps from its cells. Each step has its difference: how much further the number is
 /// of the cell that it leads to where it passes no edge. The differences stand apart from the
@@ -81,7 +79,15 @@ impl Strides {
         ensures all { IfSome result (λ ds. length ds.now ≡ length self.now.offsets) }
         ensures far { IfSome result (λ ds. AreDifferences self.now cell ds.now) }
     {
-        let place = self.grid.position(cell);
+        self.differences_at(self.grid.position(cell))
+    }
+
+    /// The same of the cell at a place: nothing is divided.
+    pub fn differences_at(&self, place: Place) -> Option<&[i32]>
+        ensures all { IfSome result (λ ds. length ds.now ≡ length self.now.offsets) }
+        ensures far { (cell : ℕ) → place ≡ place_of self.now.space cell
+            → IfSome result (λ ds. AreDifferences self.now cell ds.now) }
+    {
         if self.inner.has(place) {
             return Some(self.differences.as_slice());
         }
@@ -144,7 +150,7 @@ impl Strides {
 /// How much further the number of the cell is that a step leads to where it passes no edge. Where
 /// that is further than any cell, the step passes one from each place.
 fn difference(grid: Grid, step: Step) -> i32
-    ensures { unsigned_abs (difference grid (offset_of_step step)) ≤ 1048576
+    ensures { unsigned_abs (difference grid (offset_of_step step)) ≤ MAX_CELLS
         → result ≡ difference grid (offset_of_step step) }
 {
     if_near(distance(grid, step))
@@ -162,7 +168,7 @@ fn distance(grid: Grid, step: Step) -> i64
 /// A number of wholes of this size, and so many of its parts.
 fn with_part(wholes: i64, size: u32, parts: i16) -> i64
     requires wholes { unsigned_abs wholes ≤ 2 ^ 36 }
-    requires size { size ≤ 1048576 }
+    requires size { size ≤ MAX_CELLS }
     ensures { result ≡ (wholes *ℤ pos size) +ℤ parts }
 {
     wholes * i64::from(size) + i64::from(parts)
@@ -170,9 +176,9 @@ fn with_part(wholes: i64, size: u32, parts: i16) -> i64
 
 /// A difference, where it is not further than any cell.
 fn if_near(cells: i64) -> i32
-    ensures { unsigned_abs cells ≤ 1048576 → result ≡ cells }
+    ensures { unsigned_abs cells ≤ MAX_CELLS → result ≡ cells }
 {
-    if cells.unsigned_abs() <= MOST {
+    if cells.unsigned_abs() <= u64::from(MAX_CELLS) {
         cells as i32
     } else {
         0
@@ -181,7 +187,7 @@ fn if_near(cells: i64) -> i32
 
 /// The cell whose number is so much further.
 fn further(cell: u32, cells: i32) -> u32
-    requires near { cell < 1048576 }
+    requires near { cell < MAX_CELLS }
     requires low { pos 0 ≤ℤ (pos cell +ℤ cells) }
     requires high { (pos cell +ℤ cells) <ℤ pos 1048577 }
     ensures { result ≡ further cell cells }

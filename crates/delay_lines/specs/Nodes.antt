@@ -1,6 +1,7 @@
 -- How the lists lie in one slab of nodes. No public clause cites this module.
 use Rattle.std.specs.Prelude.{◌≡◌, ℕ, zero, suc, ◌+◌, ◌<◌, ◌≤◌, List, [], ◌∷◌, ◌++◌, length, map, Option, None, Some, option_and_then, slice_index_or}
 use Rattle.std.specs.Option.{option_map_or}
+use Rattle.quantity.specs.declared.bounds.TheConstants.{MAX_TIME}
 use Rattle.delay_lines.specs.Lists.{Pair, IsRising}
 use Rattle.delay_lines.specs.declared.nodes.Node.{Node}
 use Rattle.delay_lines.specs.declared.nodes.Spot.{Spot}
@@ -22,18 +23,20 @@ pairs_within (suc n) look from =
 
 -- the greatest time in milliseconds
 unfoldable pub last_time : ℕ
-last_time = 719999998
+last_time = MAX_TIME
 
 -- the pairs from a node on: as the times rise, there are no more than there are times
 unfoldable pub pairs_from : Look → Option ℕ → List Pair
 pairs_from look from = pairs_within (last_time + 1) look from
 
 -- at this link stands the number of a node with this pair, and there stands the next link
-pub record LeadsTo (look : Look) (from : Option ℕ) (p : Pair) (key : ℕ) (next : Option ℕ) : Type 0 where
+pub record LeadsTo (look : Look) (from : Option ℕ) (p : Pair) (key : ℕ)
+    (next : Option ℕ) : Type 0 where
   pub names : from ≡ Some key
   pub holds : look key ≡ Some (node_of p next)
 
--- the links lead over nodes with these pairs to the link at the end, and the nodes belong to the cell
+-- the links lead over nodes with these pairs to the link at the end, and the nodes belong to the
+-- cell
 abbrev pub IsPath : Look → (ℕ → ℕ) → ℕ → Option ℕ → List Pair → Option ℕ → Type 0
 IsPath look owner cell from [] to = from ≡ to
 IsPath look owner cell from (p ∷ ps) to =
@@ -46,13 +49,15 @@ Each P [] = Unit {0}
 Each P (p ∷ ps) = P p × Each P ps
 
 -- from the first node on stands just this list
-pub record IsChain (look : Look) (owner : ℕ → ℕ) (cell : ℕ) (first : Option ℕ) (list : List Pair) : Type 0 where
+pub record IsChain (look : Look) (owner : ℕ → ℕ) (cell : ℕ) (first : Option ℕ)
+    (list : List Pair) : Type 0 where
   pub path : IsPath look owner cell first list None
   pub rising : IsRising list
   pub times : Each (λ p. p.0 ≤ last_time) list
 
 -- each cell's first node starts its list, and each node belongs to one cell
-pub record AreLaid (look : Look) (firsts : List (Option ℕ)) (lists : List (List Pair)) : Type 0 where
+pub record AreLaid (look : Look) (firsts : List (Option ℕ))
+    (lists : List (List Pair)) : Type 0 where
   pub owner : ℕ → ℕ
   pub count : length lists ≡ length firsts
   pub chains : (cell : ℕ) → cell < length firsts
@@ -67,7 +72,8 @@ abbrev pub lists_from : Look → List (Option ℕ) → List (List Pair)
 lists_from look firsts = map (pairs_from look) firsts
 
 -- a list stands in two parts, the first with the earlier pairs and up to this link
-pub record Parts (look : Look) (first : Option ℕ) (at : ℕ) (to : Option ℕ) (front rest : List Pair) : Type 0 where
+pub record Parts (look : Look) (first : Option ℕ) (at : ℕ) (to : Option ℕ)
+    (front rest : List Pair) : Type 0 where
   pub joined : pairs_from look first ≡ front ++ rest
   pub path : IsPath look (λ _. 0) 0 first front to
   pub earlier : Each (λ p. p.0 < at) front
@@ -86,7 +92,8 @@ pub record IsTaken (look : Look) (first : Option ℕ) (at key : ℕ) : Type 0 wh
 abbrev pub IsLink : Look → Option ℕ → List Pair → Option ℕ → Option ℕ → Type 0
 IsLink look first front None next = (front ≡ []) × (first ≡ next)
 IsLink look first front (Some key) next =
-    (most : List Pair) × (p : Pair) × (front ≡ most ++ p ∷ []) × IsPath look (λ _. 0) 0 first most (Some key)
+    (most : List Pair) × (p : Pair) × (front ≡ most ++ p ∷ [])
+    × IsPath look (λ _. 0) 0 first most (Some key)
     × (look key ≡ Some (node_of p next))
 
 -- the list has no pair of this time, and one belongs at this link
@@ -113,11 +120,13 @@ last_link look from (p ∷ []) = from
 last_link look from (p ∷ q ∷ qs) = last_link look (next_of look from) (q ∷ qs)
 
 -- the lists are laid, and the last node of each is known
-pub record AreHeld (look : Look) (firsts lasts : List (Option ℕ)) (lists : List (List Pair)) : Type 0 where
+pub record AreHeld (look : Look) (firsts lasts : List (Option ℕ))
+    (lists : List (List Pair)) : Type 0 where
   pub laid : AreLaid look firsts lists
   pub many : length lasts ≡ length firsts
   pub ends : (cell : ℕ) → cell < length firsts
-      → slice_index_or lasts cell None ≡ last_link look (slice_index_or firsts cell None) (slice_index_or lists cell [])
+      → slice_index_or lasts cell None ≡ last_link look (slice_index_or firsts cell None)
+      (slice_index_or lists cell [])
 
 -- the last node once another one stands before this link
 abbrev pub last_with : Option ℕ → ℕ → Option ℕ → Option ℕ

@@ -56,7 +56,8 @@ pub record AreVacant (ns : List Node) (from : Option ℕ) (count : ℕ) (vacant 
   pub apart : AreApart vacant
   pub within : (key : ℕ) → has_key vacant key ≡ true → key < length ns
 
--- the nodes, the numbers of those that are vacant, and how many more can be added with no memory taken
+-- the nodes, the numbers of those that are vacant, and how many more can be added with no memory
+-- taken
 pub record Places : Type 0 where
   pub nodes : List Node
   pub vacant : List ℕ

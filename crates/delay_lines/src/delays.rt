@@ -10,8 +10,9 @@ use quantity::{OutOfMemory, Time, Value};
 use std::alloc::Global;
 use std::marker::Model;
 
-/// The delay lists of the cells of a group. It is seen as the list of each cell, which are pairs of a time
-/// and a value by rising time, and the number `spare` of pairs that can be added with no memory taken.
+/// The delay lists of the cells of a group. It is seen as the list of each cell, which are pairs of
+/// a time and a value by rising time, and the number `spare` of pairs that can be added with no
+/// memory taken.
 #[derive(Drop)]
 pub struct Delays {
     // All lists share these nodes, so a pair that leaves one list makes room in every other.
@@ -52,7 +53,8 @@ impl Delays {
         })
     }
 
-    /// Makes room for `n` pairs more. Where memory is refused, nothing changes, and no room is lost.
+    /// Makes room for `n` pairs more. Where memory is refused, nothing changes, and no room is
+    /// lost.
     pub fn reserve(&mut self, n: usize) -> Result<(), OutOfMemory>
         ensures room { OnOk result (n ≤ self.new.spare) }
         ensures lists { self.new.lists ≡ self.old.lists }
@@ -73,8 +75,8 @@ impl Delays {
         Some(self.nodes[key].pair)
     }
 
-    /// The first pair of a cell's list leaves it, if there is one, and makes room for another. It visits
-    /// one node.
+    /// The first pair of a cell's list leaves it, if there is one, and makes room for another. It
+    /// visits one node.
     pub fn take_first(&mut self, cell: u32)
         requires { cell < length self.old.lists }
         ensures list { ChangesList self.old self.new cell (drop 1 (list_of self.old cell)) }
@@ -89,18 +91,21 @@ impl Delays {
         }
     }
 
-    /// Puts a value into a cell's list at its time, in the place of a pair of that time. It visits the
-    /// nodes of that list alone, and only the last one where that is earlier. It takes memory only
-    /// where nothing is spare; where that is refused, nothing changes, and no room is lost.
+    /// Puts a value into a cell's list at its time, in the place of a pair of that time. It visits
+    /// the nodes of that list alone, and only the last one where that is earlier. It takes memory
+    /// only where nothing is spare; where that is refused, nothing changes, and no room is lost.
     pub fn transport(&mut self, cell: u32, at: Time, value: Value) -> Result<(), OutOfMemory>
         requires { cell < length self.old.lists }
-        ensures ok { OnOk result (ChangesList self.old self.new cell (delayed Transport (list_of self.old cell) at value)) }
+        ensures ok { OnOk result (ChangesList self.old self.new cell
+            (delayed Transport (list_of self.old cell) at value)) }
         ensures rising { IsRising (list_of self.new cell) }
         ensures succeeds { 1 ≤ self.old.spare → IsOk result }
         ensures err { OnErr result (self.new.lists ≡ self.old.lists) }
 
-        // A pair takes the place of one that is spare, and only a refusal and a replaced pair take none.
-        ensures places { self.old.spare + length (list_of self.old cell) ≤ self.new.spare + length (list_of self.new cell) }
+        // A pair takes the place of one that is spare, and only a refusal and a replaced pair take
+        // none.
+        ensures places { self.old.spare + length (list_of self.old cell)
+            ≤ self.new.spare + length (list_of self.new cell) }
         ensures had_room { 1 ≤ self.old.spare → KeepsPlaces self.old self.new cell }
         ensures spare { self.old.spare ≤ self.new.spare + 1 }
     {
@@ -125,7 +130,8 @@ impl Delays {
     pub fn inertial(&mut self, cell: u32, at: Time, value: Value)
         requires exists { cell < length self.old.lists }
         requires room { 1 ≤ self.old.spare + length (list_of self.old cell) }
-        ensures list { ChangesList self.old self.new cell (delayed Inertial (list_of self.old cell) at value) }
+        ensures list { ChangesList self.old self.new cell
+            (delayed Inertial (list_of self.old cell) at value) }
         ensures places { KeepsPlaces self.old self.new cell }
         ensures spare { self.old.spare ≤ self.new.spare + 1 }
     {

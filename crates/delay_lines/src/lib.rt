@@ -5,7 +5,5 @@ pub mod delays;
 pub mod laws;
 mod nodes;
 mod pool;
-#[cfg(test)]
-mod tests;
 
 pub use delays::Delays;

@@ -63,7 +63,8 @@ pub fn spot_of(nodes: &Pool, first: Option<u32>, at: Time) -> Spot
 #[inline(always)]
 pub fn place_of(nodes: &Pool, first: Option<u32>, last: Option<u32>, at: Time) -> Spot
     requires ordered { IsOrdered (look_in nodes.now) first }
-    requires last { last ≡ last_link (look_in nodes.now) first (pairs_from (look_in nodes.now) first) }
+    requires last { last ≡ last_link (look_in nodes.now) first
+        (pairs_from (look_in nodes.now) first) }
     ensures { BelongsAt (look_in nodes.now) first at result }
 {
     let Some(key) = last else {
@@ -102,7 +103,8 @@ pub fn append_from(
     into: &mut Vec<(Time, Value)>,
 ) -> Result<(), OutOfMemory>
     requires { IsOrdered (look_in nodes.now) first }
-    ensures ok { OnOk result (into.new.items ≡ into.old.items ++ pairs_from (look_in nodes.now) first) }
+    ensures ok { OnOk result (into.new.items
+        ≡ into.old.items ++ pairs_from (look_in nodes.now) first) }
     ensures err { OnErr result (into.new.items ≡ into.old.items) }
 {
     let len = into.len();

@@ -12,8 +12,9 @@ use std::ops::Index;
 /// How many nodes have a number of 32 bits.
 const MOST: usize = 4_294_967_296;
 
-/// Nodes, each under a number that the pool picks: of 32 bits, so that links are short. It is seen as
-/// the nodes, the numbers of the vacant ones, and how many more can be added with no memory taken.
+/// Nodes, each under a number that the pool picks: of 32 bits, so that links are short. It is seen
+/// as the nodes, the numbers of the vacant ones, and how many more can be added with no memory
+/// taken.
 #[derive(Drop)]
 pub struct Pool {
     nodes: Vec<Node>,

@@ -8,7 +8,7 @@ use Rattle.quantity.specs.Bytes.{Bytes}
 use Rattle.atomic_face.specs.declared.class.Class.TheVariants.{Table}
 use Rattle.atomic_face.specs.declared.params.Param.{Param}
 use Rattle.atomic_face.specs.Settings.{first_line_off, least_line}
-use Rattle.atomic_face.specs.TableSettings.{holds_of, holds_off, initial_word, line_unless, lines_off_with, number_in, one_too_many, settings_with, states_of, table_settings_of, with_key}
+use Rattle.atomic_face.specs.TableSettings.{holds_of, holds_off, initial_word, line_unless, lines_off_with, number_of_name, one_too_many, settings_with, states_of, table_settings_of, with_key}
 use Rattle.atomic_face.specs.TableSettings as table
 use Rattle.source_text.specs.Shown.{texts}
 use Rattle.state_tables.specs.declared.settings.Hold.{Hold}
@@ -33,8 +33,8 @@ settings_from es states initial holds takes are first count has numbers =
     ∙ sym (ap (λ o. settings_with (unwrap_or o []) es) are)
 
 pub lines_from : (es : List Param) (names : List Bytes) (initial hold take many : Option ℕ) → states_of es ≡ Some names
-    → initial ≡ least_line (flat_map (λ (e : Param). line_unless (is_some (number_in names e.value)) e) (with_key (codes "initial") es))
+    → initial ≡ least_line (flat_map (λ (e : Param). line_unless (is_some (number_of_name names e.value)) e) (with_key (codes "initial") es))
     → hold ≡ least_line (holds_off names [] (with_key (codes "hold") es)) → take ≡ least_line (take_lines names es) → many ≡ least_line (one_too_many es)
     → least_of (least_of (least_of initial hold) take) many ≡ first_line_off Table es
 lines_from es names initial hold take many are i h t m =
-    rw (i, h, t, m) (sym (ap (λ o. least_line (lines_off_with o es)) are ∙ four_lines (flat_map (λ (e : Param). line_unless (is_some (number_in names e.value)) e) (with_key (codes "initial") es)) (holds_off names [] (with_key (codes "hold") es)) (take_lines names es) (one_too_many es)))
+    rw (i, h, t, m) (sym (ap (λ o. least_line (lines_off_with o es)) are ∙ four_lines (flat_map (λ (e : Param). line_unless (is_some (number_of_name names e.value)) e) (with_key (codes "initial") es)) (holds_off names [] (with_key (codes "hold") es)) (take_lines names es) (one_too_many es)))

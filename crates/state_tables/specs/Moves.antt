@@ -18,7 +18,8 @@ plain_hold (Some h) = record { time = pos h.time; value = shown_word h.shown; ne
 
 -- a take in code as one of the definitions
 abbrev pub plain_take : Take → PlainTake
-plain_take t = record { state = t.state; port = t.port.0; match = wanted_word t.wanted; next = t.next }
+plain_take t =
+    record { state = t.state; port = t.port.0; match = wanted_word t.wanted; next = t.next }
 
 -- settings in code as those of the definitions
 abbrev pub plain_settings : TableSettings → PlainSettings
@@ -34,4 +35,5 @@ is_met wanted word = same_word wanted any_word || same_word wanted word
 
 -- an entry of this state and port, whose value is the one that comes, or any
 abbrev pub leads : ℕ → PortNo × Value → Take → Bool
-leads state i t = (t.state == state) && (t.port.0 == i.0.0) && is_met (wanted_word t.wanted) (word_of i.1)
+leads state i t =
+    (t.state == state) && (t.port.0 == i.0.0) && is_met (wanted_word t.wanted) (word_of i.1)

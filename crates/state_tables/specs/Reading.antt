@@ -5,7 +5,7 @@ use Rattle.std.specs.Option.{option_map, is_some}
 use Rattle.std.specs.Str.{bytes_eq}
 use Rattle.quantity.specs.Bytes.{Bytes}
 use Rattle.atomic_face.specs.declared.params.Param.{Param}
-use Rattle.atomic_face.specs.TableSettings.{HoldWords, hold_in, is_new_hold, line_unless, number_in, take_in, with_key}
+use Rattle.atomic_face.specs.TableSettings.{HoldWords, hold_in, is_new_hold, line_unless, number_of_name, take_in, with_key}
 use Rattle.state_tables.specs.declared.settings.Hold.{Hold}
 use Rattle.state_tables.specs.Settings.{shown_word}
 
@@ -19,7 +19,8 @@ least_of (Some a) (Some b) = Some (min a b)
 
 -- the first state is none of the states
 abbrev pub is_initial_off : List Bytes → Param → Bool
-is_initial_off names e = bytes_eq e.key (codes "initial") && not (is_some (number_in names e.value))
+is_initial_off names e =
+    bytes_eq e.key (codes "initial") && not (is_some (number_of_name names e.value))
 
 -- a take off its form
 abbrev pub is_take_off : List Bytes → Param → Bool
@@ -27,7 +28,9 @@ is_take_off names e = bytes_eq e.key (codes "take") && not (is_some (take_in nam
 
 -- the line of a hold that is off its form, or whose state has one already
 abbrev pub hold_lines : List Bytes → List HoldWords → Param → List ℕ
-hold_lines names before e = if bytes_eq e.key (codes "hold") then line_unless (is_new_hold before (hold_in names e)) e else []
+hold_lines names before e =
+    if bytes_eq e.key (codes "hold") then line_unless (is_new_hold before (hold_in names e)) e
+    else []
 
 -- ---- holds
 
@@ -46,4 +49,5 @@ holds_with names before e = before ++ filter_map (hold_in names) (with_key (code
 -- each state has the first of these holds that is of it
 abbrev pub HasHolds : List (Option Hold) → List HoldWords → Type 0
 HasHolds holds hs =
-    (k : ℕ) → k < length holds → option_map words_of_hold (slice_index_or holds k None) ≡ option_map (λ (h : HoldWords). h.words) (find (λ (h : HoldWords). h.state == k) hs)
+    (k : ℕ) → k < length holds → option_map words_of_hold (slice_index_or holds k None)
+    ≡ option_map (λ (h : HoldWords). h.words) (find (λ (h : HoldWords). h.state == k) hs)

@@ -1,6 +1,7 @@
 -- The numbers of a table's settings, in the order of the classes' table of settings.
 use Rattle.std.specs.Prelude.{ℕ, ◌<◌, ◌≤◌, List, [], ◌∷◌, ◌++◌, Option, Some, None, length, All, IfSome, ℤ, pos}
 use Rattle.std.specs.List.{flat_map}
+use Rattle.quantity.specs.declared.bounds.TheConstants.{MAX_DELAY}
 use Rattle.atomic_face.specs.Words.{no_time, word_of}
 use Rattle.atomic_face.specs.TableSettings.{any_word}
 use Rattle.state_tables.specs.declared.settings.Shown.{Shown}
@@ -33,11 +34,12 @@ take_words t = pos t.state ∷ pos t.port.0 ∷ wanted_word t.wanted ∷ pos t.n
 -- the words of settings
 abbrev pub words_of : TableSettings → List ℤ
 words_of s =
-    pos (length s.holds.items) ∷ pos s.initial ∷ (flat_map hold_words s.holds.items ++ flat_map take_words s.takes.items)
+    pos (length s.holds.items) ∷ pos s.initial
+    ∷ (flat_map hold_words s.holds.items ++ flat_map take_words s.takes.items)
 
 -- a state that follows is one of so many, and its time can be waited for
 abbrev pub IsHoldOf : ℕ → Hold → Type 0
-IsHoldOf states h = (h.time ≤ 359999999) × (h.next < states)
+IsHoldOf states h = (h.time ≤ MAX_DELAY) × (h.next < states)
 
 -- a take between states that are there
 abbrev pub IsTakeOf : ℕ → Take → Type 0

@@ -8,6 +8,3 @@ mod table;
 
 pub use settings::{Hold, Shown, TableSettings, Take, Wanted};
 pub use table::TableModel;
-
-#[cfg(test)]
-mod tests;

@@ -1,6 +1,7 @@
 // The moves of tables.
 ghost use Rattle.std.specs.Prelude.{◌≡◌, ◌≤◌};
 ghost use Rattle.std.specs.List.{find};
+ghost use Rattle.quantity.specs.declared.bounds.TheConstants.{MAX_DELAY};
 ghost use Rattle.atomic_face.specs.StateTable.{entered, held_value, hold_of, table_input, table_internal, table_moved};
 ghost use Rattle.atomic_face.specs.Words.{word_of};
 ghost use Rattle.state_tables.specs.Holds.{hold_at, AreShort};
@@ -34,7 +35,7 @@ impl TableSettings {
 
     /// The table in a state that it enters now.
     pub(crate) fn entered(&self, now: Time, last: Value, state: u8) -> Standing
-        requires now { now ≤ 359999999 }
+        requires now { now ≤ MAX_DELAY }
         requires short { AreShort self.now.holds.items }
         ensures { plain_state result ≡ entered (plain_settings self.now) now (word_of last) state }
     {
@@ -47,7 +48,8 @@ impl TableSettings {
 
     /// What the state gives when its hold is over; 0 where it has no hold.
     pub(crate) fn shown(&self, at: &Standing) -> Value
-        ensures { result ≡ held_value (plain_state at.now) (hold_of (plain_settings self.now) at.now.state) }
+        ensures { result ≡ held_value (plain_state at.now)
+            (hold_of (plain_settings self.now) at.now.state) }
     {
         let Some(hold) = self.hold_of(at.state) else {
             return number(0);
@@ -64,9 +66,10 @@ impl TableSettings {
 
     /// The table after an instant: a hold that is over first, and then the inputs in their order.
     pub(crate) fn moved(&self, now: Time, at: &Standing, bag: &[(PortNo, Value)]) -> Standing
-        requires now { now ≤ 359999999 }
+        requires now { now ≤ MAX_DELAY }
         requires short { AreShort self.now.holds.items }
-        ensures { plain_state result ≡ table_moved (plain_settings self.now) now (plain_state at.now) bag.now }
+        ensures { plain_state result ≡ table_moved (plain_settings self.now) now
+            (plain_state at.now) bag.now }
     {
         let mut moved = self.after_hold(now, at);
         for input in bag {
@@ -76,9 +79,10 @@ impl TableSettings {
     }
 
     fn after_hold(&self, now: Time, at: &Standing) -> Standing
-        requires now { now ≤ 359999999 }
+        requires now { now ≤ MAX_DELAY }
         requires short { AreShort self.now.holds.items }
-        ensures { plain_state result ≡ table_internal (plain_settings self.now) now (plain_state at.now) }
+        ensures { plain_state result ≡ table_internal (plain_settings self.now) now
+            (plain_state at.now) }
     {
         if is_at(now, at.due) {
             self.entered(now, at.last, self.next_state(at.state))
@@ -98,9 +102,10 @@ impl TableSettings {
     }
 
     fn after_input(&self, now: Time, at: &Standing, input: &(PortNo, Value)) -> Standing
-        requires now { now ≤ 359999999 }
+        requires now { now ≤ MAX_DELAY }
         requires short { AreShort self.now.holds.items }
-        ensures { plain_state result ≡ table_input (plain_settings self.now) now (plain_state at.now) input.now }
+        ensures { plain_state result ≡ table_input (plain_settings self.now) now
+            (plain_state at.now) input.now }
     {
         match self.take_of(at.state, input) {
             Some(take) => self.entered(now, input.1, take.next),

@@ -20,8 +20,8 @@ use crate::settings::TableSettings;
 use atomic_face::{Param, SettleRefusal};
 use std::alloc::Global;
 
-/// The settings that parameters give a table. BadParameter with the least line of a parameter that is
-/// off its form; it comes exactly where there is such a line.
+/// The settings that parameters give a table. BadParameter with the least line of a parameter that
+/// is off its form; it comes exactly where there is such a line.
 pub(crate) fn read_settings(
     alloc: Global,
     entries: &[Param],
@@ -30,7 +30,8 @@ pub(crate) fn read_settings(
     ensures settings { IfOk result (λ s. words_of s ≡ table_settings_of entries.now) }
     ensures sound { IfOk result AreSettings }
     ensures right { IfOk result (λ _. first_line_off Table entries.now ≡ None) }
-    ensures bad { (line : ℕ) → result ≡ Err (SettleRefusal.BadParameter line) → first_line_off Table entries.now ≡ Some line }
+    ensures bad { (line : ℕ) → result ≡ Err (SettleRefusal.BadParameter line)
+        → first_line_off Table entries.now ≡ Some line }
 {
     let names = read_names(alloc, entries)?;
     let states = names.as_slice();

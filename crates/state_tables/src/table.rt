@@ -81,7 +81,8 @@ impl TableModel {
 
     /// A table as no parameters settle it: in its one state, which it holds for ever.
     pub fn new(alloc: Global) -> Result<TableModel, OutOfMemory>
-        ensures { IfOk result (λ t. held_table t ≡ started Class.Table (settings_of Class.Table [])) }
+        ensures { IfOk result (λ t. held_table t
+            ≡ started Class.Table (settings_of Class.Table [])) }
     {
         // The check has to see the types that a hold is made of.
         let _shown: Option<Shown> = None;
@@ -106,7 +107,8 @@ impl TableModel {
 
     // Where a table stands by these words; None where they say no such thing.
     fn standing_of(&self, state: i64, due: i64, last: i64) -> Option<Standing>
-        ensures { Reads (is_table (words_of self.now.settings)) state_words (state ∷ due ∷ last ∷ []) result }
+        ensures { Reads (is_table (words_of self.now.settings)) state_words
+            (state ∷ due ∷ last ∷ []) result }
     {
         let state = self.state_of(state)?;
         let has_hold = self.settings.hold_of(state).is_some();

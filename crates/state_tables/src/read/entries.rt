@@ -5,7 +5,7 @@ ghost use Rattle.std.specs.Option.{is_some, option_copied};
 ghost use Rattle.std.specs.Str.{bytes_eq};
 ghost use Rattle.quantity.specs.Bytes.{is_among};
 ghost use Rattle.atomic_face.specs.Settings.{least_line};
-ghost use Rattle.atomic_face.specs.TableSettings.{line_unless, number_in, one_too_many, with_key};
+ghost use Rattle.atomic_face.specs.TableSettings.{line_unless, number_of_name, one_too_many, with_key};
 ghost use Rattle.source_text.specs.Shown.{texts};
 ghost use Rattle.state_tables.specs.Reading.{is_initial_off, least_of};
 
@@ -33,7 +33,9 @@ pub(crate) fn entry_with<'a>(entries: &'a [Param], key: &[u8]) -> Option<&'a Par
 /// The least line of an initial state that is none of these.
 pub(crate) fn initial_off(names: &[&[u8]], entries: &[Param]) -> Option<u32>
     requires { length names.now ≤ 64 }
-    ensures { result ≡ least_line (flat_map (λ e. line_unless (is_some (number_in (texts names.now) e.value)) e) (with_key (codes "initial") entries.now)) }
+    ensures { result ≡ least_line (flat_map
+        (λ e. line_unless (is_some (number_of_name (texts names.now) e.value)) e)
+        (with_key (codes "initial") entries.now)) }
 {
     let mut first = None;
     for entry in entries {

@@ -16,8 +16,8 @@ use atomic_face::{Param, SettleRefusal};
 use quantity::Time;
 use std::alloc::{AllocError, Global};
 
-/// What each of the states holds, the first hold of each, and the least line of a hold that is off its
-/// form or whose state has one already.
+/// What each of the states holds, the first hold of each, and the least line of a hold that is off
+/// its form or whose state has one already.
 pub(crate) fn read_holds(
     alloc: Global,
     names: &[&[u8]],
@@ -25,9 +25,12 @@ pub(crate) fn read_holds(
 ) -> Result<(Vec<Option<Hold>>, Option<u32>), SettleRefusal>
     requires { length names.now ≤ 64 }
     ensures count { IfOk result (λ read. length read.0.items ≡ length names.now) }
-    ensures holds { IfOk result (λ read. HasHolds read.0.items (holds_of (texts names.now) entries.now)) }
-    ensures within { IfOk result (λ read. All (λ h. IfSome h (IsHoldOf (length names.now))) read.0.items) }
-    ensures line { IfOk result (λ read. read.1 ≡ least_line (holds_off (texts names.now) [] (with_key (codes "hold") entries.now))) }
+    ensures holds { IfOk result (λ read.
+        HasHolds read.0.items (holds_of (texts names.now) entries.now)) }
+    ensures within { IfOk result (λ read.
+        All (λ h. IfSome h (IsHoldOf (length names.now))) read.0.items) }
+    ensures line { IfOk result (λ read. read.1
+        ≡ least_line (holds_off (texts names.now) [] (with_key (codes "hold") entries.now))) }
     ensures memory { IfErr result (λ refusal. refusal ≡ SettleRefusal.Memory) }
 {
     let Ok(mut holds) = none_for_each(alloc, names) else {
@@ -46,15 +49,18 @@ fn none_for_each(alloc: Global, names: &[&[u8]]) -> Result<Vec<Option<Hold>>, Al
     names.iter().map(|_| None).collect(alloc)
 }
 
-/// Reads a parameter that may be a hold, and gives its line where it is one that is off its form or whose
-/// state has a hold already.
+/// Reads a parameter that may be a hold, and gives its line where it is one that is off its form or
+/// whose state has a hold already.
 fn read_hold(names: &[&[u8]], entry: &Param, holds: &mut Vec<Option<Hold>>) -> Option<u32>
     requires few { length names.now ≤ 64 }
     requires each { length holds.old.items ≡ length names.now }
     ensures count { length holds.new.items ≡ length names.now }
-    ensures holds { (before : List HoldWords) → HasHolds holds.old.items before → HasHolds holds.new.items (holds_with (texts names.now) before entry.now) }
-    ensures within { All (λ h. IfSome h (IsHoldOf (length names.now))) holds.old.items → All (λ h. IfSome h (IsHoldOf (length names.now))) holds.new.items }
-    ensures line { (before : List HoldWords) → HasHolds holds.old.items before → option_to_list result ≡ hold_lines (texts names.now) before entry.now }
+    ensures holds { (before : List HoldWords) → HasHolds holds.old.items before
+        → HasHolds holds.new.items (holds_with (texts names.now) before entry.now) }
+    ensures within { All (λ h. IfSome h (IsHoldOf (length names.now))) holds.old.items
+        → All (λ h. IfSome h (IsHoldOf (length names.now))) holds.new.items }
+    ensures line { (before : List HoldWords) → HasHolds holds.old.items before
+        → option_to_list result ≡ hold_lines (texts names.now) before entry.now }
 {
     if entry.key.as_bytes() != b"hold".as_slice() {
         return None;
@@ -66,13 +72,18 @@ fn read_hold(names: &[&[u8]], entry: &Param, holds: &mut Vec<Option<Hold>>) -> O
     }
 }
 
-/// Keeps a hold where its state has none; false where there is no hold to keep, or its state has one.
+/// Keeps a hold where its state has none; false where there is no hold to keep, or its state has
+/// one.
 fn add_hold(read: Option<(u8, Hold)>, holds: &mut Vec<Option<Hold>>) -> bool
     requires { IfSome read (λ h. h.0 < length holds.old.items) }
     ensures count { length holds.new.items ≡ length holds.old.items }
-    ensures holds { (before : List HoldWords) → HasHolds holds.old.items before → HasHolds holds.new.items (before ++ option_to_list (option_map hold_read read)) }
-    ensures within { (states : ℕ) → All (λ h. IfSome h (IsHoldOf states)) holds.old.items → IfSome read (λ h. IsHoldOf states h.1) → All (λ h. IfSome h (IsHoldOf states)) holds.new.items }
-    ensures is_new { (before : List HoldWords) → HasHolds holds.old.items before → result ≡ is_new_hold before (option_map hold_read read) }
+    ensures holds { (before : List HoldWords) → HasHolds holds.old.items before
+        → HasHolds holds.new.items (before ++ option_to_list (option_map hold_read read)) }
+    ensures within { (states : ℕ) → All (λ h. IfSome h (IsHoldOf states)) holds.old.items
+        → IfSome read (λ h. IsHoldOf states h.1)
+        → All (λ h. IfSome h (IsHoldOf states)) holds.new.items }
+    ensures is_new { (before : List HoldWords) → HasHolds holds.old.items before
+        → result ≡ is_new_hold before (option_map hold_read read) }
 {
     let Some((state, hold)) = read else {
         return false;

@@ -6,7 +6,7 @@ ghost use Rattle.quantity.specs.Bytes.{has_repeat, words};
 ghost use Rattle.quantity.specs.Names.{is_name};
 ghost use Rattle.atomic_face.specs.declared.class.Class.TheVariants.{Table};
 ghost use Rattle.atomic_face.specs.Settings.{first_line_off};
-ghost use Rattle.atomic_face.specs.TableSettings.{are_states, number_in, states_of};
+ghost use Rattle.atomic_face.specs.TableSettings.{are_states, number_of_name, states_of};
 ghost use Rattle.source_text.specs.Shown.{texts};
 
 use crate::read::entries::entry_with;
@@ -20,7 +20,8 @@ use std::alloc::Global;
 pub(crate) fn read_names(alloc: Global, entries: &[Param]) -> Result<Vec<&[u8]>, SettleRefusal>
     ensures names { IfOk result (λ names. states_of entries.now ≡ Some (texts names.items)) }
     ensures few { IfOk result (λ names. (0 < vec_len names) × (vec_len names ≤ 64)) }
-    ensures bad { (line : ℕ) → result ≡ Err (SettleRefusal.BadParameter line) → first_line_off Table entries.now ≡ Some line }
+    ensures bad { (line : ℕ) → result ≡ Err (SettleRefusal.BadParameter line)
+        → first_line_off Table entries.now ≡ Some line }
 {
     let Some(entry) = entry_with(entries, b"states") else {
         return words_of(alloc, b"idle");
@@ -73,7 +74,7 @@ fn is_among(names: &[&[u8]], text: &[u8]) -> bool
 /// The number of the state with this name, counted from 0.
 pub(crate) fn number_in(names: &[&[u8]], text: &[u8]) -> Option<u8>
     requires { length names.now ≤ 64 }
-    ensures value { result ≡ number_in (texts names.now) text.now }
+    ensures value { result ≡ number_of_name (texts names.now) text.now }
     ensures within { IfSome result (λ number. number < length names.now) }
 {
     let place = place_in(names, text)?;

@@ -22,9 +22,13 @@ pub(crate) fn read_takes(
     entries: &[Param],
 ) -> Result<(Vec<Take>, Option<u32>), SettleRefusal>
     requires { length names.now ≤ 64 }
-    ensures takes { IfOk result (λ read. flat_map take_words read.0.items ≡ flat_map (λ ws. ws) (filter_map (take_in (texts names.now)) (with_key (codes "take") entries.now))) }
+    ensures takes { IfOk result (λ read. flat_map take_words read.0.items
+        ≡ flat_map (λ ws. ws) (filter_map (take_in (texts names.now))
+        (with_key (codes "take") entries.now))) }
     ensures within { IfOk result (λ read. All (IsTakeOf (length names.now)) read.0.items) }
-    ensures line { IfOk result (λ read. read.1 ≡ least_line (flat_map (λ e. line_unless (is_some (take_in (texts names.now) e)) e) (with_key (codes "take") entries.now))) }
+    ensures line { IfOk result (λ read. read.1
+        ≡ least_line (flat_map (λ e. line_unless (is_some (take_in (texts names.now) e)) e)
+        (with_key (codes "take") entries.now))) }
     ensures memory { IfErr result (λ refusal. refusal ≡ SettleRefusal.Memory) }
 {
     let mut takes = Vec::new(alloc);
@@ -42,9 +46,15 @@ fn read_take(
     takes: &mut Vec<Take>,
 ) -> Result<Option<u32>, SettleRefusal>
     requires { length names.now ≤ 64 }
-    ensures takes { OnOk result (flat_map take_words takes.new.items ≡ flat_map take_words takes.old.items ++ flat_map (λ ws. ws) (filter_map (take_in (texts names.now)) (with_key (codes "take") (entry.now ∷ [])))) }
-    ensures within { All (IsTakeOf (length names.now)) takes.old.items → All (IsTakeOf (length names.now)) takes.new.items }
-    ensures line { IfOk result (λ line. option_to_list line ≡ flat_map (λ e. line_unless (is_some (take_in (texts names.now) e)) e) (with_key (codes "take") (entry.now ∷ []))) }
+    ensures takes { OnOk result (flat_map take_words takes.new.items
+        ≡ flat_map take_words takes.old.items
+        ++ flat_map (λ ws. ws) (filter_map (take_in (texts names.now))
+        (with_key (codes "take") (entry.now ∷ [])))) }
+    ensures within { All (IsTakeOf (length names.now)) takes.old.items
+        → All (IsTakeOf (length names.now)) takes.new.items }
+    ensures line { IfOk result (λ line. option_to_list line
+        ≡ flat_map (λ e. line_unless (is_some (take_in (texts names.now) e)) e)
+        (with_key (codes "take") (entry.now ∷ []))) }
     ensures memory { IfErr result (λ refusal. refusal ≡ SettleRefusal.Memory) }
 {
     if entry.key.as_bytes() != b"take".as_slice() {
@@ -61,7 +71,8 @@ fn read_take(
 
 fn take_of(names: &[&[u8]], text: &[u8]) -> Option<Take>
     requires { length names.now ≤ 64 }
-    ensures value { option_map take_words result ≡ take_of_words (texts names.now) (words text.now) }
+    ensures value { option_map take_words result
+        ≡ take_of_words (texts names.now) (words text.now) }
     ensures within { IfSome result (IsTakeOf (length names.now)) }
 {
     let (state, port, wanted, next) = four_words(text)?;

@@ -11,7 +11,8 @@ use source_text::words::next_word;
 
 /// The words of a text that has four.
 pub(crate) fn four_words(text: &[u8]) -> Option<(&[u8], &[u8], &[u8], &[u8])>
-    ensures { MatchOption result (length (words text.now) ≢ 4) (λ w. words text.now ≡ w.0.now ∷ w.1.now ∷ w.2.now ∷ w.3.now ∷ []) }
+    ensures { MatchOption result (length (words text.now) ≢ 4)
+        (λ w. words text.now ≡ w.0.now ∷ w.1.now ∷ w.2.now ∷ w.3.now ∷ []) }
 {
     let (first, behind) = next_word(text)?;
     let (second, behind) = next_word(behind)?;

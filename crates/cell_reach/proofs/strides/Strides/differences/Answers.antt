@@ -1,8 +1,8 @@
-use Rattle.std.proofs.Common.{refl}
-use Rattle.cell_reach.proofs.Fixed.{differences_here}
+use Rattle.std.proofs.Common.{◌∙◌, ap}
+use Rattle.cell_grid.specs.Space.{place_of}
+use Rattle.cell_reach.specs.Neighbourhoods.{Neighbourhood}
 use Rattle.cell_reach.proofs.strides.Strides.differences.Goals as goal
 
-pub returns-then-has-clause-far : goal.returns-then-has-clause-far
-returns-then-has-clause-far c =
-    differences_here c.self.inside.grid c.args.cell c.position-place.result c.self.inside.steps.items c.self.inside.steps.items c.args.self.now c.position-place.ensures.value refl c.self.view_is
-    c.self.inside.differences.items c.as_slice.result.now c.as_slice.ensures.value (c.self.invariant c.position-place.result (c.has.ensures c.if-has.true)).1
+pub returns-clause-far : goal.returns-clause-far
+returns-clause-far c =
+    c.differences_at.ensures.far c.args.cell (c.position.ensures.value ∙ ap (λ (n : Neighbourhood). place_of n.space c.args.cell) c.self.view_is)
