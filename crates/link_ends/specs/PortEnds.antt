@@ -7,7 +7,7 @@ use Rattle.ma_lines.specs.Sections.{Section}
 use Rattle.model_tree.specs.declared.link.End.{End}
 use Rattle.model_tree.specs.declared.link.End.TheVariants.{Own, Child}
 use Rattle.model_text.specs.Keyed.{Item, texts_of}
-use Rattle.model_text.specs.Walk.{is_group, name_of}
+use Rattle.model_text.specs.Walk.{is_group, item_name}
 use Rattle.model_text.specs.Spaces.{space_of}
 use Rattle.model_text.specs.Links.{inputs_of, outputs_of}
 use Rattle.link_ends.specs.Lent.{with_ends}
@@ -22,15 +22,15 @@ child_ends child ports = map (λ port. Child port child) ports
 
 -- the outputs of a child
 abbrev pub output_ends : List Section → Item → List End
-output_ends ss i = child_ends (name_of i) (outputs_of ss (Some i))
+output_ends ss i = child_ends (item_name i) (outputs_of ss (Some i))
 
 -- the inputs of a child
 abbrev pub input_ends : List Section → Item → List End
-input_ends ss i = child_ends (name_of i) (inputs_of ss (Some i))
+input_ends ss i = child_ends (item_name i) (inputs_of ss (Some i))
 
 -- with an item more behind the others, unless one of its name is there
 abbrev pub with_item : List Item → Item → List Item
-with_item is i = if is_among (map name_of is) (name_of i) then is else is ++ i ∷ []
+with_item is i = if is_among (map item_name is) (item_name i) then is else is ++ i ∷ []
 
 -- the first item of each name
 abbrev pub first_items : List Item → List Item

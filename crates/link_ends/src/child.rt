@@ -45,8 +45,8 @@ fn add_item<'a>(
     names: &mut TextSet<'a>,
     found: &mut Vec<Item<'a>>,
 ) -> Result<(), OutOfMemory>
-    requires { names.old ≡ map W.name_of (map item_of found.old.items) }
-    ensures names { OnOk result (names.new ≡ map W.name_of (map item_of found.new.items)) }
+    requires { names.old ≡ map W.item_name (map item_of found.old.items) }
+    ensures names { OnOk result (names.new ≡ map W.item_name (map item_of found.new.items)) }
     ensures added { OnOk result (map item_of found.new.items
         ≡ with_item (map item_of found.old.items) (item_of item.now)) }
 {

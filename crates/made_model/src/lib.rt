@@ -1,4 +1,5 @@
-//! The text of the made model: Life in a square space with a row of three in each square of five cells by five.
+//! The text of the made model: Life in a square space with a row of three in each square of five
+//! cells by five.
 #![tactic(auto)]
 
 mod lines;
@@ -6,6 +7,3 @@ pub mod made;
 mod rows;
 
 pub use made::made_text;
-
-#[cfg(test)]
-mod tests;

@@ -8,7 +8,7 @@ use Rattle.model_tree.specs.declared.group.CellGroup.{CellGroup}
 use Rattle.model_tree.specs.declared.link.Link.{Link}
 use Rattle.model_tree.specs.Leaves.{Settings}
 use Rattle.model_text.specs.Keyed.{Item, items_of}
-use Rattle.model_text.specs.Walk.{Step, at_section, at_item, is_group, is_atomic, children_of, name_of, section_of, below, walk_from, section_in, items_in}
+use Rattle.model_text.specs.Walk.{Step, at_section, at_item, is_group, is_atomic, children_of, item_name, section_of, below, walk_from, section_in, items_in}
 use Rattle.model_text.specs.Links.{links_of}
 use Rattle.model_walk.specs.Met.{item_steps}
 use Rattle.model_spaces.specs.Placed.{Placed, shown, placed_of}
@@ -147,12 +147,12 @@ abbrev steps_behind : ℕ → List Section → List Bytes → Item → Option Se
 steps_behind n ss inside i o = at_item inside i ∷ elim o [ None ↦ [] | Some t ↦ walk_from n ss inside i.line t ]
 
 pub steps-of-atomic : (n : ℕ) (ss : List Section) (inside : List Bytes) (i : Item) → section_of ss i ≡ None → item_steps n ss inside i ≡ at_item inside i ∷ []
-steps-of-atomic n ss inside i e = ap (steps_behind n ss inside i) (by (is_among inside (name_of i)))
+steps-of-atomic n ss inside i e = ap (steps_behind n ss inside i) (by (is_among inside (item_name i)))
   where
     by : (b : Bool) → cond b None (section_of ss i) ≡ None
     by true = refl
     by false = e
 
-pub steps-of-bare : (n : ℕ) (ss : List Section) (inside : List Bytes) (i : Item) (t : Section) → is_among inside (name_of i) ≡ false → section_of ss i ≡ Some t
+pub steps-of-bare : (n : ℕ) (ss : List Section) (inside : List Bytes) (i : Item) (t : Section) → is_among inside (item_name i) ≡ false → section_of ss i ≡ Some t
     → item_steps n ss inside i ≡ at_item inside i ∷ walk_from n ss inside i.line t
 steps-of-bare n ss inside i t apart e = ap (steps_behind n ss inside i) (ap (λ b. cond b None (section_of ss i)) apart ∙ e)

@@ -21,7 +21,7 @@ use Rattle.model_tree.specs.Stands.{part_of}
 use Rattle.model_tree.specs.Stands as stands
 use Rattle.model_tree.specs.Leaves.{Settings}
 use Rattle.model_text.specs.Keyed.{Item, section_named, texts_of}
-use Rattle.model_text.specs.Walk.{Step, at_section, at_item, is_group, is_atomic, children_of, name_of, section_of, walk_from, section_refused}
+use Rattle.model_text.specs.Walk.{Step, at_section, at_item, is_group, is_atomic, children_of, item_name, section_of, walk_from, section_refused}
 use Rattle.model_text.specs.Stock.{class_of_item, params_of}
 use Rattle.model_text.specs.Links.{links_of}
 use Rattle.model_text.specs.Trees.{trees, group_of, component_of, first_tree, no_files}
@@ -128,15 +128,15 @@ coupled_boxes old mid new s c cs links t m b =
 atomic_is : (law : ItemsAreMade) (n : ℕ) (ss : List Section) (i : Item) (a : code.Atomic) (settings : Settings) → section_of ss i ≡ None → box_told (Some settings) a ≡ item_told (Some settings) ss i
     → part_of (Atomic a) settings ≡ blanked (tree_at_item n no_files ss i)
 atomic_is law n ss i a settings none e =
-    let name : a.name ≡ name_of i = ap (λ (x : Told). x.name) e in
+    let name : a.name ≡ item_name i = ap (λ (x : Told). x.name) e in
     let class : class_of_item i ≡ Some a.class = sym (ap (λ (x : Told). x.class) e) in
     let told : Some (settings a.at.0) ≡ Some (settings_of a.class (params_of ss i)) = ap (λ (x : Told). x.settings) e ∙ ap (option_map (λ k. settings_of k (params_of ss i))) class in
-    ap (λ x. atomic x a.class (settings a.at.0)) name ∙ ap (atomic (name_of i) a.class) (some_same (settings a.at.0) (settings_of a.class (params_of ss i)) told)
+    ap (λ x. atomic x a.class (settings a.at.0)) name ∙ ap (atomic (item_name i) a.class) (some_same (settings a.at.0) (settings_of a.class (params_of ss i)) told)
     ∙ ap (λ ts. blanked (first_tree ts)) (sym (law.class n no_files ss i a.class none class))
 
 pub atomic_builds : (law : ItemsAreMade) (n : ℕ) (ss : List Section) (i : Item) (old new : Parts) (a : code.Atomic) → is_atomic i ≡ true → TakesAtomic old a new → BuildsItem n ss i old (Atomic a) new
 atomic_builds law n ss i old new a b t inside met =
-    let none : section_of ss i ≡ None = ap (λ c. cond c None (section_named ss (name_of i))) b in
+    let none : section_of ss i ≡ None = ap (λ c. cond c None (section_named ss (item_name i))) b in
     let steps = steps-of-atomic n ss inside i none in
     record {
       takes = λ told later h. ahead_of_atomic told ss inside i later old new a b t (subst (λ (xs : List Step). IsAhead told ss old (xs ++ later)) steps h);

@@ -1,4 +1,5 @@
--- Private: the parts of a model that are still to be taken, against the steps of the walk that are still to be gone.
+-- Private: the parts of a model that are still to be taken, against the steps of the walk that are
+-- still to be gone.
 use Rattle.std.specs.Prelude.{◌≡◌, ℕ, Option, Some, None, List, Vec, [], ◌∷◌, ◌++◌, ℤ, map}
 use Rattle.std.specs.declared.alloc.Global.{Global}
 use Rattle.std.specs.List.{filter, filter_map, flat_map, AllByRecursion}
@@ -15,7 +16,7 @@ use Rattle.model_tree.specs.Stands.{part_of, group_of}
 use Rattle.model_tree.specs.Leaves.{Settings}
 use Rattle.model_text.specs.Keyed.{Item}
 use Rattle.quantity.specs.Bytes.{Bytes}
-use Rattle.model_text.specs.Walk.{Step, is_group, is_atomic, name_of, walk_from, section_in, items_in}
+use Rattle.model_text.specs.Walk.{Step, is_group, is_atomic, item_name, walk_from, section_in, items_in}
 use Rattle.model_text.specs.Stock.{class_of_item}
 use Rattle.model_text.specs.Links.{links_of}
 use Rattle.model_text.specs.Trees.{component_of, first_tree, no_files}
@@ -40,12 +41,14 @@ pub record Told : Type 0 where
 -- a component's box
 abbrev pub box_told : Option Settings → Atomic → Told
 box_told None a = record { name = a.name; class = Some a.class; settings = None }
-box_told (Some settings) a = record { name = a.name; class = Some a.class; settings = Some (settings a.at.0) }
+box_told (Some settings) a =
+    record { name = a.name; class = Some a.class; settings = Some (settings a.at.0) }
 
 -- what an item asks for
 abbrev pub item_told : Option Settings → List Section → Item → Told
-item_told None ss i = record { name = name_of i; class = class_of_item i; settings = None }
-item_told (Some settings) ss i = record { name = name_of i; class = class_of_item i; settings = settings_of_item ss i }
+item_told None ss i = record { name = item_name i; class = class_of_item i; settings = None }
+item_told (Some settings) ss i =
+    record { name = item_name i; class = class_of_item i; settings = settings_of_item ss i }
 
 -- each list of parts, from its front
 pub record Front : Type 0 where
@@ -98,15 +101,19 @@ IsAhead told ss p steps = front_of told p ≡ front_at told ss steps
 
 -- the parts of these steps are gone
 abbrev pub Takes : List Section → List Step → Parts → Parts → Type 0
-Takes ss steps old new = (told : Option Settings) (later : List Step) → IsAhead told ss old (steps ++ later) → IsAhead told ss new later
+Takes ss steps old new =
+    (told : Option Settings) (later : List Step) → IsAhead told ss old (steps ++ later)
+    → IsAhead told ss new later
 
 -- under settings that the parts have, these components are these trees, with ? in each cell
 abbrev pub Shows : List Section → List Step → List Tree → Parts → List Component → Type 0
 Shows ss steps ts old cs =
-    (settings : Settings) (later : List Step) → IsAhead (Some settings) ss old (steps ++ later) → map (λ c. part_of c settings) cs ≡ map blanked ts
+    (settings : Settings) (later : List Step) → IsAhead (Some settings) ss old (steps ++ later)
+    → map (λ c. part_of c settings) cs ≡ map blanked ts
 
 -- these trees are built of the parts of these steps
-pub record Builds (ss : List Section) (steps : List Step) (ts : List Tree) (old : Parts) (cs : List Component) (new : Parts) : Type 0 where
+pub record Builds (ss : List Section) (steps : List Step) (ts : List Tree) (old : Parts)
+    (cs : List Component) (new : Parts) : Type 0 where
   pub takes : Takes ss steps old new
   pub shows : Shows ss steps ts old cs
 
@@ -124,18 +131,22 @@ AllMet ss steps = AllByRecursion (Met no_files ss) steps
 abbrev pub BuildsSection : ℕ → List Section → Section → Parts → Component → Parts → Type 0
 BuildsSection levels ss s old c new =
     (around : List Bytes) (line : ℕ) → AllMet ss (walk_from levels ss around line s) →
-    Builds ss (walk_from levels ss around line s) (first_tree (component_of levels no_files ss s) ∷ []) old (c ∷ []) new
+    Builds ss (walk_from levels ss around line s)
+    (first_tree (component_of levels no_files ss s) ∷ []) old (c ∷ []) new
 
 -- the components of items
 abbrev pub BuildsItems : ℕ → List Section → List Item → Parts → List Component → Parts → Type 0
 BuildsItems levels ss is old cs new =
     (inside : List Bytes) → AllMet ss (flat_map (item_steps levels ss inside) is) →
-    Builds ss (flat_map (item_steps levels ss inside) is) (map (tree_at_item levels no_files ss) is) old cs new
+    Builds ss (flat_map (item_steps levels ss inside) is)
+    (map (tree_at_item levels no_files ss) is) old cs new
 
 -- the component of one item
 abbrev pub BuildsItem : ℕ → List Section → Item → Parts → Component → Parts → Type 0
 BuildsItem levels ss i old c new =
-    (inside : List Bytes) → AllMet ss (item_steps levels ss inside i) → Builds ss (item_steps levels ss inside i) (tree_at_item levels no_files ss i ∷ []) old (c ∷ []) new
+    (inside : List Bytes) → AllMet ss (item_steps levels ss inside i)
+    → Builds ss (item_steps levels ss inside i) (tree_at_item levels no_files ss i ∷ []) old
+    (c ∷ []) new
 
 -- ---- one part
 

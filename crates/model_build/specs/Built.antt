@@ -1,4 +1,5 @@
--- The tree that is built of sections, before its groups have values, and the boxes of its atomic components.
+-- The tree that is built of sections, before its groups have values, and the boxes of its atomic
+-- components.
 use Rattle.std.specs.Prelude.{◌≡◌, Option, Some, List, ℤ, map}
 use Rattle.std.specs.Option.{option_map}
 use Rattle.ma_lines.specs.Sections.{Section}
@@ -26,7 +27,8 @@ settings_of_item ss i = option_map (λ class. settings_of class (params_of ss i)
 
 -- the boxes of these components have the settings that their parameters give
 abbrev pub HasSettings : List Section → Settings → List Atomic → Type 0
-HasSettings ss settings boxes = map (λ (a : Atomic). Some (settings a.at.0)) boxes ≡ map (settings_of_item ss) (atomics ss)
+HasSettings ss settings boxes =
+    map (λ (a : Atomic). Some (settings a.at.0)) boxes ≡ map (settings_of_item ss) (atomics ss)
 
 -- under these settings the component is the tree of the sections, with ? in each cell
 abbrev pub IsBuilt : List Section → Settings → Coupled → Type 0

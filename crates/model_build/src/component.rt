@@ -124,8 +124,10 @@ fn made_coupled(
     links: Vec<Link>,
 ) -> Result<Coupled, OutOfMemory>
     ensures name { IfOk result (λ c. c.name ≡ section.now.name) }
-    ensures ins { IfOk result (λ c. c.ins.items ≡ texts_of (codes "in") (S.section_of section.now)) }
-    ensures outs { IfOk result (λ c. c.outs.items ≡ texts_of (codes "out") (S.section_of section.now)) }
+    ensures ins { IfOk result (λ c. c.ins.items
+        ≡ texts_of (codes "in") (S.section_of section.now)) }
+    ensures outs { IfOk result (λ c. c.outs.items
+        ≡ texts_of (codes "out") (S.section_of section.now)) }
     ensures children { IfOk result (λ c. c.children ≡ children) }
     ensures links { IfOk result (λ c. c.links ≡ links) }
 {

@@ -32,9 +32,10 @@ use std::alloc::Global;
 /// The most levels of sections, top included.
 const LEVELS: u32 = 17;
 
-/// The component top of sections that pass the phases up to the limit of links. Its groups have `?` in
-/// each cell; they get their values when the files are read. It goes down the sections once more, and
-/// takes groups, rules, atomic components and links from the front of what the phases read.
+/// The component top of sections that pass the phases up to the limit of links. Its groups have `?`
+/// in each cell; they get their values when the files are read. It goes down the sections once
+/// more, and takes groups, rules, atomic components and links from the front of what the phases
+/// read.
 pub fn build(
     alloc: Global,
     sections: &Sections,

@@ -6,7 +6,7 @@ use Rattle.std.proofs.lemmas.Option.{none-some, same_Some}
 use Rattle.quantity.specs.Bytes.{Bytes, is_among}
 use Rattle.ma_lines.specs.Sections.{Section}
 use Rattle.model_text.specs.Keyed.{section_named, Item}
-use Rattle.model_text.specs.Walk.{top, is_group, children_of, name_of, is_atomic, section_of, Step, at_section, at_item, below, section_in, walk_from, walk_at, walk, reached, groups}
+use Rattle.model_text.specs.Walk.{top, is_group, children_of, item_name, is_atomic, section_of, Step, at_section, at_item, below, section_in, walk_from, walk_at, walk, reached, groups}
 
 module _ (P : Section → Type 0) where
   pub among : (ss : List Section) (name : Bytes) (s : Section) → All P ss → section_named ss name ≡ Some s → P s
@@ -18,12 +18,12 @@ module _ (P : Section → Type 0) where
       go false f later = later f
 
   behind : (ss : List Section) (around : List Bytes) (i : Item) (t : Section) → All P ss → below ss around i ≡ Some t → P t
-  behind ss around i t all e = go (is_among around (name_of i)) (is_atomic i) e
+  behind ss around i t all e = go (is_among around (item_name i)) (is_atomic i) e
     where
-      go : (b c : Bool) → cond b None (cond c None (section_named ss (name_of i))) ≡ Some t → P t
+      go : (b c : Bool) → cond b None (cond c None (section_named ss (item_name i))) ≡ Some t → P t
       go true c f = absurd (none-some t f)
       go false true f = absurd (none-some t f)
-      go false false f = among ss (name_of i) t all f
+      go false false f = among ss (item_name i) t all f
 
   joined : (xs ys : List Step) → AllByRecursion P (filter_map section_in xs) → AllByRecursion P (filter_map section_in ys) → AllByRecursion P (filter_map section_in (xs ++ ys))
   joined [] ys p q = q

@@ -1,4 +1,5 @@
--- What the reading of files comes to, one after another: which names were looked for, what was counted, and what stops it.
+-- What the reading of files comes to, one after another: which names were looked for, what was
+-- counted, and what stops it.
 use Rattle.std.specs.Prelude.{◌≡◌, ℕ, ◌++◌, Option, Some, None, List, [], ◌∷◌, IfSome, ⊤}
 use Rattle.std.specs.declared.result.Result.{Result}
 use Rattle.std.specs.declared.result.Result.TheVariants.{Ok, Err}
@@ -16,13 +17,17 @@ use Rattle.model_files.specs.declared.refusal.ModelRefusal.TheVariants as why
 abbrev pub Begins : {A : Type 0} → List A → List A → Type 0
 Begins {A} part whole = (rest : List A) × (whole ≡ part ++ rest)
 
--- all that are looked for; where a read failed those up to its file's name, and a beginning where memory ran out
-abbrev pub Tried : {T : Type 0} → Result T ModelRefusal → List Bytes → List Bytes → List Bytes → Type 0
+-- all that are looked for; where a read failed those up to its file's name, and a beginning where
+-- memory ran out
+abbrev pub Tried : {T : Type 0} → Result T ModelRefusal → List Bytes → List Bytes → List Bytes
+    → Type 0
 Tried (Ok x) looked old new = new ≡ old ++ looked
 Tried (Err (why.Missing name)) looked old new = new ≡ old ++ looked
 Tried (Err (why.Refused line kind)) looked old new = new ≡ old ++ looked
-Tried (Err (why.ReadFault name)) looked old new = (part : List Bytes) × Begins (part ++ name ∷ []) looked × (new ≡ old ++ (part ++ name ∷ []))
-Tried (Err why.Memory) looked old new = (part : List Bytes) × Begins part looked × (new ≡ old ++ part)
+Tried (Err (why.ReadFault name)) looked old new =
+    (part : List Bytes) × Begins (part ++ name ∷ []) looked × (new ≡ old ++ (part ++ name ∷ []))
+Tried (Err why.Memory) looked old new =
+    (part : List Bytes) × Begins part looked × (new ≡ old ++ part)
 
 -- the name of a file that is missing, or can't be read, is the last that was tried
 abbrev pub IsLastTried : {T : Type 0} → Result T ModelRefusal → List Bytes → Type 0
@@ -37,9 +42,12 @@ IsLastTried (Err why.Memory) tried = ⊤
 -- a miss and a fault of reading are answered just where they are counted
 abbrev pub Counted : {T : Type 0} → Result T ModelRefusal → Outside → Outside → Type 0
 Counted (Ok x) old new = (new.misses ≡ old.misses) × (new.read_faults ≡ old.read_faults)
-Counted (Err (why.Missing name)) old new = Rose old.misses new.misses × (new.read_faults ≡ old.read_faults)
-Counted (Err (why.ReadFault name)) old new = (new.misses ≡ old.misses) × Rose old.read_faults new.read_faults
-Counted (Err (why.Refused line kind)) old new = (new.misses ≡ old.misses) × (new.read_faults ≡ old.read_faults)
+Counted (Err (why.Missing name)) old new =
+    Rose old.misses new.misses × (new.read_faults ≡ old.read_faults)
+Counted (Err (why.ReadFault name)) old new =
+    (new.misses ≡ old.misses) × Rose old.read_faults new.read_faults
+Counted (Err (why.Refused line kind)) old new =
+    (new.misses ≡ old.misses) × (new.read_faults ≡ old.read_faults)
 Counted (Err why.Memory) old new = (new.misses ≡ old.misses) × (new.read_faults ≡ old.read_faults)
 
 -- ---- files
@@ -53,9 +61,11 @@ StopsAs (Err (why.ReadFault name)) stop = ⊤
 StopsAs (Err why.Memory) stop = ⊤
 
 -- these files were read, up to the first that stops the reading
-pub record ReadsFiles {T : Type 0} (files : List InitialFile) (result : Result T ModelRefusal) (old new : Outside) : Type 0 where
+pub record ReadsFiles {T : Type 0} (files : List InitialFile) (result : Result T ModelRefusal)
+    (old new : Outside) : Type 0 where
   pub stops : IfSome old.files (λ folder. StopsAs result (first_file_stop folder files))
-  pub tried : IfSome old.files (λ folder. Tried result (looked_for folder files) old.tried new.tried)
+  pub tried : IfSome old.files (λ folder.
+      Tried result (looked_for folder files) old.tried new.tried)
   pub last : IsLastTried result new.tried
   pub counted : Counted result old new
   -- no count falls

@@ -16,7 +16,8 @@ abbrev pub any_file : ℕ → Bytes → InitialFile
 any_file line name = record { line = line; name = name; is_right = λ bytes. true }
 
 -- what is answered to a whole read of a file that this line names
-abbrev pub answered : ℕ → Bytes → Result (Vec ℕ Global) ReadWhole → Result (Vec ℕ Global) ModelRefusal
+abbrev pub answered : ℕ → Bytes → Result (Vec ℕ Global) ReadWhole
+    → Result (Vec ℕ Global) ModelRefusal
 answered line name (Ok bytes) = Ok bytes
 answered line name (Err read.Missing) = Err (why.Missing name)
 answered line name (Err read.ReadFault) = Err (why.ReadFault name)

@@ -1,5 +1,6 @@
 // A file that is read whole, and what stops that.
 ghost use Rattle.std.specs.Prelude.{◌≡◌, ◌≤◌, [], ◌∷◌, Some, IfSome, IfOk, length};
+ghost use Rattle.quantity.specs.declared.bounds.TheConstants.{MAX_FILE_BYTES};
 ghost use Rattle.ma_lines.specs.Laws.{IsPlain};
 ghost use Rattle.model_files.specs.Reading.{ReadsFiles};
 ghost use Rattle.model_files.specs.Whole.{any_file, answered};
@@ -15,8 +16,8 @@ use std::str;
 /// The most bytes of a file that is read.
 const MOST_BYTES: u32 = MAX_FILE_BYTES as u32;
 
-/// The bytes of a file that is named on this line, 0 for a file that no line names. It is missing, can't be
-/// read, or is too long; only where memory ran out it may not have been looked for.
+/// The bytes of a file that is named on this line, 0 for a file that no line names. It is missing,
+/// can't be read, or is too long; only where memory ran out it may not have been looked for.
 pub fn read_file<R: Room>(
     alloc: Global,
     room: &mut R,
@@ -27,7 +28,7 @@ pub fn read_file<R: Room>(
         (R.outside room.old) (R.outside room.new) }
     ensures bytes { IfSome (R.outside room.old).files
         (λ files. IfOk result (λ bytes. files name.now ≡ Some bytes.items)) }
-    ensures short { IfOk result (λ bytes. length bytes.items ≤ 16777216) }
+    ensures short { IfOk result (λ bytes. length bytes.items ≤ MAX_FILE_BYTES) }
 {
     // Kept first: a miss that was counted is answered as one.
     let kept = Text::copy(alloc, name.as_bytes())?;

@@ -23,8 +23,9 @@ use room_edge::Room;
 use std::alloc::{AllocError, Global};
 use std::collections::VecDeque;
 
-/// The values of each group at the start, in declared order: those of its section, with its map file and
-/// then its cells file laid on them. A file is looked for only where none before it stops the reading.
+/// The values of each group at the start, in declared order: those of its section, with its map
+/// file and then its cells file laid on them. A file is looked for only where none before it stops
+/// the reading.
 pub fn initial_values<R: Room>(
     alloc: Global,
     room: &mut R,
@@ -70,8 +71,8 @@ fn lay_all<R: Room>(
     Ok(laid)
 }
 
-/// Takes the first of the values that are left, lays the group's files on them, and puts them behind
-/// the others.
+/// Takes the first of the values that are left, lays the group's files on them, and puts them
+/// behind the others.
 fn lay_next<R: Room>(
     alloc: Global,
     room: &mut R,

@@ -24,8 +24,8 @@ use model_walk::entries::first_entry;
 use room_edge::Room;
 use std::alloc::Global;
 
-/// The values of a group at the start, from those of its section: first the map file is laid on them, and
-/// then the cells file.
+/// The values of a group at the start, from those of its section: first the map file is laid on
+/// them, and then the cells file.
 pub(crate) fn group_values<R: Room>(
     alloc: Global,
     room: &mut R,
@@ -107,7 +107,8 @@ fn lay_cells<R: Room>(
         (R.outside room.old) (R.outside room.new) }
     ensures values { IfSome (R.outside room.old).files (λ files. IfOk result
         (λ values. values ≡ with_cells before (option_and_then (cells_file grid.now)
-        (option_and_then files (K.value_of (codes "initialcellsvalue") (section_of section.now)))))) }
+        (option_and_then files (K.value_of (codes "initialcellsvalue")
+        (section_of section.now)))))) }
     ensures length { IfOk result (λ values. length values ≡ cell_count grid.now) }
 {
     match first_entry(section, b"initialcellsvalue") {
@@ -126,7 +127,8 @@ fn lay_cells_file<R: Room>(
 ) -> Result<Initial, ModelRefusal>
     requires plain { IsPlain entry.now.value }
     requires length { length before ≡ cell_count grid.now }
-    ensures read { ReadsFiles (file_at (λ bytes. is_some (cells_file grid.now bytes)) entry.now ∷ [])
+    ensures read { ReadsFiles (file_at (λ bytes. is_some (cells_file grid.now bytes)) entry.now
+        ∷ [])
         result (R.outside room.old) (R.outside room.new) }
     ensures values { IfSome (R.outside room.old).files (λ files. IfOk result
         (λ values. values

@@ -8,7 +8,8 @@ use Rattle.model_text.specs.Forms.{is_of_group}
 
 -- the tuple in a part that lacks its closing parenthesis, where no other name stands before it
 abbrev pub tuple_in : Bytes → Bytes → Option NamedTuple
-tuple_in group part = option_and_then (λ t. then_some (is_of_group group t) t) (named_tuple (trimmed part))
+tuple_in group part =
+    option_and_then (λ t. then_some (is_of_group group t) t) (named_tuple (trimmed part))
 
 -- those in all parts
 abbrev pub tuples_in : Bytes → List Bytes → Option (List NamedTuple)

@@ -8,6 +8,3 @@ pub mod sizes;
 pub mod tuples;
 
 pub use port_rule::PortRuleText;
-
-#[cfg(test)]
-mod tests;

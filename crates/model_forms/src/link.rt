@@ -23,7 +23,8 @@ pub fn link_text(alloc: Global, text: &[u8]) -> Result<Vec<u8>, OutOfMemory>
 
 /// The first two words of a text that has no third; None exactly where there are more or fewer.
 pub fn two_ends(text: &[u8]) -> Option<(&[u8], &[u8])>
-    ensures { MatchOption result (length (words text.now) ≢ 2) (λ ends. words text.now ≡ ends.0.now ∷ ends.1.now ∷ []) }
+    ensures { MatchOption result (length (words text.now) ≢ 2)
+        (λ ends. words text.now ≡ ends.0.now ∷ ends.1.now ∷ []) }
 {
     let (from, behind) = next_word(text)?;
     let (to, rest) = next_word(behind)?;
@@ -45,7 +46,8 @@ pub fn has_two_ends(alloc: Global, text: &[u8]) -> Result<bool, OutOfMemory>
 }
 
 fn whole_tuples(alloc: Global, text: &[u8]) -> Result<Vec<u8>, OutOfMemory>
-    ensures { IfOk result (λ whole. whole.items ≡ F.with_whole_tuples (slice_split (is_byte opening_parenthesis) text.now)) }
+    ensures { IfOk result (λ whole. whole.items
+        ≡ F.with_whole_tuples (slice_split (is_byte opening_parenthesis) text.now)) }
 {
     let mut whole = Vec::new(alloc);
     match part_before(b'(', text) {
@@ -62,7 +64,9 @@ fn whole_tuples(alloc: Global, text: &[u8]) -> Result<Vec<u8>, OutOfMemory>
 
 /// Appends what stands behind the first opening parenthesis, with that parenthesis.
 fn add_tuples(alloc: Global, text: &[u8], whole: &mut Vec<u8>) -> Result<(), OutOfMemory>
-    ensures { OnOk result (whole.new.items ≡ whole.old.items ++ flat_map (λ q. opening_parenthesis ∷ F.with_whole_tuple q) (slice_split (is_byte opening_parenthesis) text.now)) }
+    ensures { OnOk result (whole.new.items
+        ≡ whole.old.items ++ flat_map (λ q. opening_parenthesis ∷ F.with_whole_tuple q)
+        (slice_split (is_byte opening_parenthesis) text.now)) }
 {
     let mut rest = text;
     while let Some((part, behind)) = part_before(b'(', rest) {
@@ -74,7 +78,8 @@ fn add_tuples(alloc: Global, text: &[u8], whole: &mut Vec<u8>) -> Result<(), Out
 
 /// Appends an opening parenthesis and what stands behind it, where a tuple loses its blanks.
 fn add_tuple(alloc: Global, part: &[u8], whole: &mut Vec<u8>) -> Result<(), OutOfMemory>
-    ensures { OnOk result (whole.new.items ≡ whole.old.items ++ opening_parenthesis ∷ F.with_whole_tuple part.now) }
+    ensures { OnOk result (whole.new.items
+        ≡ whole.old.items ++ opening_parenthesis ∷ F.with_whole_tuple part.now) }
 {
     whole.push(b'(').map_err(AllocError::from)?;
     if !ends_tuple(alloc, part)? {
@@ -90,7 +95,10 @@ fn add_tuple(alloc: Global, part: &[u8], whole: &mut Vec<u8>) -> Result<(), OutO
 
 /// Whether a tuple ends at the first closing parenthesis of what stands behind its opening one.
 fn ends_tuple(alloc: Global, part: &[u8]) -> Result<bool, OutOfMemory>
-    ensures { IfOk result (λ ends. ends ≡ (list_any (is_byte closing_parenthesis) part.now && is_some (tuple (opening_parenthesis ∷ before_first (is_byte closing_parenthesis) part.now ++ closing_parenthesis ∷ [])))) }
+    ensures { IfOk result (λ ends. ends
+        ≡ (list_any (is_byte closing_parenthesis) part.now
+        && is_some (tuple (opening_parenthesis ∷ before_first (is_byte closing_parenthesis) part.now
+        ++ closing_parenthesis ∷ [])))) }
 {
     if !has_closing(part) {
         return Ok(false);

@@ -55,7 +55,8 @@ pub fn word_count(text: &[u8]) -> usize
     count
 }
 
-/// Whether this is a word of the rule language: a letter, then letters, digits and `_`, at most 64 in all.
+/// Whether this is a word of the rule language: a letter, then letters, digits and `_`, at most 64
+/// in all.
 pub fn is_word(text: &[u8]) -> bool
     ensures { result ≡ F.is_word text.now }
 {
@@ -96,7 +97,8 @@ pub fn are_ports(alloc: Global, text: &[u8]) -> Result<bool, OutOfMemory>
 }
 
 fn are_different_words(most: usize, found: &[&[u8]]) -> bool
-    ensures { result ≡ (has_length 1 most (texts found.now) && list_all F.is_word (texts found.now) && not (has_repeat (texts found.now))) }
+    ensures { result ≡ (has_length 1 most (texts found.now) && list_all F.is_word (texts found.now)
+        && not (has_repeat (texts found.now))) }
 {
     1 <= found.len() && found.len() <= most && all_are_words(found) && !has_repeat(found)
 }

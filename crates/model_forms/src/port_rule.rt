@@ -39,7 +39,8 @@ pub fn port_rule_text<'a>(group: &[u8], text: &'a [u8]) -> Option<PortRuleText<'
 
 /// The port and the place, in a text that lacks the closing parenthesis.
 fn port_and_place<'a>(group: &[u8], text: &'a [u8]) -> Option<(&'a [u8], Tuple)>
-    ensures { option_map (λ p. (p.0.now, numbers_of p.1)) result ≡ F.port_and_place group.now text.now }
+    ensures { option_map (λ p. (p.0.now, numbers_of p.1)) result
+        ≡ F.port_and_place group.now text.now }
 {
     let (port, behind) = cut_at(b'@', text);
     let named = named_tuple(behind)?;

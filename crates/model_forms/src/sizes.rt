@@ -36,7 +36,7 @@ fn are_positive(sizes: Tuple) -> bool
     1 <= sizes.row && 1 <= sizes.column && 1 <= sizes.plane.unwrap_or(1)
 }
 
-/// Whether this is a number of 1 to 9 digits, at most 359999999: milliseconds up to 99:59:59:999.
+/// Whether this is a number of 1 to 9 digits, at most `MAX_DELAY`: milliseconds up to 99:59:59:999.
 pub fn is_delay_time(text: &[u8]) -> bool
     ensures { result ≡ F.is_delay_time text.now }
 {

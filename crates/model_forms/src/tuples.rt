@@ -11,13 +11,15 @@ use source_text::line::trimmed;
 use source_text::tuples::{named_tuple, parts};
 use std::alloc::{AllocError, Global};
 
-/// The tuples of a text, each behind the group's name or behind nothing; None where it has another form.
+/// The tuples of a text, each behind the group's name or behind nothing; None where it has another
+/// form.
 pub fn tuples_of<'a>(
     alloc: Global,
     group: &[u8],
     text: &'a [u8],
 ) -> Result<Option<Vec<NamedTuple<'a>>>, OutOfMemory>
-    ensures { IfOk result (λ found. option_map (λ list. map named_of list.items) found ≡ F.tuples_of group.now text.now) }
+    ensures { IfOk result (λ found. option_map (λ list. map named_of list.items) found
+        ≡ F.tuples_of group.now text.now) }
 {
     let Some(parts) = parts(alloc, text)? else {
         return Ok(None);
@@ -31,7 +33,8 @@ fn tuples_in<'a>(
     group: &[u8],
     parts: &[&'a [u8]],
 ) -> Result<Option<Vec<NamedTuple<'a>>>, OutOfMemory>
-    ensures { IfOk result (λ found. option_map (λ list. map named_of list.items) found ≡ tuples_in group.now (texts parts.now)) }
+    ensures { IfOk result (λ found. option_map (λ list. map named_of list.items) found
+        ≡ tuples_in group.now (texts parts.now)) }
 {
     let mut found = Vec::new(alloc);
     for part in parts {

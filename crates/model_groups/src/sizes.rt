@@ -1,6 +1,7 @@
 // The sizes of spaces, and all cells counted.
 ghost use Rattle.std.specs.Prelude.{◌≡◌, ◌<◌, ◌^◌, ◌≤◌, pos, unsigned_abs, codes};
 ghost use Rattle.std.specs.Option.{option_and_then, option_map};
+ghost use Rattle.quantity.specs.declared.bounds.TheConstants.{MAX_DELAY};
 ghost use Rattle.source_text.specs.Tuples as texts;
 ghost use Rattle.model_text.specs.Keyed as K;
 ghost use Rattle.source_text.specs.Shown.{numbers_of};
@@ -139,7 +140,7 @@ pub fn delay(section: &Section) -> DelayKind
 
 /// The delay of a result that gives none.
 pub fn default_delay(section: &Section) -> Time
-    requires { T.default_delay_of (section_of section.now) ≤ 359999999 }
+    requires { T.default_delay_of (section_of section.now) ≤ MAX_DELAY }
     ensures { result ≡ T.default_delay_of (section_of section.now) }
 {
     let Some(time) = Time::new(delay_time(section)) else {

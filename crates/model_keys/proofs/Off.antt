@@ -11,7 +11,7 @@ use Rattle.ma_lines.specs.Sections.{Section}
 use Rattle.rule_tree.specs.Phrases.{looked_up}
 use Rattle.model_text.specs.declared.kind.Kind.TheVariants.{BadValue}
 use Rattle.model_text.specs.Refusals.{Refusal, refusal}
-use Rattle.model_text.specs.Keyed.{least}
+use Rattle.model_text.specs.Keyed.{least_refusal}
 use Rattle.model_text.specs.Keys.{is_off, off_form, forms, group_forms}
 use Rattle.model_walk.specs.Least.{merged}
 use Rattle.model_walk.proofs.Orders.{least_step}
@@ -51,18 +51,18 @@ off_by s fs key text o e = ap (λ p. is_off p text) (ap (option_map (test_of s))
 
 -- ---- entry by entry
 
-pub off_one : (table : List (Bytes × (Bytes → Bool))) (e : Entry) (b : Bool) → b ≡ is_off (looked_up table e.key) e.value → cond b (Some (refusal e.line BadValue)) None ≡ least (off_form table (e ∷ []))
-off_one table e b h = by b ∙ ap (λ (v : Bool). least (map (λ (e : Entry). refusal e.line BadValue) (cond v (e ∷ []) []))) h
+pub off_one : (table : List (Bytes × (Bytes → Bool))) (e : Entry) (b : Bool) → b ≡ is_off (looked_up table e.key) e.value → cond b (Some (refusal e.line BadValue)) None ≡ least_refusal (off_form table (e ∷ []))
+off_one table e b h = by b ∙ ap (λ (v : Bool). least_refusal (map (λ (e : Entry). refusal e.line BadValue) (cond v (e ∷ []) []))) h
   where
-    by : (v : Bool) → cond v (Some (refusal e.line BadValue)) None ≡ least (map (λ (e : Entry). refusal e.line BadValue) (cond v (e ∷ []) []))
+    by : (v : Bool) → cond v (Some (refusal e.line BadValue)) None ≡ least_refusal (map (λ (e : Entry). refusal e.line BadValue) (cond v (e ∷ []) []))
     by true = refl
     by false = refl
 
-pub off_step : (table : List (Bytes × (Bytes → Bool))) (es : List Entry) (i : ℕ) (d : Entry) (first now : Option Refusal) → i < length es → now ≡ least (off_form table (get_or es i d ∷ []))
-    → merged first (least (off_form table (drop i es))) ≡ least (off_form table es) → merged (merged first now) (least (off_form table (drop (i + 1) es))) ≡ least (off_form table es)
+pub off_step : (table : List (Bytes × (Bytes → Bool))) (es : List Entry) (i : ℕ) (d : Entry) (first now : Option Refusal) → i < length es → now ≡ least_refusal (off_form table (get_or es i d ∷ []))
+    → merged first (least_refusal (off_form table (drop i es))) ≡ least_refusal (off_form table es) → merged (merged first now) (least_refusal (off_form table (drop (i + 1) es))) ≡ least_refusal (off_form table es)
 off_step table es i d first now lt e h =
     let off = λ (x : Entry). is_off (looked_up table x.key) x.value in
     let at = λ (x : Entry). refusal x.line BadValue in
-    least_step first now (off_form table (get_or es i d ∷ [])) (off_form table (drop (i + 1) es)) (least (off_form table es)) e
-    (ap (λ rs. merged first (least rs)) (sym (map-append at (filter off (get_or es i d ∷ [])) (filter off (drop (i + 1) es))) ∙ ap (map at) (sym (filter-append off (get_or es i d ∷ []) (drop (i + 1) es))))
-    ∙ ap (λ (rest : List Entry). merged first (least (off_form table rest))) (sym (drop_more es i d lt)) ∙ h)
+    least_step first now (off_form table (get_or es i d ∷ [])) (off_form table (drop (i + 1) es)) (least_refusal (off_form table es)) e
+    (ap (λ rs. merged first (least_refusal rs)) (sym (map-append at (filter off (get_or es i d ∷ [])) (filter off (drop (i + 1) es))) ∙ ap (map at) (sym (filter-append off (get_or es i d ∷ []) (drop (i + 1) es))))
+    ∙ ap (λ (rest : List Entry). merged first (least_refusal (off_form table rest))) (sym (drop_more es i d lt)) ∙ h)

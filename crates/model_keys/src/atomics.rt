@@ -22,7 +22,8 @@ pub(crate) fn of_atomics(
     sections: &Sections,
     items: &[Item<'_>],
 ) -> Result<Option<Refused>, OutOfMemory>
-    ensures { IfOk result (IsLeastOf (flat_map (K.of_atomic sections.now) (filter W.is_atomic (map item_of items.now)))) }
+    ensures { IfOk result (IsLeastOf (flat_map (K.of_atomic sections.now)
+        (filter W.is_atomic (map item_of items.now)))) }
 {
     let mut first = None;
     for item in items {
@@ -37,7 +38,8 @@ fn of_item(
     sections: &Sections,
     item: &Item<'_>,
 ) -> Result<Option<Refused>, OutOfMemory>
-    ensures { IfOk result (IsLeastOf (flat_map (K.of_atomic sections.now) (filter W.is_atomic (item_of item.now ∷ [])))) }
+    ensures { IfOk result (IsLeastOf (flat_map (K.of_atomic sections.now)
+        (filter W.is_atomic (item_of item.now ∷ [])))) }
 {
     if !is_atomic(item) {
         return Ok(None);

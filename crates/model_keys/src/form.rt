@@ -81,7 +81,8 @@ pub(crate) fn off_forms(
     forms: &[Form],
     section: &Section,
 ) -> Result<Option<Refused>, OutOfMemory>
-    ensures { IfOk result (IsLeastOf (K.off_form (table_of (section_of section.now) forms.now) section.now.entries.items)) }
+    ensures { IfOk result (IsLeastOf (K.off_form
+        (table_of (section_of section.now) forms.now) section.now.entries.items)) }
 {
     let values = wanted_values(alloc, section)?;
     let mut first = None;
@@ -100,7 +101,8 @@ fn off_form(
     entry: &Entry,
 ) -> Result<Option<Refused>, OutOfMemory>
     requires { AreWanted (section_of section.now) values.now }
-    ensures { IfOk result (IsLeastOf (K.off_form (table_of (section_of section.now) forms.now) (entry.now ∷ []))) }
+    ensures { IfOk result (IsLeastOf (K.off_form (table_of (section_of section.now) forms.now)
+        (entry.now ∷ []))) }
 {
     if !is_off(alloc, forms, section, values, entry)? {
         return Ok(None);
@@ -119,7 +121,8 @@ fn is_off(
     entry: &Entry,
 ) -> Result<bool, OutOfMemory>
     requires { AreWanted (section_of section.now) values.now }
-    ensures { IfOk result (λ off. off ≡ K.is_off (looked_up (table_of (section_of section.now) forms.now) entry.now.key) entry.now.value) }
+    ensures { IfOk result (λ off. off ≡ K.is_off
+        (looked_up (table_of (section_of section.now) forms.now) entry.now.key) entry.now.value) }
 {
     let Some(form) = form_of(forms, entry.key.as_bytes()) else {
         return Ok(false);

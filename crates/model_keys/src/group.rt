@@ -43,7 +43,8 @@ fn has_space(section: &Section) -> bool
 }
 
 fn has_rows_and_columns(section: &Section) -> bool
-    ensures { result ≡ (K.has_key (codes "height") (section_of section.now) && K.has_key (codes "width") (section_of section.now)) }
+    ensures { result ≡ (K.has_key (codes "height") (section_of section.now)
+        && K.has_key (codes "width") (section_of section.now)) }
 {
     has_key(section, b"height") & has_key(section, b"width")
 }
@@ -69,7 +70,8 @@ fn double_space(section: &Section) -> Option<Refused>
 }
 
 fn has_side(section: &Section) -> bool
-    ensures { result ≡ (K.has_key (codes "height") (section_of section.now) || K.has_key (codes "width") (section_of section.now)) }
+    ensures { result ≡ (K.has_key (codes "height") (section_of section.now)
+        || K.has_key (codes "width") (section_of section.now)) }
 {
     has_key(section, b"height") | has_key(section, b"width")
 }

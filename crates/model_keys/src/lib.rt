@@ -23,7 +23,8 @@ use model_walk::{Refused, Walked};
 use quantity::OutOfMemory;
 use std::alloc::Global;
 
-/// The least refusal of the keys of the sections that the walk met, and of the parameters of its atomic components.
+/// The least refusal of the keys of the sections that the walk met, and of the parameters of its
+/// atomic components.
 pub fn keys_refused(
     alloc: Global,
     sections: &Sections,
@@ -36,6 +37,3 @@ pub fn keys_refused(
     let second = of_atomics(alloc, sections, &walked.items)?;
     Ok(least(first, second))
 }
-
-#[cfg(test)]
-mod tests;

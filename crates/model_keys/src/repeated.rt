@@ -23,7 +23,8 @@ pub(crate) fn repeated(
     section: &Section,
     key: &[u8],
 ) -> Result<Option<Refused>, OutOfMemory>
-    ensures { IfOk result (IsLeastOf (K.repeated [] (L.items_of key.now (section_of section.now)))) }
+    ensures { IfOk result (IsLeastOf (K.repeated []
+        (L.items_of key.now (section_of section.now)))) }
 {
     let items = items(alloc, section, key)?;
     repeated_among(alloc, &items)

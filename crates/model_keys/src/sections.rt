@@ -44,7 +44,8 @@ pub(crate) fn of_sections(
     alloc: Global,
     sections: &[&Section],
 ) -> Result<Option<Refused>, OutOfMemory>
-    ensures { IfOk result (IsLeastOf (flat_map K.of_section (map (λ r. section_of r.now) sections.now))) }
+    ensures { IfOk result (IsLeastOf (flat_map K.of_section
+        (map (λ r. section_of r.now) sections.now))) }
 {
     let mut first = None;
     for section in sections {
@@ -66,7 +67,8 @@ fn of_section(alloc: Global, section: &Section) -> Result<Option<Refused>, OutOf
 
 /// The least key that stands again and may not.
 fn keys_again(alloc: Global, section: &Section) -> Result<Option<Refused>, OutOfMemory>
-    ensures { IfOk result (IsLeastOf (K.again (K.section_keys (section_of section.now)) [] section.now.entries.items)) }
+    ensures { IfOk result (IsLeastOf (K.again
+        (K.section_keys (section_of section.now)) [] section.now.entries.items)) }
 {
     if is_group(section) {
         again(alloc, &GROUP_KEYS, &section.entries)
@@ -77,7 +79,9 @@ fn keys_again(alloc: Global, section: &Section) -> Result<Option<Refused>, OutOf
 
 /// The least refusal of the values.
 fn of_values(alloc: Global, section: &Section) -> Result<Option<Refused>, OutOfMemory>
-    ensures { let s = section_of section.now in IfOk result (IsLeastOf (if W.is_group s then K.of_group s else K.off_form (K.forms s) s.entries)) }
+    ensures { let s = section_of section.now in
+        IfOk result (IsLeastOf (if W.is_group s then K.of_group s
+        else K.off_form (K.forms s) s.entries)) }
 {
     if is_group(section) {
         of_group(alloc, section)

@@ -39,7 +39,8 @@ pub(crate) fn wanted_values(alloc: Global, section: &Section) -> Result<WantedVa
 }
 
 fn wanted_variables(alloc: Global, section: &Section) -> Result<Wanted, OutOfMemory>
-    ensures { IfOk result (λ is. is ≡ wanted (F.are_words 8) (L.value_of (codes "statevariables") (section_of section.now))) }
+    ensures { IfOk result (λ is. is ≡ wanted (F.are_words 8)
+        (L.value_of (codes "statevariables") (section_of section.now))) }
 {
     let Some(entry) = first_entry(section, b"statevariables") else {
         return Ok(Wanted::Nothing);
@@ -50,7 +51,8 @@ fn wanted_variables(alloc: Global, section: &Section) -> Result<Wanted, OutOfMem
 }
 
 fn wanted_ports(alloc: Global, section: &Section) -> Result<Wanted, OutOfMemory>
-    ensures { IfOk result (λ is. is ≡ wanted F.are_ports (L.value_of (codes "neighborports") (section_of section.now))) }
+    ensures { IfOk result (λ is. is ≡ wanted F.are_ports
+        (L.value_of (codes "neighborports") (section_of section.now))) }
 {
     let Some(entry) = first_entry(section, b"neighborports") else {
         return Ok(Wanted::Nothing);

@@ -16,7 +16,7 @@ use Rattle.model_tree.specs.Stands.{part_of, parts_of}
 use Rattle.model_tree.specs.Tree as T
 use Rattle.model_tree.specs.Tree.{Group, Tree, Trees, coupled, cells, atomic, nil, cons}
 use Rattle.model_text.specs.Keyed.{section_named, Item, items_of, texts_of}
-use Rattle.model_text.specs.Walk.{top, is_group, children_of, name_of, is_atomic, section_of, Step, at_section, at_item, below, section_in, walk_from, walk_at, groups}
+use Rattle.model_text.specs.Walk.{top, is_group, children_of, item_name, is_atomic, section_of, Step, at_section, at_item, below, section_in, walk_from, walk_at, groups}
 use Rattle.model_text.specs.Stock.{class_of_item, params_of}
 use Rattle.model_text.specs.Links.{links_of}
 use Rattle.model_text.specs.Trees.{group_of, trees, component_of, first_tree, tree_at, tree_of}
@@ -114,7 +114,7 @@ module _ (files : Files) (ss : List Section) (items : ItemsAreMade) (sections : 
       go : (o : Option Section) → section_of ss i ≡ o → Has (item_steps n ss around i) (tree_at_item n files ss i)
       go None e =
           let a = class_there ss around i h.0.0 h.0.1 e in
-          let made : component_at n files ss i ≡ atomic (name_of i) a.0 (settings_of a.0 (params_of ss i)) ∷ [] = items.class n files ss i a.0 e a.1 in
+          let made : component_at n files ss i ≡ atomic (item_name i) a.0 (settings_of a.0 (params_of ss i)) ∷ [] = items.class n files ss i a.0 e a.1 in
           let steps : item_steps n ss around i ≡ at_item around i ∷ [] = ap (steps_behind n ss around i) (is_below ∙ e) in
           ap (λ ts. T.groups (first_tree ts)) made ∙ ap (λ xs. map (group_of files ss) (groups_in xs)) (sym steps)
       go (Some t) e =

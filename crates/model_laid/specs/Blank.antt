@@ -10,7 +10,8 @@ blank_group g = record g { initial = filled g.space Undefined }
 -- of each group
 abbrev mutual
   pub blanked : Tree → Tree
-  blanked (coupled name ins outs children links) = coupled name ins outs (all_blanked children) links
+  blanked (coupled name ins outs children links) =
+      coupled name ins outs (all_blanked children) links
   blanked (cells g) = cells (blank_group g)
   blanked (atomic name class settings) = atomic name class settings
 

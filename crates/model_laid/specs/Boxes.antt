@@ -25,9 +25,13 @@ abbrev mutual
 -- the box of a component is taken, and stands at the start that its settings give
 abbrev pub IsStarted : List Stocked → Atomic → Type 0
 IsStarted stock a =
-    slice_get stock a.at.0 ≡ Some (record { box = started a.class (settings_in stock a.at.0); taken = true })
+    slice_get stock a.at.0 ≡ Some (record {
+      box = started a.class (settings_in stock a.at.0);
+      taken = true;
+    })
 
 -- each atomic component has such a box, one of its own
 pub record HasBoxes (stock : List Stocked) (top : Coupled) : Type 0 where
-  pub started : (k : ℕ) (a : Atomic) → slice_get (atomics_in (in_tree top)) k ≡ Some a → IsStarted stock a
+  pub started : (k : ℕ) (a : Atomic) → slice_get (atomics_in (in_tree top)) k ≡ Some a
+      → IsStarted stock a
   pub apart : are_apart (map (λ (a : Atomic). a.at.0) (atomics_in (in_tree top))) ≡ true

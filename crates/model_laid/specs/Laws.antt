@@ -39,25 +39,29 @@ GroupsAreAlike = (m : Model) (s t : Settings) → T.groups (tree_of m s) ≡ T.g
 
 -- a value for each group takes the place of ? as of another
 pub record BlanksAreLaid : Type 0 where
-  pub laying : (t : Tree) (values : List (List Value)) → length values ≡ length (T.groups t) → laid values (blanked t) ≡ laid values t
+  pub laying : (t : Tree) (values : List (List Value)) → length values ≡ length (T.groups t)
+      → laid values (blanked t) ≡ laid values t
   pub groups_are : (t : Tree) → T.groups (blanked t) ≡ map blank_group (T.groups t)
   pub paths : (t : Tree) → path_count (blanked t) ≡ path_count t
 
 -- routes stay those of the tree, and the paths as many
 pub record LinksStay : Type 0 where
-  pub routes : (t : Tree) (values : List (List Value)) (r : Flat) → RoutesOf t r → RoutesOf (laid values t) r
+  pub routes : (t : Tree) (values : List (List Value)) (r : Flat) → RoutesOf t r
+      → RoutesOf (laid values t) r
   pub paths : (t : Tree) (values : List (List Value)) → path_count (laid values t) ≡ path_count t
 
 -- with a value for each cell of each group
 abbrev pub LaidModelsAreSound : Type 0
 LaidModelsAreSound =
     (t : Tree) (values : List (List Value)) → IsWithinLimits t → path_count t ≤ 65536
-    → length values ≡ length (T.groups t) → Covers values (T.groups t) → is_sound_model (laid values t) ≡ true
+    → length values ≡ length (T.groups t) → Covers values (T.groups t)
+    → is_sound_model (laid values t) ≡ true
 
 -- ---- boxes
 
 -- of a component, and of each model whose tree it is, with whatever values
 abbrev pub BoxesAreStanding : Type 0
 BoxesAreStanding =
-    (stock : List Stocked) (top : Coupled) (m : Model) (values : List (List Value)) → HasBoxes stock top
+    (stock : List Stocked) (top : Coupled) (m : Model) (values : List (List Value))
+    → HasBoxes stock top
     → ((s : Settings) → tree_of m s ≡ laid values (part_of (in_tree top) s)) → BoxesStand stock m

@@ -3,7 +3,8 @@ ghost use Rattle.model_laid.specs.Laws.{GroupsAreMet, GroupsAreAlike, BlanksAreL
 
 use model_text::building::components_are_made_item_by_item;
 
-/// The groups of the tree of sections are those of the sections of groups, in the order in which they are met.
+/// The groups of the tree of sections are those of the sections of groups, in the order in which
+/// they are met.
 pub fn groups_are_met()
     ensures { GroupsAreMet }
 {

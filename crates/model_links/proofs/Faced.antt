@@ -13,7 +13,7 @@ use Rattle.model_tree.specs.declared.link.End.TheVariants.{Own, Child, Cell}
 use Rattle.model_tree.specs.declared.link.Link.{Link}
 use Rattle.model_tree.specs.Faces.{same_end, same_link, is_source, is_target}
 use Rattle.model_text.specs.Keyed.{Item, texts_of}
-use Rattle.model_text.specs.Walk.{name_of, children_of}
+use Rattle.model_text.specs.Walk.{item_name, children_of}
 use Rattle.model_text.specs.Links.{inputs_of, outputs_of, face_of}
 use Rattle.model_walk.proofs.Named.{any-map}
 use Rattle.link_ends.specs.declared.face.Face.{Face}
@@ -98,14 +98,14 @@ child_in_child port child name ports = any-map (same_end (Child port child)) (λ
 
 -- the ports of a section and of these children
 abbrev all_ends : (Option Item → List Bytes) → List Bytes → List Item → List End
-all_ends ports own is = with_ends (with_ends [] (own_ends own)) (flat_map (λ (i : Item). child_ends (name_of i) (ports (Some i))) is)
+all_ends ports own is = with_ends (with_ends [] (own_ends own)) (flat_map (λ (i : Item). child_ends (item_name i) (ports (Some i))) is)
 
 cut : (e : End) (ports : Option Item → List Bytes) (own : List Bytes) (is : List Item)
-    → list_any (same_end e) (all_ends ports own is) ≡ (list_any (same_end e) (own_ends own) || list_any (λ (i : Item). list_any (same_end e) (child_ends (name_of i) (ports (Some i)))) is)
+    → list_any (same_end e) (all_ends ports own is) ≡ (list_any (same_end e) (own_ends own) || list_any (λ (i : Item). list_any (same_end e) (child_ends (item_name i) (ports (Some i)))) is)
 cut e ports own is =
-    any-with_all same_end same_end_tells e (with_ends [] (own_ends own)) (flat_map (λ (i : Item). child_ends (name_of i) (ports (Some i))) is)
-    ∙ ap (λ b. b || list_any (same_end e) (flat_map (λ (i : Item). child_ends (name_of i) (ports (Some i))) is)) (any-with_all same_end same_end_tells e [] (own_ends own))
-    ∙ ap (λ b. list_any (same_end e) (own_ends own) || b) (any-parts (same_end e) (λ (i : Item). child_ends (name_of i) (ports (Some i))) is)
+    any-with_all same_end same_end_tells e (with_ends [] (own_ends own)) (flat_map (λ (i : Item). child_ends (item_name i) (ports (Some i))) is)
+    ∙ ap (λ b. b || list_any (same_end e) (flat_map (λ (i : Item). child_ends (item_name i) (ports (Some i))) is)) (any-with_all same_end same_end_tells e [] (own_ends own))
+    ∙ ap (λ b. list_any (same_end e) (own_ends own) || b) (any-parts (same_end e) (λ (i : Item). child_ends (item_name i) (ports (Some i))) is)
 
 or_false : (a b c : Bool) → a ≡ c → b ≡ false → (a || b) ≡ c
 or_false true b c e f = e
@@ -115,15 +115,15 @@ own_tested : (port : Bytes) (ports : Option Item → List Bytes) (own : List Byt
 own_tested port ports own is =
     cut (Own port) ports own is
     ∙ or_false _ _ (is_among own port) (own_in_own port own)
-    (any-same (λ (i : Item). list_any (same_end (Own port)) (child_ends (name_of i) (ports (Some i)))) (λ (i : Item). false) (λ i. own_in_child port (name_of i) (ports (Some i))) is ∙ never is)
+    (any-same (λ (i : Item). list_any (same_end (Own port)) (child_ends (item_name i) (ports (Some i)))) (λ (i : Item). false) (λ i. own_in_child port (item_name i) (ports (Some i))) is ∙ never is)
 
 child_tested : (port child : Bytes) (ports : Option Item → List Bytes) (own : List Bytes) (cs : List Item) → ports None ≡ []
-    → list_any (same_end (Child port child)) (all_ends ports own (first_items cs)) ≡ is_among (ports (find (λ (i : Item). bytes_eq (name_of i) child) cs)) port
+    → list_any (same_end (Child port child)) (all_ends ports own (first_items cs)) ≡ is_among (ports (find (λ (i : Item). bytes_eq (item_name i) child) cs)) port
 child_tested port child ports own cs none =
     cut (Child port child) ports own (first_items cs)
-    ∙ ap (λ b. b || list_any (λ (i : Item). list_any (same_end (Child port child)) (child_ends (name_of i) (ports (Some i)))) (first_items cs)) (child_in_own port child own)
-    ∙ any-same (λ (i : Item). list_any (same_end (Child port child)) (child_ends (name_of i) (ports (Some i)))) (λ (i : Item). is_among (ports (Some i)) port && bytes_eq child (name_of i)) (λ i. child_in_child port child (name_of i) (ports (Some i))) (first_items cs)
-    ∙ first_tested name_of child (λ o. is_among (ports o) port) cs (ap (λ ps. is_among ps port) none)
+    ∙ ap (λ b. b || list_any (λ (i : Item). list_any (same_end (Child port child)) (child_ends (item_name i) (ports (Some i)))) (first_items cs)) (child_in_own port child own)
+    ∙ any-same (λ (i : Item). list_any (same_end (Child port child)) (child_ends (item_name i) (ports (Some i)))) (λ (i : Item). is_among (ports (Some i)) port && bytes_eq child (item_name i)) (λ i. child_in_child port child (item_name i) (ports (Some i))) (first_items cs)
+    ∙ first_tested item_name child (λ o. is_among (ports o) port) cs (ap (λ ps. is_among ps port) none)
 
 -- ---- the face
 

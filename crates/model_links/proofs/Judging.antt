@@ -15,7 +15,7 @@ use Rattle.model_tree.specs.Faces as F
 use Rattle.model_text.specs.declared.kind.Kind.{Kind}
 use Rattle.model_text.specs.declared.kind.Kind.TheVariants.{UnknownPort, SelfLink, PassThrough, DuplicateLink}
 use Rattle.model_text.specs.Refusals.{Refusal, refusal, kind_of_link}
-use Rattle.model_text.specs.Keyed.{least}
+use Rattle.model_text.specs.Keyed.{least_refusal}
 use Rattle.model_text.specs.Walk.{children_of}
 use Rattle.model_text.specs.Links.{face_of, link_of, link_entries, entry_refused, at_line, links_refused_after, of_links, links_of}
 use Rattle.model_walk.specs.Least.{merged}
@@ -70,10 +70,10 @@ refused_is k f s before (e ∷ es) h =
 
 pub section_refused : (k : Face) (ss : List Section) (s : Section) (found : List FoundLink)
     → sources_of k ≡ source_ends ss s (first_items (children_of s)) → targets_of k ≡ target_ends ss s (first_items (children_of s)) → k.cells ≡ cells_of s → found ≡ map (found_at s) (link_entries s)
-    → least (refused_after k [] found) ≡ least (of_links ss s)
+    → least_refusal (refused_after k [] found) ≡ least_refusal (of_links ss s)
 section_refused k ss s found sources targets cells e =
-    ap (λ xs. least (refused_after k [] xs)) e
-    ∙ ap least (refused_is k (face_of ss s) s [] (link_entries s) (sources_are k ss s sources cells, targets_are k ss s targets cells))
+    ap (λ xs. least_refusal (refused_after k [] xs)) e
+    ∙ ap least_refusal (refused_is k (face_of ss s) s [] (link_entries s) (sources_are k ss s sources cells, targets_are k ss s targets cells))
 
 filter_map-map : {A B C : Type 0} (f : B → Option C) (g : A → B) (xs : List A) → filter_map f (map g xs) ≡ filter_map (λ x. f (g x)) xs
 filter_map-map f g [] = refl
@@ -102,18 +102,18 @@ kind_seen : (k : Face) (before : List Link) (o : Option Link) → kind_after k (
 kind_seen k before None = refl
 kind_seen k before (Some l) = ap (λ b. cause_of (is_source_of k l.from && is_target_of k l.to) b l) (link_among l before)
 
-least_one : (o : Option Refusal) → o ≡ least (option_to_list o)
+least_one : (o : Option Refusal) → o ≡ least_refusal (option_to_list o)
 least_one None = refl
 least_one (Some r) = refl
 
 pub judged_step : (k : Face) (xs : List FoundLink) (i : ℕ) (d : FoundLink) (seen : List Link) (first now all : Option Refusal) → i < length xs → now ≡ refusal_after k seen (get_or xs i d) → seen ≡ with_links [] (links_in (take i xs))
-    → merged first (least (refused_after k (links_in (take i xs)) (drop i xs))) ≡ all → merged (merged first now) (least (refused_after k (links_in (take (i + 1) xs)) (drop (i + 1) xs))) ≡ all
+    → merged first (least_refusal (refused_after k (links_in (take i xs)) (drop i xs))) ≡ all → merged (merged first now) (least_refusal (refused_after k (links_in (take (i + 1) xs)) (drop (i + 1) xs))) ≡ all
 judged_step k xs i d seen first now all lt e same h =
     let x = get_or xs i d in
     let before = links_in (take i xs) in
     let here = option_to_list (refusal_after k before x) in
     let rest = refused_after k (before ++ option_to_list x.link) (drop (i + 1) xs) in
-    let is_now : now ≡ least here =
+    let is_now : now ≡ least_refusal here =
     e ∙ ap (λ ls. refusal_after k ls x) same ∙ ap (option_map (refusal x.line)) (kind_seen k before x.link) ∙ least_one (refusal_after k before x) in
-    ap (λ ls. merged (merged first now) (least (refused_after k ls (drop (i + 1) xs)))) (links_more xs i d lt)
-    ∙ least_step first now here rest all is_now (ap (λ ys. merged first (least (refused_after k before ys))) (sym (drop_more xs i d lt)) ∙ h)
+    ap (λ ls. merged (merged first now) (least_refusal (refused_after k ls (drop (i + 1) xs)))) (links_more xs i d lt)
+    ∙ least_step first now here rest all is_now (ap (λ ys. merged first (least_refusal (refused_after k before ys))) (sym (drop_more xs i d lt)) ∙ h)

@@ -11,7 +11,7 @@ use Rattle.ma_lines.specs.declared.section.Section as code
 use Rattle.ma_lines.specs.Sections.{Section, section_of}
 use Rattle.model_tree.specs.declared.link.Link.{Link}
 use Rattle.model_text.specs.Refusals.{Refusal}
-use Rattle.model_text.specs.Keyed.{least}
+use Rattle.model_text.specs.Keyed.{least_refusal}
 use Rattle.model_text.specs.Walk.{is_group}
 use Rattle.model_text.specs.Spaces.{space_of}
 use Rattle.model_text.specs.Links.{links_of, of_links}
@@ -50,11 +50,11 @@ sections rs = map (λ (r : Bor code.Section). section_of r.now) rs
 abbrev pub all_refused : List Section → List (Bor code.Section) → List Refusal
 all_refused ss rs = flat_map (of_links ss) (sections rs)
 
-pub section_step : (ss : List Section) (rs : List (Bor code.Section)) (i : ℕ) (d : Bor code.Section) (first now all : Option Refusal) → i < length rs → now ≡ least (of_links ss (section_of (get_or rs i d).now))
-    → merged first (least (all_refused ss (drop i rs))) ≡ all → merged (merged first now) (least (all_refused ss (drop (i + 1) rs))) ≡ all
+pub section_step : (ss : List Section) (rs : List (Bor code.Section)) (i : ℕ) (d : Bor code.Section) (first now all : Option Refusal) → i < length rs → now ≡ least_refusal (of_links ss (section_of (get_or rs i d).now))
+    → merged first (least_refusal (all_refused ss (drop i rs))) ≡ all → merged (merged first now) (least_refusal (all_refused ss (drop (i + 1) rs))) ≡ all
 section_step ss rs i d first now all lt e h =
     least_step first now (of_links ss (section_of (get_or rs i d).now)) (all_refused ss (drop (i + 1) rs)) all e
-    (ap (λ rest. merged first (least (all_refused ss rest))) (sym (drop_more rs i d lt)) ∙ h)
+    (ap (λ rest. merged first (least_refusal (all_refused ss rest))) (sym (drop_more rs i d lt)) ∙ h)
 
 -- how many groups there are
 abbrev pub groups_in : List (Bor code.Section) → ℕ

@@ -2,7 +2,7 @@
 ghost use Rattle.std.specs.Prelude.{◌≡◌, ◌&&◌, [], map, IfOk};
 ghost use Rattle.std.specs.Option.{option_map};
 ghost use Rattle.model_tree.specs.Faces as F;
-ghost use Rattle.model_text.specs.Keyed.{least};
+ghost use Rattle.model_text.specs.Keyed.{least_refusal};
 ghost use Rattle.model_walk.specs.Shown.{refusal_of};
 ghost use Rattle.link_ends.specs.Lent.{joined};
 ghost use Rattle.model_links.specs.Judged.{is_source_of, is_target_of, cause_of, kind_after};
@@ -26,7 +26,7 @@ pub(crate) fn first_refused(
     found: &[FoundLink],
 ) -> Result<Option<Refused>, OutOfMemory>
     ensures { IfOk result (λ why. option_map refusal_of why
-        ≡ least (refused_after face.now [] found.now)) }
+        ≡ least_refusal (refused_after face.now [] found.now)) }
 {
     let mut first = None;
     let mut before = IndexSet::new(alloc);

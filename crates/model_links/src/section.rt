@@ -3,7 +3,7 @@ ghost use Rattle.std.specs.Prelude.{◌≡◌, ◌∷◌, ◌++◌, [], map, IfO
 ghost use Rattle.std.specs.List.{filter_map};
 ghost use Rattle.std.specs.Option.{option_map};
 ghost use Rattle.ma_lines.specs.Sections.{section_of};
-ghost use Rattle.model_text.specs.Keyed.{least};
+ghost use Rattle.model_text.specs.Keyed.{least_refusal};
 ghost use Rattle.model_text.specs.Links as L;
 ghost use Rattle.model_walk.specs.Shown.{refusal_of};
 ghost use Rattle.link_ends.specs.Around.{IsSpaceOf};
@@ -44,7 +44,7 @@ pub(crate) fn section_links(
     requires { IsSpaceOf (section_of section.now) grid }
     ensures links { IfOk result (λ read. read.links.items ≡ L.links_of (section_of section.now)) }
     ensures refused { IfOk result (λ read. option_map refusal_of read.refused
-        ≡ least (L.of_links sections.now (section_of section.now))) }
+        ≡ least_refusal (L.of_links sections.now (section_of section.now))) }
 {
     let found = found_links(alloc, section, grid)?;
     let face = face_of(alloc, sections, section, grid)?;

@@ -3,7 +3,7 @@ ghost use Rattle.std.specs.Prelude.{◌≡◌, true, Some, map, slice_get, IfOk}
 ghost use Rattle.std.specs.List.{filter, flat_map};
 ghost use Rattle.std.specs.Option.{option_map};
 ghost use Rattle.ma_lines.specs.Sections.{section_of};
-ghost use Rattle.model_text.specs.Keyed.{least};
+ghost use Rattle.model_text.specs.Keyed.{least_refusal};
 ghost use Rattle.model_text.specs.Walk as W;
 ghost use Rattle.model_text.specs.Spaces.{space_of};
 ghost use Rattle.model_text.specs.Links as L;
@@ -40,7 +40,8 @@ pub(crate) fn all_links(
     ensures links { IfOk result (λ all. map (λ list. list.items) all.links.items
         ≡ map L.links_of (map (λ r. section_of r.now) met.now)) }
     ensures refused { IfOk result (λ all. option_map refusal_of all.refused
-        ≡ least (flat_map (L.of_links sections.now) (map (λ r. section_of r.now) met.now))) }
+        ≡ least_refusal (flat_map (L.of_links sections.now)
+        (map (λ r. section_of r.now) met.now))) }
 {
     let mut links = Vec::with_capacity(alloc, met.len())?;
     let mut refused = None;

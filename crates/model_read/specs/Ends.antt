@@ -23,7 +23,8 @@ use Rattle.model_files.specs.declared.refusal.ModelRefusal.TheVariants as why
 -- the routes of a model with at most 65536 paths; TooManyRoutes where there are more
 abbrev pub RoutesGive : Model → Result Routes ModelRefusal → Type 0
 RoutesGive m (Ok routes) = OfTree m (λ t. RoutesOf t routes) × OfTree m (λ t. path_count t ≤ 65536)
-RoutesGive m (Err (why.Refused line kind)) = (line ≡ 0) × (kind ≡ TooManyRoutes) × OfTree m (λ t. 65536 < path_count t)
+RoutesGive m (Err (why.Refused line kind)) =
+    (line ≡ 0) × (kind ≡ TooManyRoutes) × OfTree m (λ t. 65536 < path_count t)
 RoutesGive m (Err why.Memory) = ⊤
 RoutesGive m (Err (why.Missing name)) = ⊥
 RoutesGive m (Err (why.ReadFault name)) = ⊥
@@ -40,4 +41,5 @@ has_plane plane (Some g) = nat_lt plane (plane_count g.grid)
 -- nothing is drawn, or a plane that there is
 abbrev pub can_draw : Option Drawing → List GroupSpace → Bool
 can_draw None gs = true
-can_draw (Some d) gs = has_plane d.plane (find (λ (g : GroupSpace). bytes_eq g.section.now.name d.group) gs)
+can_draw (Some d) gs =
+    has_plane d.plane (find (λ (g : GroupSpace). bytes_eq g.section.now.name d.group) gs)

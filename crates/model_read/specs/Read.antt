@@ -26,13 +26,15 @@ use Rattle.model_laid.specs.Boxes.{settings_in, BoxesStand}
 abbrev pub drawing_of : Option code.Drawing → Option D.Drawing
 drawing_of d = option_map (λ (x : code.Drawing). record { group = x.group; plane = x.plane }) d
 
--- a model that a run may start from: it is sound, the routes are its own, and so are the boxes of its atomic components
+-- a model that a run may start from: it is sound, the routes are its own, and so are the boxes of
+-- its atomic components
 pub record IsReady (stock : List Stocked) (m : Model) (routes : Routes) : Type 0 where
   pub sound : is_sound_model (tree_of m (settings_in stock)) ≡ true
   pub routes_are : OfTree m (λ t. RoutesOf t routes)
   pub boxes : BoxesStand stock m
 
--- the model is the one that is found, under the settings of the boxes; a missing file and a refusal are those that are found
+-- the model is the one that is found, under the settings of the boxes; a missing file and a refusal
+-- are those that are found
 abbrev pub ModelGives : ModelOf → List Stocked → Result (Model × Routes) ModelRefusal → Type 0
 ModelGives found stock (Ok read) = found ≡ model (tree_of read.0 (settings_in stock))
 ModelGives found stock (Err (why.Missing name)) = found ≡ missing name
@@ -45,7 +47,9 @@ abbrev pub CanBeDrawn : Option D.Drawing → List Stocked → Model → Type 0
 CanBeDrawn drawing stock m = D.drawing_refused drawing (tree_of m (settings_in stock)) ≡ None
 
 -- all of this of a reading whose definition is this, where the files are told
-pub record Reads (definition : Files → ModelRead) (drawing : Option D.Drawing) (stock : List Stocked) (result : Result (Model × Routes) ModelRefusal) (old new : Outside) : Type 0 where
+pub record Reads (definition : Files → ModelRead) (drawing : Option D.Drawing)
+    (stock : List Stocked) (result : Result (Model × Routes) ModelRefusal)
+    (old new : Outside) : Type 0 where
   pub found : IfSome old.files (λ files. ModelGives (definition files).found stock result)
   pub tried : IfSome old.files (λ files. Tried result (definition files).looked old.tried new.tried)
   pub ready : IfOk result (λ read. IsReady stock read.0 read.1)

@@ -124,8 +124,8 @@ fn built<'a>(
     })
 }
 
-/// The phases up to the limit of links. Refused is the refusal of the first that refuses; boxes of the
-/// stock may be taken then, and where there is no memory.
+/// The phases up to the limit of links. Refused is the refusal of the first that refuses; boxes of
+/// the stock may be taken then, and where there is no memory.
 pub fn judge<'a, M: AtomicModel>(
     alloc: Global,
     sections: &'a Sections,

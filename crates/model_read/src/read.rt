@@ -1,6 +1,7 @@
 // The reading of a model, phase after phase.
 ghost use Rattle.std.specs.Prelude.{◌≡◌, ◌≤◌, IfSome, IfOk, not, IsTrue, length};
 ghost use Rattle.std.specs.List.{All, list_all};
+ghost use Rattle.quantity.specs.declared.bounds.TheConstants.{MAX_FILE_BYTES};
 ghost use Rattle.ma_lines.specs.Laws.{IsPlainSection};
 ghost use Rattle.room_edge.specs.Outside.{OnlyInput};
 ghost use Rattle.room_edge.specs.Faults.{KeepsMisses, KeepsReadFaults};
@@ -35,7 +36,7 @@ pub fn read_model_bytes<R: Room, M: AtomicModel>(
     stock: &mut Stock<M>,
     drawing: Option<Drawing>,
 ) -> Result<(Model, Routes), ModelRefusal>
-    requires short { length bytes.now ≤ 16777216 }
+    requires short { length bytes.now ≤ MAX_FILE_BYTES }
     requires free { IsTrue (list_all (λ s. not s.taken) stock.old) }
     // Where the files are told: just what the definition finds, and the names that it looks for.
     ensures found { IfSome (R.outside room.old).files (λ files. ModelGives
@@ -58,8 +59,8 @@ pub fn read_model_bytes<R: Room, M: AtomicModel>(
 
 /// The model of the file of this name, and its routes.
 ///
-/// `Missing` is the model file's name or that of an initial file, and `ReadFault` too. A model file of
-/// more than 16777216 bytes is refused at line 0.
+/// `Missing` is the model file's name or that of an initial file, and `ReadFault` too. A model file
+/// of more than `MAX_FILE_BYTES` bytes is refused at line 0.
 pub fn read_model<R: Room, M: AtomicModel>(
     alloc: Global,
     room: &mut R,
@@ -111,7 +112,7 @@ fn read_bytes<R: Room, M: AtomicModel>(
     stock: &mut Stock<M>,
     drawing: Option<Drawing>,
 ) -> Result<(Model, Routes), ModelRefusal>
-    requires short { length bytes.now ≤ 16777216 }
+    requires short { length bytes.now ≤ MAX_FILE_BYTES }
     requires free { IsTrue (list_all (λ s. not s.taken) stock.old) }
     ensures { Reads
         (λ files. model_of bytes.now files (classes_of stock.old) (drawing_of drawing))

@@ -79,8 +79,8 @@ pub(crate) struct Parts<'a> {
     pub(crate) rules: Vec<GroupRules>,
 }
 
-/// Reads spaces, takes the boxes of atomic components, and reads rules. Where a phase refuses, or there
-/// is no memory, boxes may be taken.
+/// Reads spaces, takes the boxes of atomic components, and reads rules. Where a phase refuses, or
+/// there is no memory, boxes may be taken.
 pub(crate) fn read_parts<'a, M: AtomicModel>(
     alloc: Global,
     sections: &'a Sections,

@@ -1,4 +1,4 @@
--- Files of more than 16777216 bytes.
+-- Files of more than MAX_FILE_BYTES bytes.
 use Rattle.std.specs.Prelude.{◌≡◌, true, Option, None, List, [], ◌∷◌, codes}
 use Rattle.quantity.specs.Bytes.{Bytes}
 use Rattle.source_text.specs.Lines.{Files}

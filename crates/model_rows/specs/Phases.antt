@@ -1,4 +1,5 @@
--- Two phases that refuse one model: the earlier one counts. Its line is the greater of the two where it can be.
+-- Two phases that refuse one model: the earlier one counts. Its line is the greater of the two
+-- where it can be.
 use Rattle.std.specs.Prelude.{◌≡◌, None, List, [], ◌∷◌, ◌++◌, drop, codes}
 use Rattle.quantity.specs.Bytes.{Bytes}
 use Rattle.model_text.specs.declared.kind.Kind.TheVariants.{BadLine, NoTop, BadValue, UnknownComponent, BadParameter, UnknownPort, BadRule, TooLarge}

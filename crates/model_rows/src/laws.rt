@@ -20,7 +20,7 @@ pub fn steps_follow()
     ensures { StepsFollow }
 {}
 
-/// Files of more than 16777216 bytes are refused, whatever they hold.
+/// Files of more than `MAX_FILE_BYTES` bytes are refused, whatever they hold.
 pub fn long_files_are_refused()
     ensures { LongFilesAreRefused }
 {}

@@ -25,7 +25,7 @@ use Rattle.model_walk.proofs.Named.{among_texts}
 use Rattle.model_walk.specs.TextSets.{with_text}
 use Rattle.model_spaces.specs.declared.placed.PlacedRule.{PlacedRule}
 use Rattle.model_spaces.specs.Placed.{place_shown}
-use Rattle.model_rules.specs.Parts.{number_in, numbered}
+use Rattle.model_rules.specs.Parts.{number_of_set, numbered}
 
 -- ---- each once
 
@@ -110,19 +110,19 @@ pub named-map : (is : List kept.Item) → map (λ (w : kept.Item). w.text.now) i
 named-map [] = refl
 named-map (w ∷ ws) = ap (λ ts. w.text.now ∷ ts) (named-map ws)
 
-texts-numbered : (names : List Bytes) (is : List kept.Item) → map (λ (w : kept.Item). number_in names w.text.now) is ≡ map (λ (i : Item). number_in names i.text) (map item_of is)
+texts-numbered : (names : List Bytes) (is : List kept.Item) → map (λ (w : kept.Item). number_of_set names w.text.now) is ≡ map (λ (i : Item). number_of_set names i.text) (map item_of is)
 texts-numbered names [] = refl
-texts-numbered names (w ∷ ws) = ap (λ ns. number_in names w.text.now ∷ ns) (texts-numbered names ws)
+texts-numbered names (w ∷ ws) = ap (λ ns. number_of_set names w.text.now ∷ ns) (texts-numbered names ws)
 
 zones-numbered : (names : List Bytes) (s : Section) (es : List Entry)
-    → map (λ (i : Item). number_in names i.text) (filter_map (zone_item s) es) ≡ map (λ (z : Region). number_in names z.name) (filter_map (λ (e : Entry). zone_in (space_of s) e.value) es)
+    → map (λ (i : Item). number_of_set names i.text) (filter_map (zone_item s) es) ≡ map (λ (z : Region). number_of_set names z.name) (filter_map (λ (e : Entry). zone_in (space_of s) e.value) es)
 zones-numbered names s [] = refl
 zones-numbered names s (e ∷ es) = by (zone_in (space_of s) e.value) (zones-numbered names s es)
   where
-    by : (o : Option Region) → map (λ (i : Item). number_in names i.text) (filter_map (zone_item s) es) ≡ map (λ (z : Region). number_in names z.name) (filter_map (λ (e : Entry). zone_in (space_of s) e.value) es)
-        → map (λ (i : Item). number_in names i.text) (cons_option (option_map (λ (z : Region). name_at e z.name) o) (filter_map (zone_item s) es)) ≡ map (λ (z : Region). number_in names z.name) (cons_option o (filter_map (λ (e : Entry). zone_in (space_of s) e.value) es))
+    by : (o : Option Region) → map (λ (i : Item). number_of_set names i.text) (filter_map (zone_item s) es) ≡ map (λ (z : Region). number_of_set names z.name) (filter_map (λ (e : Entry). zone_in (space_of s) e.value) es)
+        → map (λ (i : Item). number_of_set names i.text) (cons_option (option_map (λ (z : Region). name_at e z.name) o) (filter_map (zone_item s) es)) ≡ map (λ (z : Region). number_of_set names z.name) (cons_option o (filter_map (λ (e : Entry). zone_in (space_of s) e.value) es))
     by None h = h
-    by (Some z) h = ap (λ ns. number_in names z.name ∷ ns) h
+    by (Some z) h = ap (λ ns. number_of_set names z.name ∷ ns) h
 
 pub ports-numbered : (s : Section) (names : List Bytes) (ps : List PlacedRule) → names ≡ rule_sets_named s → map (numbered names) ps ≡ filter_map (port_rule_of s) (map place_shown ps)
 ports-numbered s names [] e = refl
@@ -130,7 +130,7 @@ ports-numbered s names (p ∷ ps) e =
     ap (λ (ns : List Bytes). numbered ns p ∷ map (numbered names) ps) e ∙ ap (λ rs. numbered (rule_sets_named s) p ∷ rs) (ports-numbered s names ps e)
 
 pub zones-are-numbered : (s : Section) (names : List Bytes) (is : List kept.Item) (es : List Entry) → names ≡ rule_sets_named s → map item_of is ≡ filter_map (zone_item s) es
-    → map (λ (w : kept.Item). number_in names w.text.now) is ≡ map (λ (z : Region). rule_set_number s z.name) (filter_map (λ (e : Entry). zone_in (space_of s) e.value) es)
+    → map (λ (w : kept.Item). number_of_set names w.text.now) is ≡ map (λ (z : Region). rule_set_number s z.name) (filter_map (λ (e : Entry). zone_in (space_of s) e.value) es)
 zones-are-numbered s names is es e h =
-    texts-numbered names is ∙ ap (map (λ (i : Item). number_in names i.text)) h ∙ zones-numbered names s es
-    ∙ ap (λ (ns : List Bytes). map (λ (z : Region). number_in ns z.name) (filter_map (λ (e : Entry). zone_in (space_of s) e.value) es)) e
+    texts-numbered names is ∙ ap (map (λ (i : Item). number_of_set names i.text)) h ∙ zones-numbered names s es
+    ∙ ap (λ (ns : List Bytes). map (λ (z : Region). number_of_set ns z.name) (filter_map (λ (e : Entry). zone_in (space_of s) e.value) es)) e

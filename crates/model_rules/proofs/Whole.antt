@@ -1,5 +1,5 @@
 -- A group's rules put together, and the groups that can be read.
-use Rattle.std.proofs.Common.{◌≡◌, ℕ, Option, Some, None, List, [], ◌∷◌, ◌++◌, map, length, get_or, drop, refl, arith, ◌<◌, sym, ap, ◌∙◌, codes, subst, append-nil}
+use Rattle.std.proofs.Common.{◌≡◌, ℕ, Option, Some, None, List, [], ◌∷◌, ◌++◌, map, length, get_or, drop, refl, arith, ◌<◌, sym, ap, ◌∙◌, codes, append-nil}
 use Rattle.std.proofs.lemmas.List.{map-append}
 use Rattle.std.specs.List.{filter_map, flat_map, AllByRecursion}
 use Rattle.std.specs.Option.{option_map}
@@ -14,7 +14,7 @@ use Rattle.ma_lines.specs.Sections.{Section, section_of}
 use Rattle.model_tree.specs.Pull.{distinct}
 use Rattle.model_tree.specs.declared.group.PortRule.{PortRule}
 use Rattle.model_text.specs.Refusals.{Refusal}
-use Rattle.model_text.specs.Keyed.{Item, entries_of, least}
+use Rattle.model_text.specs.Keyed.{Item, entries_of, least_refusal}
 use Rattle.model_text.specs.Spaces.{PortPlace}
 use Rattle.model_text.specs.Rules.{names_of, zone_item, port_item, rules_named, rule_sets_named, absent, of_rules, of_group_rules, sections_named, rules_in}
 use Rattle.model_text.specs.Trees.{port_rule_of}
@@ -29,7 +29,7 @@ use Rattle.model_rules.specs.declared.GroupRules.{GroupRules}
 use Rattle.model_rules.specs.declared.sets.ReadSets.{ReadSets}
 use Rattle.model_rules.specs.declared.group.ReadGroups.{ReadGroups}
 use Rattle.model_rules.specs.Sets.{Sets, sets_shown, sets_of}
-use Rattle.model_rules.specs.Parts.{IsPlaced, CanBeRead, group_section, rules_shown, names_in, number_in, numbered, AddsGroups}
+use Rattle.model_rules.specs.Parts.{IsPlaced, group_section, rules_shown, names_in, number_of_set, numbered, AddsGroups}
 use Rattle.model_rules.proofs.Distinct.{named-map, zones-are-numbered, ports-numbered}
 
 -- ---- one group
@@ -45,14 +45,14 @@ named_by s is named h e = e ∙ ap distinct (named-map is ∙ ap (map (λ (i : I
 -- what is refused of it
 pub refused_by : (ss : List Section) (s : Section) (names : Names) (is : List Item) (named : List Bytes) (a b c : Option Refusal)
     → names ≡ names_of s → is ≡ rules_named s → named ≡ rule_sets_named s
-    → a ≡ least (flat_map (absent ss) is) → b ≡ least (flat_map (of_rules names) (sections_named ss named)) → c ≡ merged a b
-    → c ≡ least (flat_map (of_group_rules ss) (s ∷ []))
+    → a ≡ least_refusal (flat_map (absent ss) is) → b ≡ least_refusal (flat_map (of_rules names) (sections_named ss named)) → c ≡ merged a b
+    → c ≡ least_refusal (flat_map (of_group_rules ss) (s ∷ []))
 refused_by ss s names is named a b c ns h ws ea eb ec =
     let off = flat_map (absent ss) (rules_named s) in
     let rules = flat_map (of_rules (names_of s)) (sections_named ss (rule_sets_named s)) in
-    let first : a ≡ least off = ea ∙ ap (λ us. least (flat_map (absent ss) us)) h in
-    let then : b ≡ least rules = eb ∙ ap (λ (n : Names). least (flat_map (of_rules n) (sections_named ss named))) ns ∙ ap (λ us. least (flat_map (of_rules (names_of s)) (sections_named ss us))) ws in
-    ec ∙ ap (λ o. merged o b) first ∙ ap (λ o. merged (least off) o) then ∙ sym (least_of_both off rules) ∙ ap least (sym (append-nil (off ++ rules)))
+    let first : a ≡ least_refusal off = ea ∙ ap (λ us. least_refusal (flat_map (absent ss) us)) h in
+    let then : b ≡ least_refusal rules = eb ∙ ap (λ (n : Names). least_refusal (flat_map (of_rules n) (sections_named ss named))) ns ∙ ap (λ us. least_refusal (flat_map (of_rules (names_of s)) (sections_named ss us))) ws in
+    ec ∙ ap (λ o. merged o b) first ∙ ap (λ o. merged (least_refusal off) o) then ∙ sym (least_of_both off rules) ∙ ap least_refusal (sym (append-nil (off ++ rules)))
 
 -- all that it names, one kind after another
 pub all_named : (g : PlacedGroup) (local zones with_zones all : List kept.Item) (ports : List PlacedRule) → IsPlaced g → map item_of local ≡ names_in g.section.now.entries.items
@@ -72,7 +72,7 @@ all_named g local zones with_zones all ports p l w z q e =
 pub sets_by : (ss : List Section) (g : PlacedGroup) (named : List Bytes) (read : ReadSets) (r : GroupRules) → IsPlaced g → named ≡ rule_sets_named (group_section g)
     → map rules_shown read.sets.items ≡ map (rules_in (syntax.names_of g.names)) (sections_named ss named)
     → r.rule_sets ≡ read.sets
-    → r.zone_rules.items ≡ map (λ (i : kept.Item). number_in named i.text.now) g.zone_rules.items
+    → r.zone_rules.items ≡ map (λ (i : kept.Item). number_of_set named i.text.now) g.zone_rules.items
     → r.port_rules.items ≡ map (numbered named) g.port_rules.items
     → sets_shown r ≡ sets_of ss (group_section g)
 sets_by ss g named read r p ws sets er ez ep =
@@ -99,19 +99,15 @@ sections_of (g ∷ gs) (s ∷ ss) e =
     ap (λ (x : Section). x ∷ map group_section gs) (ap (λ (x : Placed). x.section) (first_of g gs s ss e))
     ∙ ap (λ xs. s ∷ xs) (sections_of gs ss (others_of g gs s ss e))
 
-can_be : (g : PlacedGroup) (s : Section) → shown g ≡ placed_of s → syntax.AreFew (names_of s) → CanBeRead g
-can_be g s e few =
-    record {
-      placed = e ∙ ap placed_of (sym (ap (λ (x : Placed). x.section) e));
-      few = subst syntax.AreFew (sym (ap (λ (x : Placed). x.names) e)) few;
-    }
+placed_by : (g : PlacedGroup) (s : Section) → shown g ≡ placed_of s → IsPlaced g
+placed_by g s e = e ∙ ap placed_of (sym (ap (λ (x : Placed). x.section) e))
 
-pub can_be_read : (gs : List PlacedGroup) (ss : List Section) → map shown gs ≡ map placed_of ss → AllByRecursion (λ s. syntax.AreFew (names_of s)) ss → AllByRecursion CanBeRead gs
-can_be_read [] ss e h = tt
-can_be_read (g ∷ gs) [] e h = absurd cc
-can_be_read (g ∷ gs) (s ∷ ss) e h = (can_be g s (first_of g gs s ss e) h.0, can_be_read gs ss (others_of g gs s ss e) h.1)
+pub all_placed_by : (gs : List PlacedGroup) (ss : List Section) → map shown gs ≡ map placed_of ss → AllByRecursion IsPlaced gs
+all_placed_by [] ss e = tt
+all_placed_by (g ∷ gs) [] e = absurd cc
+all_placed_by (g ∷ gs) (s ∷ ss) e = (placed_by g s (first_of g gs s ss e), all_placed_by gs ss (others_of g gs s ss e))
 
-pub read_at : (gs : List PlacedGroup) (i : ℕ) (d : PlacedGroup) → AllByRecursion CanBeRead gs → i < length gs → CanBeRead (get_or gs i d)
-read_at [] i d h lt = absurd (omega arith)
-read_at (g ∷ gs) ℕ.zero d h lt = h.0
-read_at (g ∷ gs) (ℕ.suc i) d h lt = read_at gs i d h.1 (omega arith)
+pub placed_at : (gs : List PlacedGroup) (i : ℕ) (d : PlacedGroup) → AllByRecursion IsPlaced gs → i < length gs → IsPlaced (get_or gs i d)
+placed_at [] i d h lt = absurd (omega arith)
+placed_at (g ∷ gs) ℕ.zero d h lt = h.0
+placed_at (g ∷ gs) (ℕ.suc i) d h lt = placed_at gs i d h.1 (omega arith)

@@ -13,10 +13,9 @@ use Rattle.rule_tree.specs.declared.node.RuleTree.{RuleTree}
 use Rattle.rule_tree.specs.Expression.{Rule, rule_of}
 use Rattle.rule_tree.specs.Scope.{Names}
 use Rattle.rule_syntax.specs.RuleOf as text
-use Rattle.rule_syntax.specs.Shown as syntax
 use Rattle.ma_lines.specs.declared.section.Entry.{Entry}
 use Rattle.ma_lines.specs.Sections.{Section, section_of}
-use Rattle.model_text.specs.Keyed.{Item, least}
+use Rattle.model_text.specs.Keyed.{Item, least_refusal}
 use Rattle.model_text.specs.Rules.{name_at, rule_refused, of_rules, of_group_rules, rules_in}
 use Rattle.model_tree.specs.declared.group.PortRule.{PortRule}
 use Rattle.model_walk.specs.declared.refused.Refused.{Refused}
@@ -42,18 +41,14 @@ group_section g = section_of g.section.now
 abbrev pub rules_shown : Vec RuleTree Global → List Rule
 rules_shown rules = map rule_of rules.items
 
--- and its rules may use no more names than a group may have
-pub record CanBeRead (g : PlacedGroup) : Type 0 where
-  pub placed : IsPlaced g
-  pub few : syntax.AreFew (syntax.names_of g.names)
-
 -- the number of a name among names
-abbrev pub number_in : List Bytes → Bytes → ℕ
-number_in names name = unwrap_or (position (bytes_eq name) names) 0
+abbrev pub number_of_set : List Bytes → Bytes → ℕ
+number_of_set names name = unwrap_or (position (bytes_eq name) names) 0
 
 -- the rules of a port by the number of their set
 abbrev pub numbered : List Bytes → PlacedRule → PortRule
-numbered names p = record { port = p.port.now; cell = p.cell; rules = number_in names p.rules.now }
+numbered names p =
+    record { port = p.port.now; cell = p.cell; rules = number_of_set names p.rules.now }
 
 -- the refusal in a result, where there is one
 abbrev pub refusals : {A : Type 0} → Result A Refused → List Refused
@@ -66,7 +61,9 @@ rule_entries es = filter (λ (e : Entry). bytes_eq e.key (codes "rule")) es
 
 -- the names that entries of `localtransition` have as values
 abbrev pub names_in : List Entry → List Item
-names_in es = map (λ (e : Entry). name_at e e.value) (filter (λ (e : Entry). bytes_eq e.key (codes "localtransition")) es)
+names_in es =
+    map (λ (e : Entry). name_at e e.value)
+    (filter (λ (e : Entry). bytes_eq e.key (codes "localtransition")) es)
 
 -- the rule of an entry, where it is one
 abbrev pub rule_at : Names → Entry → Option Rule
@@ -74,15 +71,23 @@ rule_at names e = result_ok (text.rule_of names e.value)
 
 -- the rules of these entries stand behind the others, and what is refused of them is counted in
 pub record AddsRules (names : Names) (old new : ReadRules) (es : List Entry) : Type 0 where
-  pub refused : option_map refusal_of new.refused ≡ merged (option_map refusal_of old.refused) (least (flat_map (rule_refused names) (rule_entries es)))
-  pub rules : map rule_of new.rules.items ≡ map rule_of old.rules.items ++ filter_map (rule_at names) (rule_entries es)
+  pub refused : option_map refusal_of new.refused
+      ≡ merged (option_map refusal_of old.refused)
+      (least_refusal (flat_map (rule_refused names) (rule_entries es)))
+  pub rules : map rule_of new.rules.items
+      ≡ map rule_of old.rules.items ++ filter_map (rule_at names) (rule_entries es)
 
 -- the same for the rules of sections
 pub record AddsSets (names : Names) (old new : ReadSets) (ss : List Section) : Type 0 where
-  pub refused : option_map refusal_of new.refused ≡ merged (option_map refusal_of old.refused) (least (flat_map (of_rules names) ss))
-  pub sets : map rules_shown new.sets.items ≡ map rules_shown old.sets.items ++ map (rules_in names) ss
+  pub refused : option_map refusal_of new.refused
+      ≡ merged (option_map refusal_of old.refused)
+      (least_refusal (flat_map (of_rules names) ss))
+  pub sets : map rules_shown new.sets.items
+      ≡ map rules_shown old.sets.items ++ map (rules_in names) ss
 
 -- the same for groups
 pub record AddsGroups (ss : List Section) (old new : ReadGroups) (gs : List Section) : Type 0 where
-  pub refused : option_map refusal_of new.refused ≡ merged (option_map refusal_of old.refused) (least (flat_map (of_group_rules ss) gs))
+  pub refused : option_map refusal_of new.refused
+      ≡ merged (option_map refusal_of old.refused)
+      (least_refusal (flat_map (of_group_rules ss) gs))
   pub rules : map sets_shown new.rules.items ≡ map sets_shown old.rules.items ++ map (sets_of ss) gs

@@ -1,11 +1,9 @@
 // The rules of groups, one after another.
-ghost use Rattle.std.specs.Prelude.{◌≡◌, ◌∷◌, [], None, map, IfOk, OnOk};
+ghost use Rattle.std.specs.Prelude.{◌≡◌, ◌∷◌, [], map, IfOk, OnOk};
 ghost use Rattle.std.specs.List.{flat_map, AllByRecursion};
 ghost use Rattle.std.specs.Option.{option_map};
 ghost use Rattle.ma_lines.specs.Sections.{section_of};
 ghost use Rattle.model_text.specs.Keyed as K;
-ghost use Rattle.model_text.specs.Keys as Keys;
-ghost use Rattle.model_text.specs.Spaces as S;
 ghost use Rattle.model_text.specs.Walk as W;
 ghost use Rattle.model_text.specs.Rules as R;
 ghost use Rattle.model_walk.specs.Shown.{refusal_of};
@@ -20,14 +18,14 @@ use crate::numbers::{port_rules, zone_rules};
 use crate::sets::sets;
 use ma_lines::Sections;
 use model_spaces::PlacedGroup;
-use model_text::building::names_of_groups_are_few;
 use model_walk::Refused;
 use model_walk::least::least;
 use quantity::OutOfMemory;
 use rule_tree::RuleTree;
 use std::alloc::{AllocError, Global};
 
-/// The rules of groups, and the least refusal among them. Where there is one, the rules are not whole.
+/// The rules of groups, and the least refusal among them. Where there is one, the rules are not
+/// whole.
 #[derive(Drop)]
 pub(crate) struct ReadGroups {
     pub refused: Option<Refused>,
@@ -40,13 +38,12 @@ pub(crate) fn rules_of_groups(
     sections: &Sections,
     groups: &[PlacedGroup<'_>],
 ) -> Result<ReadGroups, OutOfMemory>
-    requires keys { Keys.keys_refused sections.now ≡ None }
-    requires spaces { S.spaces_refused sections.now ≡ None }
-    requires groups { map shown groups.now ≡ map placed_of (W.groups sections.now) }
-    ensures refused { IfOk result (λ read. option_map refusal_of read.refused ≡ R.rules_refused sections.now) }
-    ensures rules { IfOk result (λ read. map sets_shown read.rules.items ≡ map (sets_of sections.now) (W.groups sections.now)) }
+    requires { map shown groups.now ≡ map placed_of (W.groups sections.now) }
+    ensures refused { IfOk result (λ read. option_map refusal_of read.refused
+        ≡ R.rules_refused sections.now) }
+    ensures rules { IfOk result (λ read. map sets_shown read.rules.items
+        ≡ map (sets_of sections.now) (W.groups sections.now)) }
 {
-    names_of_groups_are_few();
     let read = all_rules(alloc, sections, groups)?;
     Ok(read)
 }
@@ -57,9 +54,11 @@ fn all_rules(
     sections: &Sections,
     groups: &[PlacedGroup<'_>],
 ) -> Result<ReadGroups, OutOfMemory>
-    requires { AllByRecursion spec.CanBeRead groups.now }
-    ensures refused { IfOk result (λ read. option_map refusal_of read.refused ≡ K.least (flat_map (R.of_group_rules sections.now) (map spec.group_section groups.now))) }
-    ensures rules { IfOk result (λ read. map sets_shown read.rules.items ≡ map (sets_of sections.now) (map spec.group_section groups.now)) }
+    requires { AllByRecursion spec.IsPlaced groups.now }
+    ensures refused { IfOk result (λ read. option_map refusal_of read.refused ≡ K.least_refusal
+        (flat_map (R.of_group_rules sections.now) (map spec.group_section groups.now))) }
+    ensures rules { IfOk result (λ read. map sets_shown read.rules.items
+        ≡ map (sets_of sections.now) (map spec.group_section groups.now)) }
 {
     let mut read = ReadGroups {
         refused: None,
@@ -78,8 +77,9 @@ fn add_group(
     group: &PlacedGroup<'_>,
     read: &mut ReadGroups,
 ) -> Result<(), OutOfMemory>
-    requires { spec.CanBeRead group.now }
-    ensures { OnOk result (spec.AddsGroups sections.now read.old read.new (section_of group.now.section.now ∷ [])) }
+    requires { spec.IsPlaced group.now }
+    ensures { OnOk result (spec.AddsGroups sections.now read.old read.new
+        (section_of group.now.section.now ∷ [])) }
 {
     let one = read_group(alloc, sections, group)?;
     read.refused = least(read.refused, one.refused);
@@ -100,9 +100,11 @@ fn read_group(
     sections: &Sections,
     group: &PlacedGroup<'_>,
 ) -> Result<ReadGroup, OutOfMemory>
-    requires { spec.CanBeRead group.now }
-    ensures refused { IfOk result (λ read. option_map refusal_of read.refused ≡ K.least (flat_map (R.of_group_rules sections.now) (section_of group.now.section.now ∷ []))) }
-    ensures rules { IfOk result (λ read. sets_shown read.rules ≡ sets_of sections.now (section_of group.now.section.now)) }
+    requires { spec.IsPlaced group.now }
+    ensures refused { IfOk result (λ read. option_map refusal_of read.refused ≡ K.least_refusal
+        (flat_map (R.of_group_rules sections.now) (section_of group.now.section.now ∷ []))) }
+    ensures rules { IfOk result (λ read. sets_shown read.rules
+        ≡ sets_of sections.now (section_of group.now.section.now)) }
 {
     let items = rules_named(alloc, group)?;
     let named = names_of(alloc, &items)?;
@@ -122,8 +124,10 @@ fn group_rules(
     rule_sets: Vec<Vec<RuleTree>>,
 ) -> Result<GroupRules, OutOfMemory>
     ensures sets { IfOk result (λ rules. rules.rule_sets ≡ rule_sets) }
-    ensures zones { IfOk result (λ rules. rules.zone_rules.items ≡ map (λ i. spec.number_in named.now i.text.now) group.now.zone_rules.items) }
-    ensures ports { IfOk result (λ rules. rules.port_rules.items ≡ map (spec.numbered named.now) group.now.port_rules.items) }
+    ensures zones { IfOk result (λ rules. rules.zone_rules.items
+        ≡ map (λ i. spec.number_of_set named.now i.text.now) group.now.zone_rules.items) }
+    ensures ports { IfOk result (λ rules. rules.port_rules.items
+        ≡ map (spec.numbered named.now) group.now.port_rules.items) }
 {
     let zone_rules = zone_rules(alloc, &group.zone_rules, named)?;
     let port_rules = port_rules(alloc, &group.port_rules, named)?;

@@ -1,11 +1,9 @@
-// The rules of groups. A rules section that several groups name is read once for each of them, since what a rule may
-// name is the group's.
+// The rules of groups. A rules section that several groups name is read once for each of them,
+// since what a rule may name is the group's.
 #![tactic(auto)]
 
 ghost use Rattle.std.specs.Prelude.{◌≡◌, None, Some, map, IfOk};
 ghost use Rattle.model_text.specs.Walk as W;
-ghost use Rattle.model_text.specs.Keys as K;
-ghost use Rattle.model_text.specs.Spaces as S;
 ghost use Rattle.model_text.specs.Rules as R;
 ghost use Rattle.model_walk.specs.Shown.{refusal_of};
 ghost use Rattle.model_spaces.specs.Placed.{shown, placed_of};
@@ -26,8 +24,8 @@ use model_walk::Stop;
 use rule_tree::RuleTree;
 use std::alloc::Global;
 
-/// The rule sets of a group, that of `localtransition` first, and the numbers of those that its zones and its ports
-/// name.
+/// The rule sets of a group, that of `localtransition` first, and the numbers of those that its
+/// zones and its ports name.
 #[derive(Drop)]
 pub struct GroupRules {
     pub rule_sets: Vec<Vec<RuleTree>>,
@@ -41,9 +39,7 @@ pub fn rules(
     sections: &Sections,
     groups: &[PlacedGroup<'_>],
 ) -> Result<Vec<GroupRules>, Stop>
-    requires keys { K.keys_refused sections.now ≡ None }
-    requires spaces { S.spaces_refused sections.now ≡ None }
-    requires groups { map shown groups.now ≡ map placed_of (W.groups sections.now) }
+    requires { map shown groups.now ≡ map placed_of (W.groups sections.now) }
     ensures right { IfOk result (λ rules. R.rules_refused sections.now ≡ None) }
     ensures rules { IfOk result
         (λ rules. map sets_shown rules.items ≡ map (sets_of sections.now) (W.groups sections.now)) }

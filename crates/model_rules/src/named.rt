@@ -19,13 +19,15 @@ use model_walk::{Item, Refused};
 use quantity::OutOfMemory;
 use std::alloc::{AllocError, Global};
 
-/// All that a group names: that of `localtransition` first, then those of its zones and of its ports.
+/// All that a group names: that of `localtransition` first, then those of its zones and of its
+/// ports.
 pub(crate) fn rules_named<'a>(
     alloc: Global,
     group: &PlacedGroup<'a>,
 ) -> Result<Vec<Item<'a>>, OutOfMemory>
     requires { IsPlaced group.now }
-    ensures { IfOk result (λ items. map item_of items.items ≡ R.rules_named (section_of group.now.section.now)) }
+    ensures { IfOk result (λ items. map item_of items.items
+        ≡ R.rules_named (section_of group.now.section.now)) }
 {
     let mut items = local_names(alloc, group.section)?;
     items
@@ -37,7 +39,8 @@ pub(crate) fn rules_named<'a>(
 
 /// The names of `localtransition`.
 fn local_names<'a>(alloc: Global, section: &'a Section) -> Result<Vec<Item<'a>>, OutOfMemory>
-    ensures { IfOk result (λ items. map item_of items.items ≡ names_in section.now.entries.items) }
+    ensures { IfOk result (λ items. map item_of items.items
+        ≡ names_in section.now.entries.items) }
 {
     let mut items = Vec::new(alloc);
     for entry in &section.entries {
@@ -47,7 +50,8 @@ fn local_names<'a>(alloc: Global, section: &'a Section) -> Result<Vec<Item<'a>>,
 }
 
 fn add_local<'a>(entry: &'a Entry, items: &mut Vec<Item<'a>>) -> Result<(), OutOfMemory>
-    ensures { OnOk result (map item_of items.new.items ≡ map item_of items.old.items ++ names_in (entry.now ∷ [])) }
+    ensures { OnOk result (map item_of items.new.items
+        ≡ map item_of items.old.items ++ names_in (entry.now ∷ [])) }
 {
     if !is_local(entry) {
         return Ok(());
@@ -69,7 +73,8 @@ fn is_local(entry: &Entry) -> bool
 
 /// Adds the names of the rules of ports.
 fn add_ports<'a>(rules: &[PlacedRule<'a>], items: &mut Vec<Item<'a>>) -> Result<(), OutOfMemory>
-    ensures { OnOk result (map item_of items.new.items ≡ map item_of items.old.items ++ map rule_shown rules.now) }
+    ensures { OnOk result (map item_of items.new.items
+        ≡ map item_of items.old.items ++ map rule_shown rules.now) }
 {
     for rule in rules {
         add_port(rule, items)?;
@@ -78,7 +83,8 @@ fn add_ports<'a>(rules: &[PlacedRule<'a>], items: &mut Vec<Item<'a>>) -> Result<
 }
 
 fn add_port<'a>(rule: &PlacedRule<'a>, items: &mut Vec<Item<'a>>) -> Result<(), OutOfMemory>
-    ensures { OnOk result (map item_of items.new.items ≡ map item_of items.old.items ++ rule_shown rule.now ∷ []) }
+    ensures { OnOk result (map item_of items.new.items
+        ≡ map item_of items.old.items ++ rule_shown rule.now ∷ []) }
 {
     items
         .push(Item {
@@ -91,7 +97,8 @@ fn add_port<'a>(rule: &PlacedRule<'a>, items: &mut Vec<Item<'a>>) -> Result<(), 
 
 /// The least refusal of names that no section has.
 pub(crate) fn absent(sections: &Sections, items: &[Item<'_>]) -> Option<Refused>
-    ensures { option_map refusal_of result ≡ K.least (flat_map (R.absent sections.now) (map item_of items.now)) }
+    ensures { option_map refusal_of result ≡ K.least_refusal
+        (flat_map (R.absent sections.now) (map item_of items.now)) }
 {
     let mut first = None;
     for item in items {
@@ -101,7 +108,8 @@ pub(crate) fn absent(sections: &Sections, items: &[Item<'_>]) -> Option<Refused>
 }
 
 fn absent_item(sections: &Sections, item: &Item<'_>) -> Option<Refused>
-    ensures { option_map refusal_of result ≡ K.least (R.absent sections.now (item_of item.now)) }
+    ensures { option_map refusal_of result
+        ≡ K.least_refusal (R.absent sections.now (item_of item.now)) }
 {
     match section_named(sections, item.text) {
         Some(_section) => None,

@@ -15,7 +15,8 @@ pub(crate) fn zone_rules(
     items: &[Item<'_>],
     names: &RuleNames<'_>,
 ) -> Result<Vec<usize>, OutOfMemory>
-    ensures { IfOk result (λ numbers. numbers.items ≡ map (λ i. spec.number_in names.now i.text.now) items.now) }
+    ensures { IfOk result (λ numbers. numbers.items
+        ≡ map (λ i. spec.number_of_set names.now i.text.now) items.now) }
 {
     let mut numbers = Vec::new(alloc);
     for item in items {

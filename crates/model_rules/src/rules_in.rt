@@ -5,7 +5,7 @@ ghost use Rattle.std.specs.Option.{option_map};
 ghost use Rattle.std.specs.Result.{result_ok};
 ghost use Rattle.std.specs.Str.{bytes_eq};
 ghost use Rattle.rule_tree.specs.Expression as E;
-ghost use Rattle.rule_syntax.specs.Shown.{AreFew, names_of};
+ghost use Rattle.rule_syntax.specs.Shown.{names_of};
 ghost use Rattle.ma_lines.specs.Sections.{section_of};
 ghost use Rattle.model_text.specs.Keyed as K;
 ghost use Rattle.model_text.specs.Refusals.{kind_of_rule};
@@ -35,9 +35,10 @@ pub(crate) fn rules_in(
     section: &Section,
     names: &Names,
 ) -> Result<ReadRules, OutOfMemory>
-    requires { AreFew (names_of names.now) }
-    ensures refused { IfOk result (λ read. option_map refusal_of read.refused ≡ K.least (R.of_rules (names_of names.now) (section_of section.now))) }
-    ensures rules { IfOk result (λ read. map E.rule_of read.rules.items ≡ R.rules_in (names_of names.now) (section_of section.now)) }
+    ensures refused { IfOk result (λ read. option_map refusal_of read.refused ≡ K.least_refusal
+        (R.of_rules (names_of names.now) (section_of section.now))) }
+    ensures rules { IfOk result (λ read. map E.rule_of read.rules.items
+        ≡ R.rules_in (names_of names.now) (section_of section.now)) }
 {
     let read = all_rules(alloc, section, names)?;
     Ok(ReadRules {
@@ -48,9 +49,11 @@ pub(crate) fn rules_in(
 
 /// The rules of a section, however many there are.
 fn all_rules(alloc: Global, section: &Section, names: &Names) -> Result<ReadRules, OutOfMemory>
-    requires { AreFew (names_of names.now) }
-    ensures refused { IfOk result (λ read. option_map refusal_of read.refused ≡ K.least (flat_map (R.rule_refused (names_of names.now)) (spec.rule_entries section.now.entries.items))) }
-    ensures rules { IfOk result (λ read. map E.rule_of read.rules.items ≡ filter_map (spec.rule_at (names_of names.now)) (spec.rule_entries section.now.entries.items)) }
+    ensures refused { IfOk result (λ read. option_map refusal_of read.refused ≡ K.least_refusal
+        (flat_map (R.rule_refused (names_of names.now))
+        (spec.rule_entries section.now.entries.items))) }
+    ensures rules { IfOk result (λ read. map E.rule_of read.rules.items ≡ filter_map
+        (spec.rule_at (names_of names.now)) (spec.rule_entries section.now.entries.items)) }
 {
     let mut read = ReadRules {
         refused: None,
@@ -69,7 +72,6 @@ fn add_entry(
     names: &Names,
     read: &mut ReadRules,
 ) -> Result<(), OutOfMemory>
-    requires { AreFew (names_of names.now) }
     ensures { OnOk result (spec.AddsRules (names_of names.now) read.old read.new (entry.now ∷ [])) }
 {
     if !is_rule(entry) {
@@ -94,9 +96,10 @@ fn read_rule(
     entry: &Entry,
     names: &Names,
 ) -> Result<Result<RuleTree, Refused>, OutOfMemory>
-    requires { AreFew (names_of names.now) }
-    ensures rule { IfOk result (λ read. option_map E.rule_of (result_ok read) ≡ spec.rule_at (names_of names.now) entry.now) }
-    ensures refused { IfOk result (λ read. map refusal_of (spec.refusals read) ≡ R.rule_refused (names_of names.now) entry.now) }
+    ensures rule { IfOk result (λ read. option_map E.rule_of (result_ok read)
+        ≡ spec.rule_at (names_of names.now) entry.now) }
+    ensures refused { IfOk result (λ read. map refusal_of (spec.refusals read)
+        ≡ R.rule_refused (names_of names.now) entry.now) }
 {
     match Rule::read(alloc, entry.value.as_bytes(), names) {
         Ok(rule) => Ok(Ok(rule)),
@@ -129,7 +132,8 @@ const MOST_RULES: usize = 1024;
 
 /// The refusal of the 1025th rule, where there is one.
 fn too_many(section: &Section) -> Option<Refused>
-    ensures { option_map refusal_of result ≡ K.least (R.too_many (K.entries_of (codes "rule") (section_of section.now))) }
+    ensures { option_map refusal_of result ≡ K.least_refusal
+        (R.too_many (K.entries_of (codes "rule") (section_of section.now))) }
 {
     let mut left = MOST_RULES;
     for entry in &section.entries {

@@ -2,7 +2,7 @@
 ghost use Rattle.std.specs.Prelude.{◌≡◌, map, option_to_list, IfOk, OnOk};
 ghost use Rattle.std.specs.List.{flat_map};
 ghost use Rattle.std.specs.Option.{option_map};
-ghost use Rattle.rule_syntax.specs.Shown.{AreFew, names_of};
+ghost use Rattle.rule_syntax.specs.Shown.{names_of};
 ghost use Rattle.model_text.specs.Keyed as K;
 ghost use Rattle.model_text.specs.Rules as R;
 ghost use Rattle.model_walk.specs.Shown.{refusal_of};
@@ -32,9 +32,12 @@ pub(crate) fn sets(
     named: &[&[u8]],
     names: &Names,
 ) -> Result<ReadSets, OutOfMemory>
-    requires { AreFew (names_of names.now) }
-    ensures refused { IfOk result (λ read. option_map refusal_of read.refused ≡ K.least (flat_map (R.of_rules (names_of names.now)) (R.sections_named sections.now (map (λ r. r.now) named.now)))) }
-    ensures sets { IfOk result (λ read. map spec.rules_shown read.sets.items ≡ map (R.rules_in (names_of names.now)) (R.sections_named sections.now (map (λ r. r.now) named.now))) }
+    ensures refused { IfOk result (λ read. option_map refusal_of read.refused ≡ K.least_refusal
+        (flat_map (R.of_rules (names_of names.now))
+        (R.sections_named sections.now (map (λ r. r.now) named.now)))) }
+    ensures sets { IfOk result (λ read. map spec.rules_shown read.sets.items
+        ≡ map (R.rules_in (names_of names.now))
+        (R.sections_named sections.now (map (λ r. r.now) named.now))) }
 {
     let mut read = ReadSets {
         refused: None,
@@ -54,8 +57,8 @@ fn add_set(
     names: &Names,
     read: &mut ReadSets,
 ) -> Result<(), OutOfMemory>
-    requires { AreFew (names_of names.now) }
-    ensures { OnOk result (spec.AddsSets (names_of names.now) read.old read.new (option_to_list (K.section_named sections.now name.now))) }
+    ensures { OnOk result (spec.AddsSets (names_of names.now) read.old read.new
+        (option_to_list (K.section_named sections.now name.now))) }
 {
     let Some(section) = section_named(sections, name) else {
         return Ok(());

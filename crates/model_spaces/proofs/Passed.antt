@@ -10,17 +10,19 @@ use Rattle.cell_grid.specs.Space.{dims_of}
 use Rattle.quantity.specs.Bytes.{Bytes}
 use Rattle.quantity.specs.declared.place.Offset.{Offset}
 use Rattle.rule_tree.specs.Scope.{Names}
+use Rattle.rule_syntax.specs.Few.{AreFew}
 use Rattle.model_text.specs.Rules.{names_of}
 use Rattle.model_text.specs.Walk.{groups}
 use Rattle.ma_lines.specs.Sections.{Section}
 use Rattle.model_text.specs.declared.kind.Kind.TheVariants.{BadValue, BadZone, BadInitial, TooLarge}
 use Rattle.model_text.specs.Refusals.{Refusal, refusal}
-use Rattle.model_text.specs.Keyed.{least, entries_of, texts_of, at_entry, each_entry}
+use Rattle.model_text.specs.Keyed.{least_refusal, entries_of, texts_of, at_entry, each_entry}
+use Rattle.model_text.specs.BuildLaws.{HasFewNames}
 use Rattle.model_text.specs.GroupLaws.{RightSizes}
-use Rattle.model_text.specs.Spaces.{space_of, places_of, offsets_of, ports_refused, row_in, too_many_offsets, of_space}
+use Rattle.model_text.specs.Spaces.{space_of, places_of, offsets_of, ports_refused, row_in, too_many_offsets, of_space, spaces_refused}
 use Rattle.model_spaces.specs.Right.{CanBeHeld, IsRight}
 
-none_least : (xs : List Refusal) → least xs ≡ None → xs ≡ []
+none_least : (xs : List Refusal) → least_refusal xs ≡ None → xs ≡ []
 none_least [] e = refl
 none_least (x ∷ xs) e = absurd cc
 
@@ -37,7 +39,7 @@ parts_empty a b c d e f h =
     let t = both_empty (a ++ b) c r.0 in
     ((both_empty a b t.0).1, p.1)
 
-of_parts : (s : Section) → least (of_space s) ≡ None → (ports_refused s [] (entries_of (codes "portintransition") s) ≡ []) × (too_many_offsets s ≡ [])
+of_parts : (s : Section) → least_refusal (of_space s) ≡ None → (ports_refused s [] (entries_of (codes "portintransition") s) ≡ []) × (too_many_offsets s ≡ [])
 of_parts s h =
     parts_empty (each_entry (codes "neighbors") s (λ e. at_entry e BadValue (list_all (is_offset (space_of s)) (places_of s e))))
     (ports_refused s [] (entries_of (codes "portintransition") s))
@@ -46,7 +48,7 @@ of_parts s h =
     (each_entry (codes "initialrow") s (λ e. at_entry e BadInitial (is_some (row_in s e))))
     (too_many_offsets s) (none_least (of_space s) h)
 
-pub ports_pass : (s : Section) → least (of_space s) ≡ None → ports_refused s [] (entries_of (codes "portintransition") s) ≡ []
+pub ports_pass : (s : Section) → least_refusal (of_space s) ≡ None → ports_refused s [] (entries_of (codes "portintransition") s) ≡ []
 ports_pass s h = (of_parts s h).0
 
 unless : (b : Bool) (r : Refusal) → cond b (r ∷ []) [] ≡ [] → b ≡ false
@@ -56,28 +58,43 @@ unless false r e = refl
 few_enough : (n : ℕ) → nat_lt 128 n ≡ false → n ≤ 129
 few_enough n e = grind (arith, nat_tests)
 
-pub offsets_pass : (s : Section) → least (of_space s) ≡ None → take 129 (offsets_of s) ≡ offsets_of s
+pub offsets_pass : (s : Section) → least_refusal (of_space s) ≡ None → take 129 (offsets_of s) ≡ offsets_of s
 offsets_pass s h =
     let few = few_enough (length (offsets_of s)) (unless (nat_lt 128 (length (offsets_of s))) (refusal s.line TooLarge) (of_parts s h).1) in
     take_all 129 (offsets_of s) few
 
 -- ---- all groups
 
-empty_least : (xs : List Refusal) → xs ≡ [] → least xs ≡ None
-empty_least xs e = ap least e
+empty_least : (xs : List Refusal) → xs ≡ [] → least_refusal xs ≡ None
+empty_least xs e = ap least_refusal e
 
-right-each : (gs : List Section) → AllByRecursion CanBeHeld gs → AllByRecursion RightSizes gs → flat_map of_space gs ≡ [] → AllByRecursion IsRight gs
-right-each [] a b h = tt
-right-each (g ∷ gs) a b h =
-    let p = both_empty (of_space g) (flat_map of_space gs) h in
-    (record { held = a.0; delay = b.0.delay; passes = empty_least (of_space g) p.0 }, right-each gs a.1 b.1 p.1)
+-- what is known of each group that has all its cells
+pub record AreJudged (gs : List Section) : Type 0 where
+  pub held : AllByRecursion CanBeHeld gs
+  pub sizes : AllByRecursion RightSizes gs
+  pub few : AllByRecursion HasFewNames gs
 
-pub all_right : (gs : List Section) → AllByRecursion CanBeHeld gs → AllByRecursion RightSizes gs → least (flat_map of_space gs) ≡ None → AllByRecursion IsRight gs
-all_right gs a b h = right-each gs a b (none_least (flat_map of_space gs) h)
+each_right : (gs : List Section) → AreJudged gs → flat_map of_space gs ≡ [] → AllByRecursion IsRight gs
+each_right [] j h = tt
+each_right (g ∷ gs) j h =
+    let p = both_empty (of_space g) (flat_map of_space gs) h in (
+      record { held = j.held.0; delay = j.sizes.0.delay; passes = empty_least (of_space g) p.0; few = j.few.0 },
+      each_right gs (record { held = j.held.1; sizes = j.sizes.1; few = j.few.1 }) p.1,
+    )
 
 pub names_by : (s : Section) (o : List Offset) (d : ℕ) (v p : List Bytes) → o ≡ offsets_of s → d ≡ dims_of (space_of s) → v ≡ texts_of (codes "statevariables") s → p ≡ texts_of (codes "neighborports") s
     → (let n : Names = record { offsets = o; dims = d; variables = v; ports = p } in n) ≡ names_of s
 names_by s o d v p eo ed ev ep = λ i. record { offsets = eo i; dims = ed i; variables = ev i; ports = ep i }
 
-pub groups_right : (ss gs : List Section) (first : Option Refusal) → gs ≡ groups ss → AllByRecursion CanBeHeld (groups ss) → AllByRecursion RightSizes (groups ss) → first ≡ None → first ≡ least (flat_map of_space gs) → AllByRecursion IsRight gs
-groups_right ss gs first e a b n h = all_right gs (subst (AllByRecursion CanBeHeld) (sym e) a) (subst (AllByRecursion RightSizes) (sym e) b) (sym h ∙ n)
+-- names that are those of a section with few names are few
+pub few_by : (s : Section) (o : List Offset) (v p : List Bytes) → HasFewNames s → o ≡ offsets_of s → v ≡ texts_of (codes "statevariables") s → p ≡ texts_of (codes "neighborports") s → AreFew o v p
+few_by s o v p few eo ev ep =
+    record {
+      offsets = subst (λ (xs : List Offset). length xs ≤ 128) (sym eo) few.offsets;
+      variables = subst (λ (xs : List Bytes). length xs ≤ 8) (sym ev) few.variables;
+      ports = subst (λ (xs : List Bytes). length xs ≤ 3) (sym ep) few.ports;
+    }
+
+pub groups_right : (ss gs : List Section) → gs ≡ groups ss → AreJudged (groups ss) → spaces_refused ss ≡ None → AllByRecursion IsRight gs
+groups_right ss gs e judged passes =
+    subst (AllByRecursion IsRight) (sym e) (each_right (groups ss) judged (none_least (flat_map of_space (groups ss)) passes))

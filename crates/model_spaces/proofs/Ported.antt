@@ -13,7 +13,7 @@ use Rattle.ma_lines.specs.declared.section.Entry.{Entry}
 use Rattle.ma_lines.specs.Sections.{Section}
 use Rattle.model_text.specs.declared.kind.Kind.TheVariants.{BadValue}
 use Rattle.model_text.specs.Refusals.{Refusal, refusal}
-use Rattle.model_text.specs.Keyed.{least, at_entry}
+use Rattle.model_text.specs.Keyed.{least_refusal, at_entry}
 use Rattle.model_text.specs.Rules.{name_at, port_item}
 use Rattle.model_text.specs.Spaces.{PortPlace, port_place, same_cell, same_place, is_new_place, ports_refused}
 use Rattle.model_walk.specs.Least.{merged}
@@ -161,14 +161,14 @@ entry-first s e es seen = by (bytes_eq e.key (codes "portintransition"))
     by false = refl
 
 pub ports_step : (s : Section) (es : List Entry) (i : ℕ) (d : Entry) (first now : Option Refusal) (seen new : List PortPlace) (all : Option Refusal) → i < length es
-    → now ≡ least (flat_map (refused_after s seen) (port_entries (get_or es i d ∷ [])))
+    → now ≡ least_refusal (flat_map (refused_after s seen) (port_entries (get_or es i d ∷ [])))
     → new ≡ seen_after s seen (get_or es i d ∷ [])
-    → merged first (least (ports_refused s seen (port_entries (drop i es)))) ≡ all
-    → merged (merged first now) (least (ports_refused s new (port_entries (drop (i + 1) es)))) ≡ all
+    → merged first (least_refusal (ports_refused s seen (port_entries (drop i es)))) ≡ all
+    → merged (merged first now) (least_refusal (ports_refused s new (port_entries (drop (i + 1) es)))) ≡ all
 ports_step s es i d first now seen new all lt e f h =
-    ap (λ ps. merged (merged first now) (least (ports_refused s ps (port_entries (drop (i + 1) es))))) f
+    ap (λ ps. merged (merged first now) (least_refusal (ports_refused s ps (port_entries (drop (i + 1) es))))) f
     ∙ least_step first now (flat_map (refused_after s seen) (port_entries (get_or es i d ∷ []))) (ports_refused s (seen_after s seen (get_or es i d ∷ [])) (port_entries (drop (i + 1) es))) all e
-    (ap (λ rs. merged first (least rs)) (sym (ap (λ us. ports_refused s seen (port_entries us)) (drop_at es i d lt) ∙ entry-first s (get_or es i d) (drop (i + 1) es) seen)) ∙ h)
+    (ap (λ rs. merged first (least_refusal rs)) (sym (ap (λ us. ports_refused s seen (port_entries us)) (drop_at es i d lt) ∙ entry-first s (get_or es i d) (drop (i + 1) es) seen)) ∙ h)
 
 -- ---- the ports of entries of which none is refused
 

@@ -9,9 +9,10 @@ use ma_lines::Section;
 use model_groups::sizes::cells;
 use model_text::Kind;
 use model_walk::Refused;
+use quantity::MAX_CELLS;
 
 /// The most cells of all groups.
-const MOST_CELLS: u128 = 1048576;
+const MOST_CELLS: u128 = MAX_CELLS as u128;
 
 /// The first group with which all cells are too many.
 pub(crate) fn first_large(groups: &[&Section]) -> Option<Refused>

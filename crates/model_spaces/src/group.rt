@@ -26,7 +26,7 @@ pub(crate) fn space_refused(
 ) -> Result<Option<Refused>, OutOfMemory>
     requires { grid.now ≡ S.space_of (section_of section.now) }
     ensures { IfOk result (λ why. option_map refusal_of why
-        ≡ K.least (S.of_space (section_of section.now))) }
+        ≡ K.least_refusal (S.of_space (section_of section.now))) }
 {
     let neighbors = entries_refused(alloc, section, grid, Tested::Neighbors)?;
     let ports = ports_refused(alloc, section, grid)?;
@@ -60,7 +60,7 @@ fn too_many_offsets(
 ) -> Result<Option<Refused>, OutOfMemory>
     requires { grid.now ≡ S.space_of (section_of section.now) }
     ensures { IfOk result (λ why. option_map refusal_of why
-        ≡ K.least (S.too_many_offsets (section_of section.now))) }
+        ≡ K.least_refusal (S.too_many_offsets (section_of section.now))) }
 {
     let offsets = offsets(alloc, section, grid)?;
     if offsets.len() <= MOST_OFFSETS {

@@ -55,7 +55,7 @@ pub(crate) fn all_refused(
 ) -> Result<Option<Refused>, OutOfMemory>
     requires { AllByRecursion CanBeHeld (map (λ r. section_of r.now) groups.now) }
     ensures { IfOk result (λ why. option_map refusal_of why
-        ≡ K.least (flat_map S.of_space (map (λ r. section_of r.now) groups.now))) }
+        ≡ K.least_refusal (flat_map S.of_space (map (λ r. section_of r.now) groups.now))) }
 {
     let mut first = None;
     for section in groups {
@@ -67,7 +67,7 @@ pub(crate) fn all_refused(
 fn group_refused(alloc: Global, section: &Section) -> Result<Option<Refused>, OutOfMemory>
     requires { CanBeHeld (section_of section.now) }
     ensures { IfOk result (λ why. option_map refusal_of why
-        ≡ K.least (S.of_space (section_of section.now))) }
+        ≡ K.least_refusal (S.of_space (section_of section.now))) }
 {
     space_refused(alloc, section, &space(section))
 }

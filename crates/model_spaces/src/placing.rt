@@ -1,9 +1,8 @@
 // What the section of a group says, read.
-ghost use Rattle.std.specs.Prelude.{◌≡◌, None, map, IfOk};
+ghost use Rattle.std.specs.Prelude.{◌≡◌, map, IfOk};
 ghost use Rattle.std.specs.List.{AllByRecursion};
 ghost use Rattle.ma_lines.specs.Sections.{section_of};
 ghost use Rattle.rule_syntax.specs.Shown as syntax;
-ghost use Rattle.model_text.specs.Keyed as K;
 ghost use Rattle.model_text.specs.Rules as R;
 ghost use Rattle.model_text.specs.Spaces as S;
 ghost use Rattle.model_spaces.specs.Placed.{shown, placed_of};
@@ -68,10 +67,10 @@ fn placed<'a>(alloc: Global, section: &'a Section) -> Result<PlacedGroup<'a>, Ou
     })
 }
 
-/// The names that the rules of a group may use.
+/// The names that the rules of a group may use, which are few enough.
 fn group_names(alloc: Global, section: &Section, grid: &Grid) -> Result<Names, OutOfMemory>
+    requires right { IsRight (section_of section.now) }
     requires space { grid.now ≡ S.space_of (section_of section.now) }
-    requires passes { K.least (S.of_space (section_of section.now)) ≡ None }
     ensures { IfOk result (λ names. syntax.names_of names ≡ R.names_of (section_of section.now)) }
 {
     let offsets = offsets(alloc, section, grid)?;

@@ -31,7 +31,7 @@ pub(crate) fn ports_refused(
 ) -> Result<Option<Refused>, OutOfMemory>
     requires { grid.now ≡ S.space_of (section_of section.now) }
     ensures { IfOk result (λ why. option_map refusal_of why
-        ≡ K.least (S.ports_refused (section_of section.now) []
+        ≡ K.least_refusal (S.ports_refused (section_of section.now) []
         (K.entries_of (codes "portintransition") (section_of section.now)))) }
 {
     let mut seen = CellPorts::new(alloc);
@@ -50,7 +50,7 @@ fn entry_refused<'a>(
 ) -> Result<Option<Refused>, OutOfMemory>
     requires { grid.now ≡ S.space_of (section_of section.now) }
     ensures refused { IfOk result (λ why. option_map refusal_of why
-        ≡ K.least (flat_map (spec.refused_after (section_of section.now) seen.old)
+        ≡ K.least_refusal (flat_map (spec.refused_after (section_of section.now) seen.old)
         (spec.port_entries (entry.now ∷ [])))) }
     ensures seen { OnOk result (seen.new
         ≡ spec.seen_after (section_of section.now) seen.old (entry.now ∷ [])) }

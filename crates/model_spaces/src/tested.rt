@@ -64,7 +64,8 @@ pub(crate) fn entries_refused(
 ) -> Result<Option<Refused>, OutOfMemory>
     requires { grid.now ≡ S.space_of (section_of section.now) }
     ensures { IfOk result (λ why. option_map refusal_of why
-        ≡ K.least (spec.refused_among tested (section_of section.now) section.now.entries.items)) }
+        ≡ K.least_refusal (spec.refused_among tested
+        (section_of section.now) section.now.entries.items)) }
 {
     let mut first = None;
     for entry in &section.entries {
@@ -82,7 +83,7 @@ fn entry_refused(
 ) -> Result<Option<Refused>, OutOfMemory>
     requires { grid.now ≡ S.space_of (section_of section.now) }
     ensures { IfOk result (λ why. option_map refusal_of why
-        ≡ K.least (spec.refused_among tested (section_of section.now) (entry.now ∷ []))) }
+        ≡ K.least_refusal (spec.refused_among tested (section_of section.now) (entry.now ∷ []))) }
 {
     if !has_key(entry, key(tested)) {
         return Ok(None);

@@ -22,7 +22,7 @@ use Rattle.model_text.specs.declared.kind.Kind.{Kind}
 use Rattle.model_text.specs.declared.kind.Kind.TheVariants as Off
 use Rattle.model_text.specs.Refusals.{Refusal, refusal}
 use Rattle.model_text.specs.Keyed.{Item}
-use Rattle.model_text.specs.Walk.{name_of}
+use Rattle.model_text.specs.Walk.{item_name}
 use Rattle.model_text.specs.Stock.{class_of_item, params_of, params_refused}
 use Rattle.model_walk.specs.declared.refused.Refused.{Refused}
 use Rattle.model_walk.specs.Shown.{refusal_of}
@@ -128,7 +128,7 @@ stocked b t = record { box = b; taken = t }
 
 pub adds : (ss : List Section) (i : Item) (c : Class) (at : BoxNo) (old mid new : List Stocked) (front all : List Atomic)
     → class_of_item i ≡ Some c → TakesFirst c old mid (Ok at) → ChangesBox (Settles (params_of ss i)) at.0 mid new
-    → all ≡ front ++ record { name = name_of i; class = c; at = at } ∷ [] → Adds ss i old new front all
+    → all ≡ front ++ record { name = item_name i; class = c; at = at } ∷ [] → Adds ss i old new front all
 adds ss i c at old mid new front all known t s added =
     let k = took c old mid at t in
     let box = k.before.box in

@@ -18,7 +18,7 @@ use Rattle.model_tree.specs.declared.group.Atomic.{Atomic}
 use Rattle.model_text.specs.declared.kind.Kind.TheVariants.{BadParameter}
 use Rattle.model_text.specs.Refusals.{Refusal, refusal}
 use Rattle.model_text.specs.Keyed.{Item}
-use Rattle.model_text.specs.Walk.{name_of, is_atomic, atomics, items_in, walk}
+use Rattle.model_text.specs.Walk.{item_name, is_atomic, atomics, items_in, walk}
 use Rattle.model_text.specs.Stock.{class_of_item, params_of, params_refused, boxes_of, box_refused, component_refused, first_component_refused, stock_refused}
 use Rattle.model_walk.specs.declared.item.Item as kept
 use Rattle.model_walk.specs.declared.walked.Walked.{Walked}
@@ -140,7 +140,7 @@ pub stands-more : (ss : List Section) (classes : List Class) (old new : List Sto
 stands-more ss classes old new front all done i h a =
     let parts = both (is_of a.class a.before) a.before.taken a.free in
     let y = started_box ss i a.class in
-    let made : Atomic = record { name = name_of i; class = a.class; at = a.at } in
+    let made : Atomic = record { name = item_name i; class = a.class; at = a.at } in
     let old_kind : a.before.box.kind ≡ a.class = same_class-is a.before.box.kind a.class parts.0 in
     let stays = boxes-stay ss done front old new a.at.0 a.before y a.stood parts.1 a.settled h.named h.boxes in
     let last : slice_get new a.at.0 ≡ settled ss i = ap (λ ys. slice_get ys a.at.0) a.settled ∙ get-set old a.at.0 a.before y a.stood ∙ sym (ap (option_map (started_box ss i)) a.known) in
@@ -149,7 +149,7 @@ stands-more ss classes old new front all done i h a =
     in
     record {
       kinds = ap classes_of a.settled ∙ map-set_same (λ (s : Stocked). s.box.kind) old a.at.0 a.before y (sym (get_or_from_slice_get old a.at.0 a.before a.before a.stood)) (sym old_kind) ∙ h.kinds;
-      named = ap (map named) a.added ∙ map-append named front (made ∷ []) ∙ ap (λ xs. xs ++ named made ∷ []) h.named ∙ ap (λ (o : Option Class). map named_item done ++ (name_of i, o) ∷ []) (sym a.known) ∙ sym (map-append named_item done (i ∷ []));
+      named = ap (map named) a.added ∙ map-append named front (made ∷ []) ∙ ap (λ xs. xs ++ named made ∷ []) h.named ∙ ap (λ (o : Option Class). map named_item done ++ (item_name i, o) ∷ []) (sym a.known) ∙ sym (map-append named_item done (i ∷ []));
       boxes = ap (map (λ (z : Atomic). slice_get new z.at.0)) a.added ∙ map-append (λ (z : Atomic). slice_get new z.at.0) front (made ∷ [])
           ∙ ap (λ xs. xs ++ slice_get new a.at.0 ∷ []) stays.0 ∙ ap (λ o. map (settled ss) done ++ o ∷ []) last ∙ sym (map-append (settled ss) done (i ∷ []));
       apart = ap are_apart (ap (map (λ (z : Atomic). z.at.0)) a.added ∙ map-append (λ (z : Atomic). z.at.0) front (made ∷ [])) ∙ apart-more (map (λ (z : Atomic). z.at.0) front) a.at.0 h.apart stays.1;

@@ -10,7 +10,7 @@ use Rattle.atomic_face.specs.StockView.{Stocked}
 use Rattle.quantity.specs.Bytes.{Bytes}
 use Rattle.model_tree.specs.declared.group.Atomic.{Atomic}
 use Rattle.model_text.specs.Keyed.{Item}
-use Rattle.model_text.specs.Walk.{name_of}
+use Rattle.model_text.specs.Walk.{item_name}
 use Rattle.model_text.specs.Stock.{class_of_item, params_of}
 
 -- the classes of the boxes of a stock
@@ -23,11 +23,12 @@ named a = (a.name, Some a.class)
 
 -- an item's name, and its class where there is one
 abbrev pub named_item : Item → Bytes × Option Class
-named_item i = (name_of i, class_of_item i)
+named_item i = (item_name i, class_of_item i)
 
 -- a taken box of a class, at the start that the item's parameters give
 abbrev pub started_box : List Section → Item → Class → Stocked
-started_box ss i class = record { box = started class (settings_of class (params_of ss i)); taken = true }
+started_box ss i class =
+    record { box = started class (settings_of class (params_of ss i)); taken = true }
 
 -- the box of an item that has a class
 abbrev pub settled : List Section → Item → Option Stocked

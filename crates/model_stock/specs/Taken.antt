@@ -19,7 +19,7 @@ use Rattle.model_text.specs.declared.kind.Kind.{Kind}
 use Rattle.model_text.specs.declared.kind.Kind.TheVariants.{UnknownClass, OutOfStock, BadParameter}
 use Rattle.model_text.specs.Refusals.{Refusal, refusal}
 use Rattle.model_text.specs.Keyed.{Item}
-use Rattle.model_text.specs.Walk.{name_of}
+use Rattle.model_text.specs.Walk.{item_name}
 use Rattle.model_text.specs.Stock.{class_of_item, params_of, params_refused, boxes_of, first_component_refused}
 use Rattle.model_walk.specs.declared.refused.Refused.{Refused}
 use Rattle.model_walk.specs.declared.refused.Stop.{Stop}
@@ -37,7 +37,8 @@ kind_of_stock Taking.OutOfStock = OutOfStock
 
 -- why settling stops
 abbrev pub stop_of_settling : SettleRefusal → Stop
-stop_of_settling (Settling.BadParameter line) = Stops.Refused (record { line = line; kind = BadParameter })
+stop_of_settling (Settling.BadParameter line) =
+    Stops.Refused (record { line = line; kind = BadParameter })
 stop_of_settling Settling.Memory = Stops.Memory
 
 -- why a stock has no box of the class that is free
@@ -55,7 +56,8 @@ lacks_class stock (Some class) = lacks stock class
 -- why a component is refused that comes to this stock
 abbrev pub component_lacks : List Section → List Stocked → Item → Option Refusal
 component_lacks ss stock i =
-    option_or (option_map (refusal i.line) (lacks_class stock (class_of_item i))) (params_refused ss i)
+    option_or (option_map (refusal i.line) (lacks_class stock (class_of_item i)))
+    (params_refused ss i)
 
 -- the refusal of parameters that are off the form of a box's class
 abbrev pub off_of_box : List Param → Held → Option Refusal
@@ -64,10 +66,12 @@ off_of_box ps b = option_map (λ line. refusal line BadParameter) (first_line_of
 -- no parameter is off its form, and the box is at the start that they give
 abbrev pub Settles : List Param → Held → Held → Type 0
 Settles ps before after =
-    (first_line_off before.kind ps ≡ None) × (after ≡ started before.kind (settings_of before.kind ps))
+    (first_line_off before.kind ps ≡ None)
+    × (after ≡ started before.kind (settings_of before.kind ps))
 
 -- a component has taken the first free box of its class, and stands behind those that were found
-pub record Adds (ss : List Section) (i : Item) (old new : List Stocked) (front all : List Atomic) : Type 0 where
+pub record Adds (ss : List Section) (i : Item) (old new : List Stocked)
+    (front all : List Atomic) : Type 0 where
   pub class : Class
   pub at : BoxNo
   pub before : Stocked
@@ -77,17 +81,19 @@ pub record Adds (ss : List Section) (i : Item) (old new : List Stocked) (front a
   pub free : is_free class before ≡ true
   pub right : first_line_off class (params_of ss i) ≡ None
   pub settled : new ≡ slice_set old at.0 (started_box ss i class)
-  pub added : all ≡ front ++ record { name = name_of i; class = class; at = at } ∷ []
+  pub added : all ≡ front ++ record { name = item_name i; class = class; at = at } ∷ []
 
 -- how many boxes of a class are taken
 abbrev pub taken_of : Class → List Stocked → ℕ
 taken_of class stock = count_by (λ (s : Stocked). is_of class s && s.taken) stock
 
 -- these items were added, with nothing refused: their components, and the stock
-pub record Stands (ss : List Section) (classes : List Class) (stock : List Stocked) (found : List Atomic) (done : List Item) : Type 0 where
+pub record Stands (ss : List Section) (classes : List Class) (stock : List Stocked)
+    (found : List Atomic) (done : List Item) : Type 0 where
   pub kinds : classes_of stock ≡ classes
   pub named : map named found ≡ map named_item done
   pub boxes : map (λ (a : Atomic). slice_get stock a.at.0) found ≡ map (settled ss) done
   pub apart : are_apart (map (λ (a : Atomic). a.at.0) found) ≡ true
-  pub taken : (class : Class) → taken_of class stock ≡ boxes_of class (filter_map class_of_item done)
+  pub taken : (class : Class) → taken_of class stock
+      ≡ boxes_of class (filter_map class_of_item done)
   pub passes : first_component_refused ss classes [] done ≡ None

@@ -86,9 +86,11 @@ fn settle_box<M: AtomicModel>(
 ) -> Result<(), Stop>
     requires at { at.0 < length stock.old }
     requires once { HoldsAt
-        (λ s. IsTrue (are_once s.box.kind (params_of sections.now (item_of item.now)))) stock.old at.0 }
+        (λ s. IsTrue (are_once s.box.kind (params_of sections.now
+        (item_of item.now)))) stock.old at.0 }
     ensures settles { OnOk result
-        (ChangesBox (Settles (params_of sections.now (item_of item.now))) at.0 stock.old stock.new) }
+        (ChangesBox (Settles (params_of sections.now
+        (item_of item.now))) at.0 stock.old stock.new) }
     ensures refused { (why : _) → result ≡ Err (Stop.Refused why) → HoldsAt
         (λ s. off_of_box (params_of sections.now (item_of item.now)) s.box ≡ Some (refusal_of why))
         stock.old at.0 }
@@ -115,7 +117,7 @@ fn stop_of(why: SettleRefusal) -> Stop
 
 /// The name of a component.
 fn name(alloc: Global, item: &Item<'_>) -> Result<Name, OutOfMemory>
-    ensures { IfOk result (λ name. name ≡ W.name_of (item_of item.now)) }
+    ensures { IfOk result (λ name. name ≡ W.item_name (item_of item.now)) }
 {
     Name::parse(alloc, name_of(item)).map_err(|_| OutOfMemory)
 }

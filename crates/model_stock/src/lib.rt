@@ -23,10 +23,10 @@ use model_walk::{Item, Stop, Walked};
 use quantity::OutOfMemory;
 use std::alloc::{AllocError, Global};
 
-/// The atomic components in declared order, each with a box of its own that is taken and stands at the
-/// start that the component's parameters give. Refused is the first component that is refused: it has no
-/// class, no box of its class was handed in or is left, or a parameter is off its form. Boxes may be taken
-/// then, and where there is no memory.
+/// The atomic components in declared order, each with a box of its own that is taken and stands at
+/// the start that the component's parameters give. Refused is the first component that is refused:
+/// it has no class, no box of its class was handed in or is left, or a parameter is off its form.
+/// Boxes may be taken then, and where there is no memory.
 pub fn atomics<M: AtomicModel>(
     alloc: Global,
     sections: &Sections,
@@ -36,7 +36,8 @@ pub fn atomics<M: AtomicModel>(
     requires walk { IsWalk sections.now (met_of walked.now) }
     requires keys { K.keys_refused sections.now ≡ None }
     requires free { IsTrue (list_all (λ s. not s.taken) stock.old) }
-    ensures right { IfOk result (λ atomics. S.stock_refused (classes_of stock.old) sections.now ≡ None) }
+    ensures right { IfOk result (λ atomics. S.stock_refused (classes_of stock.old) sections.now
+        ≡ None) }
     ensures named { IfOk result
         (λ atomics. map named atomics.items ≡ map named_item (W.atomics sections.now)) }
     ensures boxes { IfOk result

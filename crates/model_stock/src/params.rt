@@ -17,7 +17,8 @@ pub(crate) fn params_of(
     sections: &Sections,
     item: &Item<'_>,
 ) -> Result<Params, OutOfMemory>
-    ensures { IfOk result (λ params. params.entries.items ≡ params_of sections.now (item_of item.now)) }
+    ensures { IfOk result (λ params. params.entries.items
+        ≡ params_of sections.now (item_of item.now)) }
 {
     let Some(section) = section_named(sections, name_of(item)) else {
         return Ok(Params {

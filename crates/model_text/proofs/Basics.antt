@@ -10,7 +10,7 @@ use Rattle.quantity.specs.Bytes.{Bytes, is_among, has_repeat}
 use Rattle.model_text.specs.declared.kind.Kind.{Kind}
 use Rattle.ma_lines.specs.declared.section.Entry.{Entry}
 use Rattle.model_text.specs.Refusals.{Refusal}
-use Rattle.model_text.specs.Keyed.{least, at_entry}
+use Rattle.model_text.specs.Keyed.{least_refusal, at_entry}
 
 -- ---- what can't be
 
@@ -28,7 +28,7 @@ true_false e = cc
 
 -- ---- lists of refusals
 
-pub least_none : (rs : List Refusal) → least rs ≡ None → rs ≡ []
+pub least_none : (rs : List Refusal) → least_refusal rs ≡ None → rs ≡ []
 least_none [] e = refl
 least_none (r ∷ rs) e = absurd (some_none e)
 
@@ -40,8 +40,8 @@ pub each_empty : {X A : Type 0} (f : X → List A) (xs : List X) → flat_map f 
 each_empty f [] e = tt
 each_empty f (x ∷ xs) e = let p = both_empty (f x) (flat_map f xs) e in (p.0, each_empty f xs p.1)
 
--- what a phase that takes the least of all says of each
-pub each_of_phase : {X : Type 0} (f : X → List Refusal) (xs : List X) → least (flat_map f xs) ≡ None → AllByRecursion (λ x. f x ≡ []) xs
+-- what a phase that takes the least_refusal of all says of each
+pub each_of_phase : {X : Type 0} (f : X → List Refusal) (xs : List X) → least_refusal (flat_map f xs) ≡ None → AllByRecursion (λ x. f x ≡ []) xs
 each_of_phase f xs e = each_empty f xs (least_none (flat_map f xs) e)
 
 pub entry_is_right : (e : Entry) (k : Kind) (b : Bool) → at_entry e k b ≡ [] → b ≡ true

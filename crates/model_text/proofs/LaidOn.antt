@@ -10,7 +10,7 @@ use Rattle.atomic_face.specs.Settings.{settings_of}
 use Rattle.model_tree.specs.Tree as T
 use Rattle.model_tree.specs.Tree.{Tree, Trees, coupled, cells, atomic, nil, cons}
 use Rattle.model_text.specs.Keyed.{section_named, Item, texts_of}
-use Rattle.model_text.specs.Walk.{top, is_group, children_of, name_of, section_of, Step, at_section, at_item, section_in, walk_from, walk_at}
+use Rattle.model_text.specs.Walk.{top, is_group, children_of, item_name, section_of, Step, at_section, at_item, section_in, walk_from, walk_at}
 use Rattle.model_text.specs.Stock.{class_of_item, params_of}
 use Rattle.model_text.specs.Links.{links_of}
 use Rattle.model_text.specs.Trees.{initial_of, group_of, atomic_of, trees, component_of, first_tree, tree_at, no_files}
@@ -109,7 +109,7 @@ module _ (files : Files) (ss : List Section) where
       go None e =
           let steps : item_steps n ss around i ≡ steps_behind n around i None = ap (steps_behind n around i) (is_below ss around i h.0.0.0.1.not_around ∙ e) in
           let a = class_there ss around i h.0.0 e in
-          let one : Tree = atomic (name_of i) a.1 (settings_of a.1 (params_of ss i)) in
+          let one : Tree = atomic (item_name i) a.1 (settings_of a.1 (params_of ss i)) in
           let without : component_at n no_files ss i ≡ one ∷ [] = ap (trees_behind n no_files i) e ∙ ap (atomic_of ss i) a.2 in
           let laid_one : component_at n files ss i ≡ one ∷ [] = ap (trees_behind n files i) e ∙ ap (atomic_of ss i) a.2 in
           let alone : Lays (steps_behind n around i None) one one = record { count = refl; laid_on = λ first values fit. refl } in

@@ -19,7 +19,7 @@ use Rattle.model_tree.specs.Sound.{are_accepted, has_child, is_sound_part, are_s
 use Rattle.model_text.specs.declared.kind.Kind.TheVariants.{MissingKey}
 use Rattle.model_text.specs.Refusals.{refusal}
 use Rattle.model_text.specs.Keyed.{section_named, first_entry, Item, items_of, texts_of}
-use Rattle.model_text.specs.Walk.{is_group, children_of, name_of, is_atomic, section_of, Step, at_item, below, walk_from, type_refused, section_refused}
+use Rattle.model_text.specs.Walk.{is_group, children_of, item_name, is_atomic, section_of, Step, at_item, below, walk_from, type_refused, section_refused}
 use Rattle.model_text.specs.Spaces.{space_of}
 use Rattle.model_text.specs.Stock.{class_of_item, params_of}
 use Rattle.model_text.specs.Links as L
@@ -42,7 +42,7 @@ pub record Component (n : ℕ) (files : Files) (ss : List Section) (s : Section)
 
 pub record ItemTree (n : ℕ) (files : Files) (ss : List Section) (i : Item) : Type 0 where
   pub one : component_at n files ss i ≡ tree_at_item n files ss i ∷ []
-  pub name : T.name_of (tree_at_item n files ss i) ≡ name_of i
+  pub name : T.name_of (tree_at_item n files ss i) ≡ item_name i
   pub ins : F.inputs_of (Some (tree_at_item n files ss i)) ≡ L.inputs_of ss (Some i)
   pub outs : F.outputs_of (Some (tree_at_item n files ss i)) ≡ L.outputs_of ss (Some i)
   pub sound : is_sound_part (tree_at_item n files ss i) ≡ true
@@ -56,12 +56,12 @@ find_is name (s ∷ ss) t e = go (λ f. find_is name ss t f) (bytes_eq s.name na
     go later false same f = later f
 
 -- a section stands behind a bare item alone, and has its name
-pub behind : (ss : List Section) (i : Item) (t : Section) → section_of ss i ≡ Some t → (is_atomic i ≡ false) × (t.name ≡ name_of i)
+pub behind : (ss : List Section) (i : Item) (t : Section) → section_of ss i ≡ Some t → (is_atomic i ≡ false) × (t.name ≡ item_name i)
 behind ss i t e = go (is_atomic i) e
   where
-    go : (b : Bool) → cond b None (section_named ss (name_of i)) ≡ Some t → (b ≡ false) × (t.name ≡ name_of i)
+    go : (b : Bool) → cond b None (section_named ss (item_name i)) ≡ Some t → (b ≡ false) × (t.name ≡ item_name i)
     go true f = absurd (none_some f)
-    go false f = (refl, find_is (name_of i) ss t f)
+    go false f = (refl, find_is (item_name i) ss t f)
 
 item_of_section : (n : ℕ) (files : Files) (ss : List Section) (i : Item) (t : Section) → section_of ss i ≡ Some t → Component n files ss t → ItemTree n files ss i
 item_of_section n files ss i t e c =
@@ -69,7 +69,7 @@ item_of_section n files ss i t e c =
     let bare = behind ss i t e in
     record {
       one = subst (λ ts. ts ≡ first_tree ts ∷ []) (sym same) c.one;
-      name = subst (λ ts. T.name_of (first_tree ts) ≡ name_of i) (sym same) (c.name ∙ bare.1);
+      name = subst (λ ts. T.name_of (first_tree ts) ≡ item_name i) (sym same) (c.name ∙ bare.1);
       ins = subst (λ ts. F.inputs_of (Some (first_tree ts)) ≡ L.inputs_of ss (Some i)) (sym same) (c.ins ∙ sym (ports (codes "in") (inputs_of_class (class_of_item i)) bare.0));
       outs = subst (λ ts. F.outputs_of (Some (first_tree ts)) ≡ L.outputs_of ss (Some i)) (sym same) (c.outs ∙ sym (ports (codes "out") (out ∷ []) bare.0));
       sound = subst (λ ts. is_sound_part (first_tree ts) ≡ true) (sym same) c.sound;
@@ -84,11 +84,11 @@ item_of_class n files ss i e a c = go (class_of_item i) refl c
     go : (o : Option Class) → class_of_item i ≡ o → is_some o ≡ true → ItemTree n files ss i
     go None same there = absurd (true_false (sym there))
     go (Some class) same there =
-        let made : Tree = atomic (name_of i) class (settings_of class (params_of ss i)) in
+        let made : Tree = atomic (item_name i) class (settings_of class (params_of ss i)) in
         let alone : component_at n files ss i ≡ made ∷ [] = ap (λ (o : Option Section). let x : List Tree = elim o [ None ↦ atomic_of ss i (class_of_item i) | Some u ↦ component_of n files ss u ] in x) e ∙ ap (atomic_of ss i) same in
         record {
           one = subst (λ ts. ts ≡ first_tree ts ∷ []) (sym alone) refl;
-          name = subst (λ ts. T.name_of (first_tree ts) ≡ name_of i) (sym alone) refl;
+          name = subst (λ ts. T.name_of (first_tree ts) ≡ item_name i) (sym alone) refl;
           ins = subst (λ ts. F.inputs_of (Some (first_tree ts)) ≡ L.inputs_of ss (Some i)) (sym alone) (sym (ap (λ b. cond b (inputs_of_class (class_of_item i)) (ports_in (codes "in") (section_of ss i))) a ∙ ap inputs_of_class same));
           outs = subst (λ ts. F.outputs_of (Some (first_tree ts)) ≡ L.outputs_of ss (Some i)) (sym alone) (sym (ap (λ b. cond b (out ∷ []) (ports_in (codes "out") (section_of ss i))) a));
           sound = subst (λ ts. is_sound_part (first_tree ts) ≡ true) (sym alone) refl;
@@ -110,14 +110,14 @@ children_sound n files ss (i ∷ is) h =
     both_true (is_sound_part (tree_at_item n files ss i)) (are_sound_parts (trees (map (tree_at_item n files ss) is))) h.0.sound (children_sound n files ss is h.1)
 
 ports_of_child : (n : ℕ) (files : Files) (ss : List Section) (of_tree : Option Tree → List Bytes) (of_item : Option Item → List Bytes) → of_tree None ≡ of_item None → (is : List Item) → ItemTrees n files ss is
-    → AllByRecursion (λ i. of_tree (Some (tree_at_item n files ss i)) ≡ of_item (Some i)) is → (c : Bytes) → of_tree (child_of (trees (map (tree_at_item n files ss) is)) c) ≡ of_item (find (λ i. bytes_eq (name_of i) c) is)
+    → AllByRecursion (λ i. of_tree (Some (tree_at_item n files ss i)) ≡ of_item (Some i)) is → (c : Bytes) → of_tree (child_of (trees (map (tree_at_item n files ss) is)) c) ≡ of_item (find (λ i. bytes_eq (item_name i) c) is)
 ports_of_child n files ss of_tree of_item none [] h k c = none
 ports_of_child n files ss of_tree of_item none (i ∷ is) h k c =
     ap (λ m. of_tree (cond (bytes_eq m c) (Some (tree_at_item n files ss i)) (child_of (trees (map (tree_at_item n files ss) is)) c))) h.0.name
-    ∙ go (bytes_eq (name_of i) c) (ports_of_child n files ss of_tree of_item none is h.1 k.1 c)
+    ∙ go (bytes_eq (item_name i) c) (ports_of_child n files ss of_tree of_item none is h.1 k.1 c)
   where
-    go : (b : Bool) → of_tree (child_of (trees (map (tree_at_item n files ss) is)) c) ≡ of_item (find (λ i. bytes_eq (name_of i) c) is)
-        → of_tree (cond b (Some (tree_at_item n files ss i)) (child_of (trees (map (tree_at_item n files ss) is)) c)) ≡ of_item (cond b (Some i) (find (λ i. bytes_eq (name_of i) c) is))
+    go : (b : Bool) → of_tree (child_of (trees (map (tree_at_item n files ss) is)) c) ≡ of_item (find (λ i. bytes_eq (item_name i) c) is)
+        → of_tree (cond b (Some (tree_at_item n files ss i)) (child_of (trees (map (tree_at_item n files ss) is)) c)) ≡ of_item (cond b (Some i) (find (λ i. bytes_eq (item_name i) c) is))
     go true later = k.0
     go false later = later
 
@@ -175,7 +175,7 @@ no_children s g = ap (λ b. cond b [] (items_of (codes "components") s)) g
 
 group_face : (files : Files) (ss : List Section) (s : Section) → is_group s ≡ true → face_of ss s ≡ face_of_group (group_of files ss s)
 group_face files ss s g =
-    let none : (c : Bytes) → child_named s c ≡ None = λ c. ap (λ is. find (λ i. bytes_eq (name_of i) c) is) (no_children s g) in
+    let none : (c : Bytes) → child_named s c ≡ None = λ c. ap (λ is. find (λ i. bytes_eq (item_name i) c) is) (no_children s g) in
     let all : face_cells s ≡ group_cells s = ap (λ b. cond b (group_cells s) 0) g in
     λ k. record { ins = texts_of (codes "in") s; outs = texts_of (codes "out") s; inputs_of = λ c. L.inputs_of ss (none c k); outputs_of = λ c. L.outputs_of ss (none c k); cells = all k }
 
@@ -199,7 +199,7 @@ abbrev pub item_steps : ℕ → List Section → List Bytes → Item → List St
 item_steps n ss around i =
     at_item around i ∷ elim (below ss around i) [ None ↦ [] | Some t ↦ walk_from n ss around i.line t ]
 
-pub is_below : (ss : List Section) (around : List Bytes) (i : Item) → is_among around (name_of i) ≡ false → below ss around i ≡ section_of ss i
+pub is_below : (ss : List Section) (around : List Bytes) (i : Item) → is_among around (item_name i) ≡ false → below ss around i ≡ section_of ss i
 is_below ss around i e = ap (λ b. cond b None (section_of ss i)) e
 
 abbrev pub Walks : ℕ → Files → List Section → Type 0

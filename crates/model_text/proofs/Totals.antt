@@ -10,7 +10,7 @@ use Rattle.ma_lines.specs.Sections.{Section}
 use Rattle.model_tree.specs.Tree.{Tree, atomic}
 use Rattle.model_tree.specs.Sound.{Totals, totals, all_totals}
 use Rattle.model_text.specs.Keyed.{Item}
-use Rattle.model_text.specs.Walk.{is_group, children_of, name_of, is_atomic, section_of, Step, at_section, at_item, walk_from}
+use Rattle.model_text.specs.Walk.{is_group, children_of, item_name, is_atomic, section_of, Step, at_section, at_item, walk_from}
 use Rattle.model_text.specs.Spaces.{space_of}
 use Rattle.model_text.specs.Stock.{class_of_item, params_of}
 use Rattle.model_text.specs.Links.{link_of, link_entries, links_of}
@@ -26,7 +26,7 @@ use Rattle.model_text.proofs.Parts.{ItemTrees, AllMet, item_steps, is_below, beh
 abbrev pub names_in : List Step → List Bytes
 names_in [] = []
 names_in (at_section line deep s ∷ steps) = names_in steps
-names_in (at_item around i ∷ steps) = name_of i ∷ names_in steps
+names_in (at_item around i ∷ steps) = item_name i ∷ names_in steps
 
 abbrev pub measure : (Step → ℕ) → List Step → ℕ
 measure f [] = 0
@@ -47,7 +47,7 @@ links_at (at_item around i) = 0
 names_join : (xs ys : List Step) → names_in (xs ++ ys) ≡ names_in xs ++ names_in ys
 names_join [] ys = refl
 names_join (at_section line deep s ∷ xs) ys = names_join xs ys
-names_join (at_item around i ∷ xs) ys = ap (λ ns. name_of i ∷ ns) (names_join xs ys)
+names_join (at_item around i ∷ xs) ys = ap (λ ns. item_name i ∷ ns) (names_join xs ys)
 
 measure_joins : (f : Step → ℕ) (xs ys : List Step) → measure f (xs ++ ys) ≡ measure f xs + measure f ys
 measure_joins f [] ys = omega arith
@@ -91,7 +91,7 @@ count_item n files ss counting around i h = go (section_of ss i) refl
     go None e =
         let steps : item_steps n ss around i ≡ steps_behind n ss around i None = ap (steps_behind n ss around i) (is_below ss around i h.0.0.1.not_around ∙ e) in
         let a = class_there ss around i h.0 e in
-        let alone : component_at n files ss i ≡ atomic (name_of i) a.1 (settings_of a.1 (params_of ss i)) ∷ [] = ap (trees_behind n files ss i) e ∙ ap (atomic_of ss i) a.2 in
+        let alone : component_at n files ss i ≡ atomic (item_name i) a.1 (settings_of a.1 (params_of ss i)) ∷ [] = ap (trees_behind n files ss i) e ∙ ap (atomic_of ss i) a.2 in
         let one : 1 ≡ cond (is_atomic i) 1 0 + 0 = sym (ap (λ b. cond b 1 0 + 0) a.0) in
         subst (λ xs. Counts n (names_in xs) xs (totals (tree_at_item n files ss i))) (sym steps)
         (subst (λ ts. CountsOf n (steps_behind n ss around i None) ts) (sym alone) (record { names = refl; cells = refl; atomics = one; links = omega arith; depth = omega arith }))

@@ -14,7 +14,7 @@ use Rattle.model_text.specs.declared.kind.Kind.{Kind}
 use Rattle.model_text.specs.declared.kind.Kind.TheVariants.{BadValue, ComponentCycle, DuplicateComponent, TooLarge, UnknownComponent}
 use Rattle.model_text.specs.Refusals.{refusal}
 use Rattle.model_text.specs.Keyed.{Item}
-use Rattle.model_text.specs.Walk.{top, is_item, is_atomic, name_of, section_of, Step, at_section, at_item, items_in, walk, item_refused, section_refused, first_step_refused}
+use Rattle.model_text.specs.Walk.{top, is_item, is_atomic, item_name, section_of, Step, at_section, at_item, items_in, walk, item_refused, section_refused, first_step_refused}
 use Rattle.model_text.specs.Accepted.{ComponentsDiffer, AtomicsFit}
 use Rattle.model_text.specs.Met.{Right}
 use Rattle.model_text.proofs.Basics.{some_none, both_none, both_false, neither, if_none, repeat_last}
@@ -24,11 +24,11 @@ use Rattle.model_text.proofs.Basics.{some_none, both_none, both_false, neither, 
 pub item_is_right : (ss : List Section) (before : List Item) (around : List Bytes) (i : Item) → item_refused ss before around i ≡ None → Right ss before around i
 item_is_right ss before around i e =
     let form = if_none (not (is_item i)) BadValue _ e in
-    let cycle = if_none (bytes_eq (name_of i) top || is_among around (name_of i)) ComponentCycle _ form.1 in
-    let new = if_none (is_among (map name_of before) (name_of i)) DuplicateComponent _ cycle.1 in
+    let cycle = if_none (bytes_eq (item_name i) top || is_among around (item_name i)) ComponentCycle _ form.1 in
+    let new = if_none (is_among (map item_name before) (item_name i)) DuplicateComponent _ cycle.1 in
     let fits = if_none (is_atomic i && nat_le 4096 (length (filter is_atomic before))) TooLarge _ new.1 in
     let found = if_none (not (is_atomic i) && not (is_some (section_of ss i))) UnknownComponent None fits.1 in
-    let parts = both_false (bytes_eq (name_of i) top) (is_among around (name_of i)) cycle.0 in
+    let parts = both_false (bytes_eq (item_name i) top) (is_among around (item_name i)) cycle.0 in
     record { form = form.0; not_top = parts.0; not_around = parts.1; new = new.0; fits = fits.0; found = found.0 }
 
 pub mapped_none : (line : ℕ) (o : Option Kind) → option_map (refusal line) o ≡ None → o ≡ None
@@ -50,12 +50,12 @@ items_keep Q ss keep before (at_item around i ∷ steps) e q =
 
 pub components_differ : ComponentsDiffer
 components_differ ss e =
-    items_keep (λ is. has_repeat (top ∷ map name_of is) ≡ false) ss keep [] (walk ss) e refl
+    items_keep (λ is. has_repeat (top ∷ map item_name is) ≡ false) ss keep [] (walk ss) e refl
   where
-    keep : (before : List Item) (around : List Bytes) (i : Item) → Right ss before around i → has_repeat (top ∷ map name_of before) ≡ false → has_repeat (top ∷ map name_of (before ++ i ∷ [])) ≡ false
+    keep : (before : List Item) (around : List Bytes) (i : Item) → Right ss before around i → has_repeat (top ∷ map item_name before) ≡ false → has_repeat (top ∷ map item_name (before ++ i ∷ [])) ≡ false
     keep before around i r q =
-        subst (λ ns. has_repeat (top ∷ ns) ≡ false) (sym (map-append name_of before (i ∷ [])))
-        (repeat_last (top ∷ map name_of before) (name_of i) q (neither (bytes_eq (name_of i) top) (is_among (map name_of before) (name_of i)) r.not_top r.new))
+        subst (λ ns. has_repeat (top ∷ ns) ≡ false) (sym (map-append item_name before (i ∷ [])))
+        (repeat_last (top ∷ map item_name before) (item_name i) q (neither (bytes_eq (item_name i) top) (is_among (map item_name before) (item_name i)) r.not_top r.new))
 
 one_more : (b : Bool) (n : ℕ) → (b && nat_le 4096 n) ≡ false → n ≤ 4096 → (m : ℕ) → m ≡ cond b (n + 1) n → m ≤ 4096
 one_more true n e h m same = search (rules, nat_tests)

@@ -14,7 +14,7 @@ use Rattle.model_tree.specs.Sound.{path_count, totals, is_sound_part, is_within_
 use Rattle.model_text.specs.declared.kind.Kind.TheVariants.{TooLarge, TooManyRoutes}
 use Rattle.model_text.specs.Refusals.{refusal}
 use Rattle.model_text.specs.Keyed.{section_named}
-use Rattle.model_text.specs.Walk.{top, name_of, is_group, is_atomic, Step, at_section, at_item, section_in, items_in, walk_at, walk, reached, groups, atomics}
+use Rattle.model_text.specs.Walk.{top, item_name, is_group, is_atomic, Step, at_section, at_item, section_in, items_in, walk_at, walk, reached, groups, atomics}
 use Rattle.model_text.specs.Spaces.{space_of, first_large}
 use Rattle.model_text.specs.Links.{link_entries, link_count}
 use Rattle.model_text.specs.Trees.{tree_at, tree_of, no_files}
@@ -39,10 +39,10 @@ not_above n m h = search (rules, nat_tests)
 
 -- ---- the counts of the walk are those of the phases
 
-names_are : (steps : List Step) → names_in steps ≡ map name_of (items_in steps)
+names_are : (steps : List Step) → names_in steps ≡ map item_name (items_in steps)
 names_are [] = refl
 names_are (at_section line deep s ∷ steps) = names_are steps
-names_are (at_item around i ∷ steps) = ap (λ ns. name_of i ∷ ns) (names_are steps)
+names_are (at_item around i ∷ steps) = ap (λ ns. item_name i ∷ ns) (names_are steps)
 
 atomics_are : (steps : List Step) → measure atomics_at steps ≡ length (filter is_atomic (items_in steps))
 atomics_are [] = refl
@@ -158,13 +158,13 @@ within_limits files classes ss p =
     links_counted_walk : measure links_at (walk ss) ≡ link_count ss
     links_counted_walk = links_are (walk ss) ∙ sym (links_counted ss)
 
-    go : (o : Option Section) → is_some o ≡ true → ((s : Section) → o ≡ Some s → s.name ≡ top) → AllByRecursion (Met files ss) (walk_at ss o) → has_repeat (top ∷ map name_of (items_in (walk_at ss o))) ≡ false
+    go : (o : Option Section) → is_some o ≡ true → ((s : Section) → o ≡ Some s → s.name ≡ top) → AllByRecursion (Met files ss) (walk_at ss o) → has_repeat (top ∷ map item_name (items_in (walk_at ss o))) ≡ false
         → measure atomics_at (walk_at ss o) ≤ 4096 → measure cells_at (walk_at ss o) ≤ 1048576 → measure links_at (walk_at ss o) ≤ 16384 → is_within_limits (totals (tree_at files ss o)) ≡ true
     go None e named h differ atomics cells links = absurd (true_false (sym e))
     go (Some s) e named h differ atomics cells links =
         let c = count_components 17 files ss [] 0 s h in
         let t = totals (tree_at files ss (Some s)) in
-        let names : t.names ≡ top ∷ map name_of (items_in (walk_at ss (Some s))) = c.names ∙ ap (λ n. n ∷ names_in (walk_at ss (Some s))) (named s refl) ∙ ap (λ ns. top ∷ ns) (names_are (walk_at ss (Some s))) in
+        let names : t.names ≡ top ∷ map item_name (items_in (walk_at ss (Some s))) = c.names ∙ ap (λ n. n ∷ names_in (walk_at ss (Some s))) (named s refl) ∙ ap (λ ns. top ∷ ns) (names_are (walk_at ss (Some s))) in
         five (not (has_repeat t.names)) (nat_le t.cells 1048576) (nat_le t.atomics 4096) (nat_le t.links 16384) (nat_le t.depth 17)
         (ap not (ap has_repeat names ∙ differ)) (at_most t.cells 1048576 (along t.cells (measure cells_at (walk_at ss (Some s))) 1048576 c.cells cells)) (at_most t.atomics 4096 (along t.atomics (measure atomics_at (walk_at ss (Some s))) 4096 c.atomics atomics))
         (at_most t.links 16384 (less_than t.links (measure links_at (walk_at ss (Some s))) 16384 c.links links)) (at_most t.depth 17 c.depth)

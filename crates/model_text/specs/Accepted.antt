@@ -10,7 +10,7 @@ use Rattle.atomic_face.specs.declared.class.Class.{Class}
 use Rattle.model_tree.specs.Tree.{Tree}
 use Rattle.model_tree.specs.Sound.{are_accepted, is_sound_part, is_sound_model}
 use Rattle.model_text.specs.Refusals.{Refusal}
-use Rattle.model_text.specs.Walk.{top, name_of, items_in, walk, reached, atomics, top_refused, tree_refused}
+use Rattle.model_text.specs.Walk.{top, item_name, items_in, walk, reached, atomics, top_refused, tree_refused}
 use Rattle.model_text.specs.Keys.{keys_refused}
 use Rattle.model_text.specs.Spaces.{cells_refused, spaces_refused}
 use Rattle.model_text.specs.Stock.{stock_refused}
@@ -79,7 +79,7 @@ PassesEachPhase =
 abbrev pub ComponentsDiffer : Type 0
 ComponentsDiffer =
     (ss : List Section) → tree_refused ss ≡ None
-    → has_repeat (top ∷ map name_of (items_in (walk ss))) ≡ false
+    → has_repeat (top ∷ map item_name (items_in (walk ss))) ≡ false
 
 -- at most 4096 atomic components
 abbrev pub AtomicsFit : Type 0

@@ -1,9 +1,10 @@
 -- What the phases before the count of paths say: what makes the model, part by part, and what its
 -- initial files leave as it is.
-use Rattle.std.specs.Prelude.{◌≡◌, ℕ, suc, ◌≤◌, true, false, Some, None, List, [], ◌∷◌, map, length, IfSome, codes}
+use Rattle.std.specs.Prelude.{◌≡◌, ℕ, suc, ◌≤◌, true, false, Some, None, List, [], ◌∷◌}
+use Rattle.std.specs.Prelude.{map, length, IfSome, codes}
 use Rattle.std.specs.List.{AllByRecursion}
 use Rattle.quantity.specs.Bytes.{Bytes}
-use Rattle.rule_syntax.specs.Shown.{AreFew}
+use Rattle.rule_syntax.specs.Few.{AreFew}
 use Rattle.cell_grid.specs.Space.{CanHold}
 use Rattle.atomic_face.specs.declared.class.Class.{Class}
 use Rattle.atomic_face.specs.Settings.{settings_of, are_once}
@@ -13,13 +14,15 @@ use Rattle.model_tree.specs.Tree.{Tree, coupled, cells, atomic, leaf_count, ins_
 use Rattle.model_tree.specs.Pull.{sources, top_sources}
 use Rattle.model_tree.specs.Sound.{path_count, totals, is_sound_part, is_within_limits}
 use Rattle.model_text.specs.Keyed.{Item, texts_of}
-use Rattle.model_text.specs.Walk.{is_group, children_of, name_of, section_of, walk, walk_from, groups, atomics, top_refused, tree_refused}
+use Rattle.model_text.specs.Walk.{is_group, children_of, item_name, section_of, walk, walk_from}
+use Rattle.model_text.specs.Walk.{groups, atomics, top_refused, tree_refused}
 use Rattle.model_text.specs.Keys.{keys_refused}
-use Rattle.model_text.specs.Spaces.{space_of, cells_refused, spaces_refused}
+use Rattle.model_text.specs.Spaces.{space_of, offsets_of, cells_refused, spaces_refused}
 use Rattle.model_text.specs.Stock.{class_of_item, params_of, stock_refused}
-use Rattle.model_text.specs.Rules.{names_of, rules_refused}
+use Rattle.model_text.specs.Rules.{rules_refused}
 use Rattle.model_text.specs.Links.{links_of, links_refused}
-use Rattle.model_text.specs.Trees.{initial_of, group_of, atomic_of, trees, component_of, first_tree, tree_of, no_files}
+use Rattle.model_text.specs.Trees.{initial_of, variables_of, ports_of, group_of, atomic_of, trees}
+use Rattle.model_text.specs.Trees.{component_of, first_tree, tree_of, no_files}
 use Rattle.model_text.specs.ModelOf.{link_limit_refused}
 use Rattle.model_tree.specs.Laid.{laid}
 use Rattle.model_text.specs.Met.{Met}
@@ -45,11 +48,15 @@ SpacesCanBeHeld =
     AllByRecursion (λ s. CanHold (space_of s).rows (space_of s).columns (space_of s).planes)
     (groups ss)
 
--- the rules of each group may use no more names than a group may have
+-- the rules of a group may use no more names than a group may have
+abbrev pub HasFewNames : Section → Type 0
+HasFewNames s = AreFew (offsets_of s) (variables_of s) (ports_of s)
+
+-- so it is with each group
 abbrev pub NamesAreFew : Type 0
 NamesAreFew =
     (ss : List Section) → keys_refused ss ≡ None → spaces_refused ss ≡ None
-    → AllByRecursion (λ s. AreFew (names_of s)) (groups ss)
+    → AllByRecursion HasFewNames (groups ss)
 
 -- ---- atomic components
 
@@ -119,7 +126,7 @@ pub record ItemsAreMade : Type 0 where
   pub class : (n : ℕ) (files : Files) (ss : List Section) (i : Item) (class : Class)
       → section_of ss i ≡ None → class_of_item i ≡ Some class
       → component_at n files ss i
-      ≡ atomic (name_of i) class (settings_of class (params_of ss i)) ∷ []
+      ≡ atomic (item_name i) class (settings_of class (params_of ss i)) ∷ []
 
 -- a group's component, and a coupled one with a component for each item, where the walk from it is
 -- met

@@ -5,6 +5,7 @@ use Rattle.std.specs.Option.{option_and_then, is_some}
 use Rattle.std.specs.Bool.{then_some}
 use Rattle.std.specs.Prelude.{int_le}
 use Rattle.std.specs.Str.{bytes_eq}
+use Rattle.quantity.specs.declared.bounds.TheConstants.{MAX_DELAY}
 use Rattle.quantity.specs.Bytes.{Bytes, is_byte, is_blank, is_empty, is_among, has_repeat, words, trimmed, all_there}
 use Rattle.quantity.specs.Names.{is_name}
 use Rattle.quantity.specs.Digits.{has_length, whole_number}
@@ -40,7 +41,7 @@ is_at_most most (Some n) = nat_le n most
 
 -- whole milliseconds, at most 99:59:59:999
 abbrev pub is_delay_time : Bytes → Bool
-is_delay_time text = is_at_most 359999999 (whole_number 9 text)
+is_delay_time text = is_at_most MAX_DELAY (whole_number 9 text)
 
 -- one of these texts
 abbrev pub is_one_of : List Bytes → Bytes → Bool

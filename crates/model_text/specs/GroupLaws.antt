@@ -1,6 +1,7 @@
 -- What the phases say of the groups of an accepted model.
 use Rattle.std.specs.Prelude.{◌≡◌, ◌≤◌, ◌&&◌, nat_lt, true, false, None, List, ◌∷◌, map, length, codes}
 use Rattle.std.specs.List.{list_all, filter_map, AllByRecursion}
+use Rattle.quantity.specs.declared.bounds.TheConstants.{MAX_DELAY}
 use Rattle.quantity.specs.Bytes.{has_repeat}
 use Rattle.rule_tree.specs.Phrases.{out}
 use Rattle.cell_grid.specs.Space.{cell_count}
@@ -34,7 +35,7 @@ ValuesFit = (files : Files) (s : Section) → length (initial_of files s) ≡ ce
 -- at least one cell, and a default delay of at most 99:59:59:999
 pub record RightSizes (s : Section) : Type 0 where
   pub cells : 1 ≤ cell_count (space_of s)
-  pub delay : default_delay_of s ≤ 359999999
+  pub delay : default_delay_of s ≤ MAX_DELAY
 
 -- of each group, once the keys pass
 abbrev pub SizesAreRight : Type 0

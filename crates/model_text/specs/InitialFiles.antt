@@ -2,6 +2,7 @@
 use Rattle.std.specs.Prelude.{ℕ, Bool, nat_lt, Option, Some, None, List, [], ◌∷◌, ◌++◌, map, length, if◌then◌else◌, codes}
 use Rattle.std.specs.List.{flat_map}
 use Rattle.std.specs.Option.{option_or, option_to_list, is_some}
+use Rattle.quantity.specs.declared.bounds.TheConstants.{MAX_FILE_BYTES}
 use Rattle.quantity.specs.Bytes.{Bytes}
 use Rattle.source_text.specs.Lines.{Files}
 use Rattle.ma_lines.specs.declared.section.Entry.{Entry}
@@ -42,9 +43,9 @@ pub data FileStop : Type 0 where
   absent : (name : Bytes) → FileStop
   off : Refusal → FileStop
 
--- more than 16777216 bytes
+-- more than MAX_FILE_BYTES bytes
 abbrev pub is_long : Bytes → Bool
-is_long bytes = nat_lt 16777216 (length bytes)
+is_long bytes = nat_lt MAX_FILE_BYTES (length bytes)
 
 -- a file that is missing, too long or off its form
 abbrev pub content_stops : InitialFile → Option Bytes → Option FileStop

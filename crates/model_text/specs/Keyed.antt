@@ -45,7 +45,7 @@ items_of key s =
 abbrev pub texts_of : Bytes → Section → List Bytes
 texts_of key s = map (λ (i : Item). i.text) (items_of key s)
 
--- ---- refusals of a phase: the least line, and there the least number
+-- ---- refusals of a phase: the least_refusal line, and there the least_refusal number
 
 -- on a lesser line, or on the same one with a lesser number
 abbrev pub comes_before : Refusal → Refusal → Bool
@@ -58,9 +58,9 @@ lesser a None = a
 lesser a (Some b) = if comes_before b a then b else a
 
 -- the refusal that comes before all others
-abbrev pub least : List Refusal → Option Refusal
-least [] = None
-least (r ∷ rs) = Some (lesser r (least rs))
+abbrev pub least_refusal : List Refusal → Option Refusal
+least_refusal [] = None
+least_refusal (r ∷ rs) = Some (lesser r (least_refusal rs))
 
 -- an entry's refusal of a kind, where a test fails
 abbrev pub at_entry : Entry → Kind → Bool → List Refusal

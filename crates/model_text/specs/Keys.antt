@@ -12,8 +12,8 @@ use Rattle.rule_tree.specs.Phrases.{looked_up}
 use Rattle.atomic_face.specs.declared.class.Class.{Class}
 use Rattle.atomic_face.specs.ClassNames.{class_named}
 use Rattle.atomic_face.specs.Settings.{once_keys}
-use Rattle.model_text.specs.Keyed.{section_named, first_entry, value_of, Item, items_of, least}
-use Rattle.model_text.specs.Walk.{is_group, name_of, class_of, reached, atomics}
+use Rattle.model_text.specs.Keyed.{section_named, first_entry, value_of, Item, items_of, least_refusal}
+use Rattle.model_text.specs.Walk.{is_group, item_name, class_of, reached, atomics}
 use Rattle.model_text.specs.Forms.{is_size, is_dim, is_delay_time, is_value_text, is_file_name, are_names, is_one_of, are_words, are_ports, tuples_of, port_rule_text, has_two_ends}
 
 -- ---- keys that stand again
@@ -130,8 +130,9 @@ parameters_again class s = []
 
 -- what is refused of the keys of an atomic component
 abbrev pub of_atomic : List Section → Item → List Refusal
-of_atomic ss i = parameters_again (class_named (class_of i)) (section_named ss (name_of i))
+of_atomic ss i = parameters_again (class_named (class_of i)) (section_named ss (item_name i))
 
--- the least refusal of all keys
+-- the least_refusal refusal of all keys
 abbrev pub keys_refused : List Section → Option Refusal
-keys_refused ss = least (flat_map of_section (reached ss) ++ flat_map (of_atomic ss) (atomics ss))
+keys_refused ss =
+    least_refusal (flat_map of_section (reached ss) ++ flat_map (of_atomic ss) (atomics ss))

@@ -19,8 +19,8 @@ use Rattle.model_text.specs.Refusals.{Refusal, refusal, kind_of_link}
 use Rattle.ma_lines.specs.declared.section.Entry.{Entry}
 use Rattle.ma_lines.specs.Sections.{Section}
 use Rattle.rule_tree.specs.Phrases.{out}
-use Rattle.model_text.specs.Keyed.{entries_of, texts_of, Item, least}
-use Rattle.model_text.specs.Walk.{is_group, children_of, name_of, is_atomic, section_of, reached}
+use Rattle.model_text.specs.Keyed.{entries_of, texts_of, Item, least_refusal}
+use Rattle.model_text.specs.Walk.{is_group, children_of, item_name, is_atomic, section_of, reached}
 use Rattle.model_text.specs.Forms.{ends_of}
 use Rattle.cell_grid.specs.Places.{cell_in}
 use Rattle.model_text.specs.Spaces.{space_of}
@@ -95,7 +95,7 @@ links_of s = filter_map (link_of s) (link_entries s)
 
 -- the first child of this name
 abbrev pub child_named : Section → Bytes → Option Item
-child_named s name = find (λ i. bytes_eq (name_of i) name) (children_of s)
+child_named s name = find (λ i. bytes_eq (item_name i) name) (children_of s)
 
 -- the ports under a key of a section that is there
 abbrev pub ports_in : Bytes → Option Section → List Bytes
@@ -153,9 +153,9 @@ links_refused_after f s before (e ∷ es) =
 abbrev pub of_links : List Section → Section → List Refusal
 of_links ss s = links_refused_after (face_of ss s) s [] (link_entries s)
 
--- the least refusal of all links
+-- the least_refusal refusal of all links
 abbrev pub links_refused : List Section → Option Refusal
-links_refused ss = least (flat_map (of_links ss) (reached ss))
+links_refused ss = least_refusal (flat_map (of_links ss) (reached ss))
 
 -- how many links there are
 abbrev pub link_count : List Section → ℕ

@@ -9,7 +9,7 @@ use Rattle.source_text.specs.Lines.{Files}
 use Rattle.ma_lines.specs.Sections.{Section}
 use Rattle.model_tree.specs.Sound.{are_accepted, is_sound_group}
 use Rattle.model_text.specs.Keyed.{Item, texts_of}
-use Rattle.model_text.specs.Walk.{top, is_group, is_item, is_atomic, name_of, section_of, Step, at_section, at_item, section_refused}
+use Rattle.model_text.specs.Walk.{top, is_group, is_item, is_atomic, item_name, section_of, Step, at_section, at_item, section_refused}
 use Rattle.model_text.specs.Stock.{class_of_item}
 use Rattle.model_text.specs.Links.{links_of, face_of}
 use Rattle.model_text.specs.Trees.{group_of}
@@ -26,9 +26,9 @@ pub record RightSection (files : Files) (ss : List Section) (s : Section) : Type
 pub record Right (ss : List Section) (before : List Item) (around : List Bytes)
     (i : Item) : Type 0 where
   pub form : not (is_item i) ≡ false
-  pub not_top : bytes_eq (name_of i) top ≡ false
-  pub not_around : is_among around (name_of i) ≡ false
-  pub new : is_among (map name_of before) (name_of i) ≡ false
+  pub not_top : bytes_eq (item_name i) top ≡ false
+  pub not_around : is_among around (item_name i) ≡ false
+  pub new : is_among (map item_name before) (item_name i) ≡ false
   pub fits : (is_atomic i && nat_le 4096 (length (filter is_atomic before))) ≡ false
   pub found : (not (is_atomic i) && not (is_some (section_of ss i))) ≡ false
 

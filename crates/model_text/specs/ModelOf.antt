@@ -99,7 +99,7 @@ model_in ss files classes drawing =
 
 -- ---- the whole file
 
--- a file of more than 16777216 bytes
+-- a file of more than MAX_FILE_BYTES bytes
 abbrev pub length_refused : Bytes → Option Refusal
 length_refused bytes = if is_long bytes then Some (refusal 0 TooLong) else None
 

@@ -55,41 +55,41 @@ number_of UnknownVariable = 30
 number_of UnknownNeighbourPort = 31
 
 -- the name that is shown
-abbrev pub name_of : Kind → Bytes
-name_of BadLine = codes "BadLine"
-name_of DuplicateSection = codes "DuplicateSection"
-name_of NoTop = codes "NoTop"
-name_of DuplicateKey = codes "DuplicateKey"
-name_of MissingKey = codes "MissingKey"
-name_of BadValue = codes "BadValue"
-name_of UnknownComponent = codes "UnknownComponent"
-name_of DuplicateComponent = codes "DuplicateComponent"
-name_of ComponentCycle = codes "ComponentCycle"
-name_of UnknownClass = codes "UnknownClass"
-name_of OutOfStock = codes "OutOfStock"
-name_of BadParameter = codes "BadParameter"
-name_of UnknownPort = codes "UnknownPort"
-name_of SelfLink = codes "SelfLink"
-name_of PassThrough = codes "PassThrough"
-name_of DuplicateLink = codes "DuplicateLink"
-name_of TooManyRoutes = codes "TooManyRoutes"
-name_of BadRule = codes "BadRule"
-name_of BadSort = codes "BadSort"
-name_of RandomRefused = codes "RandomRefused"
-name_of UnknownFunction = codes "UnknownFunction"
-name_of NotANeighbour = codes "NotANeighbour"
-name_of BadZone = codes "BadZone"
-name_of BadInitial = codes "BadInitial"
-name_of TooLarge = codes "TooLarge"
-name_of TooLong = codes "TooLong"
-name_of NoSection = codes "NoSection"
-name_of NoSuchPlane = codes "NoSuchPlane"
-name_of UnknownVariable = codes "UnknownVariable"
-name_of UnknownNeighbourPort = codes "UnknownNeighbourPort"
+abbrev pub kind_name : Kind → Bytes
+kind_name BadLine = codes "BadLine"
+kind_name DuplicateSection = codes "DuplicateSection"
+kind_name NoTop = codes "NoTop"
+kind_name DuplicateKey = codes "DuplicateKey"
+kind_name MissingKey = codes "MissingKey"
+kind_name BadValue = codes "BadValue"
+kind_name UnknownComponent = codes "UnknownComponent"
+kind_name DuplicateComponent = codes "DuplicateComponent"
+kind_name ComponentCycle = codes "ComponentCycle"
+kind_name UnknownClass = codes "UnknownClass"
+kind_name OutOfStock = codes "OutOfStock"
+kind_name BadParameter = codes "BadParameter"
+kind_name UnknownPort = codes "UnknownPort"
+kind_name SelfLink = codes "SelfLink"
+kind_name PassThrough = codes "PassThrough"
+kind_name DuplicateLink = codes "DuplicateLink"
+kind_name TooManyRoutes = codes "TooManyRoutes"
+kind_name BadRule = codes "BadRule"
+kind_name BadSort = codes "BadSort"
+kind_name RandomRefused = codes "RandomRefused"
+kind_name UnknownFunction = codes "UnknownFunction"
+kind_name NotANeighbour = codes "NotANeighbour"
+kind_name BadZone = codes "BadZone"
+kind_name BadInitial = codes "BadInitial"
+kind_name TooLarge = codes "TooLarge"
+kind_name TooLong = codes "TooLong"
+kind_name NoSection = codes "NoSection"
+kind_name NoSuchPlane = codes "NoSuchPlane"
+kind_name UnknownVariable = codes "UnknownVariable"
+kind_name UnknownNeighbourPort = codes "UnknownNeighbourPort"
 
 -- number and name, as they are shown
 abbrev pub kind_text : Kind → Bytes
-kind_text k = decimal (number_of k) ++ 32 ∷ name_of k
+kind_text k = decimal (number_of k) ++ 32 ∷ kind_name k
 
 -- ---- refusals of parts; want of memory is none of the model's
 

@@ -18,7 +18,7 @@ use Rattle.ma_lines.specs.Sections.{Section}
 use Rattle.rule_words.specs.declared.refusal.RuleRefusal.{RuleRefusal}
 use Rattle.rule_tree.specs.Scope.{Names}
 use Rattle.rule_syntax.specs.RuleOf.{rule_of}
-use Rattle.model_text.specs.Keyed.{section_named, entries_of, texts_of, Item, least}
+use Rattle.model_text.specs.Keyed.{section_named, entries_of, texts_of, Item, least_refusal}
 use Rattle.model_text.specs.Walk.{groups}
 use Rattle.cell_grid.specs.ZoneTexts.{zone_in}
 use Rattle.model_text.specs.Spaces.{space_of, offsets_of, PortPlace, port_place}
@@ -96,9 +96,9 @@ of_group_rules ss s =
     flat_map (absent ss) (rules_named s)
     ++ flat_map (of_rules (names_of s)) (sections_named ss (rule_sets_named s))
 
--- the least refusal of all rules
+-- the least_refusal refusal of all rules
 abbrev pub rules_refused : List Section → Option Refusal
-rules_refused ss = least (flat_map (of_group_rules ss) (groups ss))
+rules_refused ss = least_refusal (flat_map (of_group_rules ss) (groups ss))
 
 -- ---- the rules of a group
 

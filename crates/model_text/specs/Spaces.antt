@@ -3,6 +3,7 @@ use Rattle.std.specs.Prelude.{ℕ, ◌+◌, ◌==◌, Bool, false, not, ◌&&◌
 use Rattle.std.specs.List.{filter, filter_map, flat_map, list_all, list_any}
 use Rattle.std.specs.Option.{option_map, option_and_then, option_or, is_some, unwrap_or}
 use Rattle.std.specs.Str.{bytes_eq}
+use Rattle.quantity.specs.declared.bounds.TheConstants.{MAX_CELLS}
 use Rattle.quantity.specs.declared.place.Offset.{Offset}
 use Rattle.cell_grid.specs.Space.{Space, cell_count}
 use Rattle.cell_grid.specs.Region.{Region}
@@ -16,7 +17,7 @@ use Rattle.model_text.specs.Refusals.{Refusal, refusal}
 use Rattle.ma_lines.specs.declared.section.Entry.{Entry}
 use Rattle.ma_lines.specs.Sections.{Section}
 use Rattle.rule_tree.specs.Scope.{offset_of, same_offset}
-use Rattle.model_text.specs.Keyed.{entries_of, value_of, is_value, least, at_entry, each_entry}
+use Rattle.model_text.specs.Keyed.{entries_of, value_of, is_value, least_refusal, at_entry, each_entry}
 use Rattle.model_text.specs.Walk.{groups}
 use Rattle.model_text.specs.Forms.{tuples_of, PortRuleText, port_rule_text}
 use Rattle.cell_grid.specs.Places.{is_offset, cell_in}
@@ -64,10 +65,10 @@ abbrev pub first_large : ℕ → List Section → Option Refusal
 first_large cells [] = None
 first_large cells (g ∷ gs) =
     let more = cells + cell_count (space_of g) in
-    option_or (if nat_lt 1048576 more then Some (refusal g.line TooLarge) else None)
+    option_or (if nat_lt MAX_CELLS more then Some (refusal g.line TooLarge) else None)
     (first_large more gs)
 
--- more than 1048576 cells in all groups
+-- more than MAX_CELLS cells in all groups
 abbrev pub cells_refused : List Section → Option Refusal
 cells_refused ss = first_large 0 (groups ss)
 
@@ -165,6 +166,6 @@ of_space s =
     ++ each_entry (codes "initialrow") s (λ e. at_entry e BadInitial (is_some (row_in s e)))
     ++ too_many_offsets s
 
--- the least refusal of all spaces
+-- the least_refusal refusal of all spaces
 abbrev pub spaces_refused : List Section → Option Refusal
-spaces_refused ss = least (flat_map of_space (groups ss))
+spaces_refused ss = least_refusal (flat_map of_space (groups ss))

@@ -13,7 +13,7 @@ use Rattle.model_text.specs.declared.kind.Kind.{Kind}
 use Rattle.model_text.specs.declared.kind.Kind.TheVariants.{UnknownClass, OutOfStock, BadParameter}
 use Rattle.model_text.specs.Refusals.{Refusal, refusal}
 use Rattle.model_text.specs.Keyed.{section_named, Item}
-use Rattle.model_text.specs.Walk.{name_of, class_of, atomics}
+use Rattle.model_text.specs.Walk.{item_name, class_of, atomics}
 
 -- the class of an atomic component, if there is one of its name
 abbrev pub class_of_item : Item → Option Class
@@ -30,7 +30,7 @@ params_in (Some s) = map param_of s.entries
 
 -- the parameters of an atomic component: the entries of the section of its name, where there is one
 abbrev pub params_of : List Section → Item → List Param
-params_of ss i = params_in (section_named ss (name_of i))
+params_of ss i = params_in (section_named ss (item_name i))
 
 -- how many boxes of a class there are
 abbrev pub boxes_of : Class → List Class → ℕ

@@ -16,7 +16,7 @@ use Rattle.quantity.specs.Literals.{value_in}
 use Rattle.source_text.specs.Lines.{Files}
 use Rattle.ma_lines.specs.Sections.{Section}
 use Rattle.model_text.specs.Keyed.{section_named, value_of, is_value, texts_of, Item}
-use Rattle.model_text.specs.Walk.{top, is_group, children_of, name_of, section_of}
+use Rattle.model_text.specs.Walk.{top, is_group, children_of, item_name, section_of}
 use Rattle.model_text.specs.Spaces.{space_of, offsets_of, zones_of, rows_of, PortPlace, port_places}
 use Rattle.cell_grid.specs.Initial.{filled, with_rows, with_map, with_cells, map_file, cells_file}
 use Rattle.atomic_face.specs.Settings.{settings_of}
@@ -107,7 +107,7 @@ group_of files ss s =
 -- an atomic component, where its class is there
 abbrev pub atomic_of : List Section → Item → Option Class → List Tree
 atomic_of ss i None = []
-atomic_of ss i (Some class) = atomic (name_of i) class (settings_of class (params_of ss i)) ∷ []
+atomic_of ss i (Some class) = atomic (item_name i) class (settings_of class (params_of ss i)) ∷ []
 
 -- a list of components as children
 abbrev pub trees : List Tree → Trees

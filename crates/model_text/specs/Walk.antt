@@ -34,8 +34,8 @@ abbrev pub children_of : Section → List Item
 children_of s = if is_group s then [] else items_of (codes "components") s
 
 -- what stands before the `@`
-abbrev pub name_of : Item → Bytes
-name_of i = before_first (is_byte 64) i.text
+abbrev pub item_name : Item → Bytes
+item_name i = before_first (is_byte 64) i.text
 
 -- an item with a class
 abbrev pub is_atomic : Item → Bool
@@ -47,11 +47,11 @@ class_of i = after_first (is_byte 64) i.text
 
 -- a name, or a name and the name of a class
 abbrev pub is_item : Item → Bool
-is_item i = is_name (name_of i) && (not (is_atomic i) || is_name (class_of i))
+is_item i = is_name (item_name i) && (not (is_atomic i) || is_name (class_of i))
 
 -- the section of a bare item
 abbrev pub section_of : List Section → Item → Option Section
-section_of ss i = if is_atomic i then None else section_named ss (name_of i)
+section_of ss i = if is_atomic i then None else section_named ss (item_name i)
 
 -- ---- the walk
 
@@ -62,7 +62,7 @@ pub data Step : Type 0 where
 
 -- the section that is walked behind an item, unless it is around it
 abbrev pub below : List Section → List Bytes → Item → Option Section
-below ss around i = if is_among around (name_of i) then None else section_of ss i
+below ss around i = if is_among around (item_name i) then None else section_of ss i
 
 -- from a section that may have so many levels of sections, itself included
 abbrev pub walk_from : ℕ → List Section → List Bytes → ℕ → Section → List Step
@@ -117,8 +117,8 @@ atomics ss = filter is_atomic (items_in (walk ss))
 abbrev pub item_refused : List Section → List Item → List Bytes → Item → Option Kind
 item_refused ss before around i =
     if not (is_item i) then Some BadValue
-    else if bytes_eq (name_of i) top || is_among around (name_of i) then Some ComponentCycle
-    else if is_among (map name_of before) (name_of i) then Some DuplicateComponent
+    else if bytes_eq (item_name i) top || is_among around (item_name i) then Some ComponentCycle
+    else if is_among (map item_name before) (item_name i) then Some DuplicateComponent
     else if is_atomic i && nat_le 4096 (length (filter is_atomic before)) then Some TooLarge
     else if not (is_atomic i) && not (is_some (section_of ss i)) then Some UnknownComponent
     else None

@@ -1,4 +1,5 @@
--- Words for the steps of judging a link: what is asked of a component, and the causes one after another.
+-- Words for the steps of judging a link: what is asked of a component, and the causes one after
+-- another.
 use Rattle.std.specs.Prelude.{◌≡◌, ℕ, ℤ, Bool, not, Option, Some, None, List, [], ◌∷◌, if◌then◌else◌}
 use Rattle.std.specs.List.{list_any}
 use Rattle.std.specs.Str.{bytes_eq}
@@ -47,7 +48,8 @@ first_cause known before l =
 abbrev pub child_in : List Component → (ℕ → List ℤ) → Word → Option Tree
 child_in [] settings name = None
 child_in (c ∷ cs) settings name =
-    if bytes_eq (name_of (part_of c settings)) name then Some (part_of c settings) else child_in cs settings name
+    if bytes_eq (name_of (part_of c settings)) name then Some (part_of c settings)
+    else child_in cs settings name
 
 -- no child has this name
 abbrev pub NoneNamed : List Component → Word → Type 0
@@ -55,4 +57,5 @@ NoneNamed cs name = (settings : ℕ → List ℤ) → child_in cs settings name 
 
 -- this is the first child of the name
 abbrev pub FirstNamed : List Component → Word → Component → Type 0
-FirstNamed cs name c = (settings : ℕ → List ℤ) → child_in cs settings name ≡ Some (part_of c settings)
+FirstNamed cs name c =
+    (settings : ℕ → List ℤ) → child_in cs settings name ≡ Some (part_of c settings)

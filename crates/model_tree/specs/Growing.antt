@@ -15,7 +15,9 @@ use Rattle.model_tree.specs.Table.{Seat, box_seat, seats, seat_at, seats_from, c
 
 -- its rows show these seats
 abbrev pub Shows : Growing → List Seat → Type 0
-Shows t ss = (parts : List Part) (names : List Word) → seats (t.parts.items ++ parts) (t.ports.items ++ names) t.rows.items ≡ map Some ss
+Shows t ss =
+    (parts : List Part) (names : List Word)
+    → seats (t.parts.items ++ parts) (t.ports.items ++ names) t.rows.items ≡ map Some ss
 
 -- these seats stand behind those that were shown
 abbrev pub Grows : Growing → Growing → List Seat → Type 0
@@ -35,7 +37,8 @@ cell_seats g number = map (cell_seat_of g number) (range_with_len 0 (cell_count 
 
 -- the same, as they belong to a part
 abbrev pub part_seats : PartAt → Word → CellGroup → List Seat
-part_seats at name g = map (λ n. seat_at at name n (cell_ports (group_of g) n)) (range_with_len 0 (cell_count g.grid))
+part_seats at name g =
+    map (λ n. seat_at at name n (cell_ports (group_of g) n)) (range_with_len 0 (cell_count g.grid))
 
 -- the number of groups in some components
 abbrev pub groups_in_all : List Component → ℕ

@@ -8,13 +8,16 @@ use Rattle.model_tree.specs.Tree.{Group, Tree, Trees, coupled, cells, atomic, ni
 -- the groups are counted in declared order, from this number on
 abbrev mutual
   pub laid_from : Tree → ℕ → List (List Value) → Tree
-  laid_from (coupled name ins outs children links) first values = coupled name ins outs (all_laid_from children first values) links
-  laid_from (cells g) first values = cells (record g { initial = unwrap_or (slice_get values first) g.initial })
+  laid_from (coupled name ins outs children links) first values =
+      coupled name ins outs (all_laid_from children first values) links
+  laid_from (cells g) first values =
+      cells (record g { initial = unwrap_or (slice_get values first) g.initial })
   laid_from (atomic name class settings) first values = atomic name class settings
 
   pub all_laid_from : Trees → ℕ → List (List Value) → Trees
   all_laid_from nil first values = nil
-  all_laid_from (cons c rest) first values = cons (laid_from c first values) (all_laid_from rest (first + length (groups c)) values)
+  all_laid_from (cons c rest) first values =
+      cons (laid_from c first values) (all_laid_from rest (first + length (groups c)) values)
 
 -- each group has the values of its number
 abbrev pub laid : List (List Value) → Tree → Tree

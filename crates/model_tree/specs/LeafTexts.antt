@@ -15,7 +15,8 @@ at_text (n ∷ ns) = 40 ∷ (join_with_byte 44 (map decimal (n ∷ ns)) ++ codes
 -- an atomic component's name; of a cell, the group's name and two or three coordinates
 abbrev pub leaf_text : Leaf → Bytes
 leaf_text (atomic_leaf name class settings) = name
-leaf_text (cell_leaf g first cell) = g.name ++ at_text (take (dims_of g.space) (coordinates (place_of g.space cell)))
+leaf_text (cell_leaf g first cell) =
+    g.name ++ at_text (take (dims_of g.space) (coordinates (place_of g.space cell)))
 
 -- the name of this number, or no bytes where there is none
 abbrev pub name_at : List Word → ℕ → Word

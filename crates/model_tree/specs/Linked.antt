@@ -14,7 +14,8 @@ use Rattle.model_tree.specs.Stands.{group_of, part_of}
 
 -- the face of what has no ports
 abbrev pub no_face : Face
-no_face = record { ins = []; outs = []; inputs_of = λ child. []; outputs_of = λ child. []; cells = 0 }
+no_face =
+    record { ins = []; outs = []; inputs_of = λ child. []; outputs_of = λ child. []; cells = 0 }
 
 -- what a link inside a component may join
 abbrev pub face_of : Tree → Face
@@ -30,20 +31,24 @@ links_of (atomic name class settings) = []
 
 -- one more link behind the others
 abbrev pub with_link : Link → Tree → Tree
-with_link l (coupled name ins outs children links) = coupled name ins outs children (links ++ l ∷ [])
+with_link l (coupled name ins outs children links) =
+    coupled name ins outs children (links ++ l ∷ [])
 with_link l (cells g) = cells (record g { links = g.links ++ l ∷ [] })
 with_link l (atomic name class settings) = atomic name class settings
 
--- a link that no cause refuses is added; else nothing changes, and the first cause is answered, or want of memory
+-- a link that no cause refuses is added; else nothing changes, and the first cause is answered, or
+-- want of memory
 abbrev pub LinkGives : Tree → Link → Result Unit LinkRefusal → Tree → Type 0
-LinkGives old l (Ok u) new = (link_refused (face_of old) (links_of old) l ≡ None) × (new ≡ with_link l old)
+LinkGives old l (Ok u) new =
+    (link_refused (face_of old) (links_of old) l ≡ None) × (new ≡ with_link l old)
 LinkGives old l (Err why) new =
     (new ≡ old) × ((link_refused (face_of old) (links_of old) l ≡ Some why) ⊎ (why ≡ Memory))
 
 -- the same for what the code has, whatever the settings of the boxes
 abbrev pub LinksCoupled : Coupled → Link → Result Unit LinkRefusal → Coupled → Type 0
 LinksCoupled old l r new =
-    (settings : ℕ → List ℤ) → LinkGives (part_of (in_tree old) settings) l r (part_of (in_tree new) settings)
+    (settings : ℕ → List ℤ) → LinkGives (part_of (in_tree old) settings) l r
+    (part_of (in_tree new) settings)
 
 -- a link more in a group, or its refusal
 abbrev pub LinksGroup : CellGroup → Link → Result Unit LinkRefusal → CellGroup → Type 0

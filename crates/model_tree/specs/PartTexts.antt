@@ -10,7 +10,8 @@ use Rattle.model_tree.specs.LeafTexts.{at_text}
 -- the name of a box, or of a cell with its coordinates
 abbrev pub part_text : PartAt → Word → ℕ → Word
 part_text (Atomic box) name cell = name
-part_text (Cells group grid ports) name cell = name ++ at_text (take (dims_of grid) (coordinates (place_of grid cell)))
+part_text (Cells group grid ports) name cell =
+    name ++ at_text (take (dims_of grid) (coordinates (place_of grid cell)))
 
 -- the output ports of a box, or of a group's cells
 abbrev pub part_outs : PartAt → List Word

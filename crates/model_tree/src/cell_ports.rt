@@ -52,7 +52,8 @@ fn no_names(alloc: Global, cells: u32) -> Result<Vec<Vec<Name>>, OutOfMemory>
 
 /// Appends the port at an end of a link to the names of its cell, unless it is there.
 fn add_to_end(alloc: Global, end: &End, all: &mut [Vec<Name>]) -> Result<(), OutOfMemory>
-    ensures { OnOk result (map (λ v. v.items) all.new ≡ with_end end.now (map (λ v. v.items) all.old)) }
+    ensures { OnOk result (map (λ v. v.items) all.new
+        ≡ with_end end.now (map (λ v. v.items) all.old)) }
 {
     match end {
         End::Own(_) | End::Child(_, _) => Ok(()),
@@ -81,7 +82,8 @@ fn add_to_cell(
 
 /// Appends the port of a cell that a link leads to, unless its name is there.
 fn add_port(alloc: Global, link: &Link, cell: u32, names: &mut Vec<Name>) -> Result<(), OutOfMemory>
-    ensures { OnOk result (names.new.items ≡ with_port names.old.items (port_of_cell cell link.now)) }
+    ensures { OnOk result (names.new.items
+        ≡ with_port names.old.items (port_of_cell cell link.now)) }
 {
     match &link.to {
         End::Cell(port, at) if *at == cell => add_name(alloc, port, names),

@@ -161,8 +161,8 @@ impl Model {
         self.groups
     }
 
-    /// The group of this number, counted in declared order. It goes down the tree, so a run asks for
-    /// each group once, at its start.
+    /// The group of this number, counted in declared order. It goes down the tree, so a run asks
+    /// for each group once, at its start.
     pub fn group(&self, number: u32) -> &CellGroup
         requires { number < length (groups (tree_of self.now no_settings)) }
         ensures { OfTree self.now (λ t. slice_get (groups t) number ≡ Some (group_of result.now)) }

@@ -13,9 +13,9 @@ use crate::link::{End, Link};
 use crate::refusal::LinkRefusal;
 
 impl Coupled {
-    /// Adds a link behind the others, or answers the first cause that applies and changes nothing: an
-    /// end that is no port here, both ends at one child, both ends the component's own, a link that
-    /// is there already.
+    /// Adds a link behind the others, or answers the first cause that applies and changes nothing:
+    /// an end that is no port here, both ends at one child, both ends the component's own, a link
+    /// that is there already.
     pub fn link(&mut self, link: Link) -> Result<(), LinkRefusal>
         ensures { LinksCoupled self.old link result self.new }
     {
@@ -65,9 +65,9 @@ impl Coupled {
 }
 
 impl CellGroup {
-    /// Adds a link behind the others, or answers the first cause that applies and changes nothing: an
-    /// end that is no port here, both ends at one cell, both ends the group's own, a link that is
-    /// there already.
+    /// Adds a link behind the others, or answers the first cause that applies and changes nothing:
+    /// an end that is no port here, both ends at one cell, both ends the group's own, a link that
+    /// is there already.
     pub fn link(&mut self, link: Link) -> Result<(), LinkRefusal>
         ensures { LinksGroup self.old link result self.new }
     {
@@ -111,7 +111,8 @@ impl CellGroup {
     }
 }
 
-/// The first cause to refuse a link that stands after these. `known` says whether its ends are ports.
+/// The first cause to refuse a link that stands after these. `known` says whether its ends are
+/// ports.
 fn first_refusal(known: bool, link: &Link, before: &[Link]) -> Option<LinkRefusal>
     ensures { result ≡ first_cause known before.now link.now }
 {

@@ -1,13 +1,14 @@
--- The least of refusals that are met one after another.
+-- The least_refusal of refusals that are met one after another.
 use Rattle.std.specs.Prelude.{◌≡◌, Option, Some, None, List, ◌++◌}
 use Rattle.model_text.specs.Refusals.{Refusal}
-use Rattle.model_text.specs.Keyed.{lesser, least}
+use Rattle.model_text.specs.Keyed.{lesser, least_refusal}
 
 -- the one that comes before the other, the first where neither does
 abbrev pub merged : Option Refusal → Option Refusal → Option Refusal
 merged None b = b
 merged (Some a) b = Some (lesser a b)
 
--- the least of two parts' refusals is that of their least ones
+-- the least_refusal of two parts' refusals is that of their least_refusal ones
 abbrev pub LeastOfBoth : Type 0
-LeastOfBoth = (xs ys : List Refusal) → least (xs ++ ys) ≡ merged (least xs) (least ys)
+LeastOfBoth =
+    (xs ys : List Refusal) → least_refusal (xs ++ ys) ≡ merged (least_refusal xs) (least_refusal ys)

@@ -7,9 +7,11 @@ ghost use Rattle.model_walk.specs.Least.{merged, LeastOfBoth};
 
 use crate::refused::Refused;
 
-/// The least line of two refusals, and on one line the least number; the first where both are the same.
+/// The least line of two refusals, and on one line the least number; the first where both are the
+/// same.
 pub fn least(a: Option<Refused>, b: Option<Refused>) -> Option<Refused>
-    ensures { option_map refusal_of result ≡ merged (option_map refusal_of a) (option_map refusal_of b) }
+    ensures { option_map refusal_of result
+        ≡ merged (option_map refusal_of a) (option_map refusal_of b) }
 {
     let Some(first) = a else {
         return b;

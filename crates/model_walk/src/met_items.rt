@@ -33,7 +33,7 @@ impl<'a> Model for MetItems<'a> {
 
     ghost view = { λ d. map item_of d.items.items };
 
-    ghost invariant = { λ d. (d.names ≡ map W.name_of (map item_of d.items.items)) × (d.atomics ≡ length (filter W.is_atomic (map item_of d.items.items))) };
+    ghost invariant = { λ d. (d.names ≡ map W.item_name (map item_of d.items.items)) × (d.atomics ≡ length (filter W.is_atomic (map item_of d.items.items))) };
 }
 
 impl<'a> MetItems<'a> {
@@ -50,22 +50,24 @@ impl<'a> MetItems<'a> {
 
     /// Whether an item of this one's name is there.
     pub(crate) fn has_name_of(&self, item: &Item<'_>) -> bool
-        ensures { result ≡ is_among (map W.name_of self.now) (W.name_of (item_of item.now)) }
+        ensures { result ≡ is_among (map W.item_name self.now) (W.item_name (item_of item.now)) }
     {
         self.names.contains(name_of(item))
     }
 
     /// Whether this is an atomic component, and as many as there may be are there.
     pub(crate) fn is_full_for(&self, item: &Item<'_>) -> bool
-        ensures { result ≡ (W.is_atomic (item_of item.now) && nat_le 4096 (length (filter W.is_atomic self.now))) }
+        ensures { result ≡ (W.is_atomic (item_of item.now)
+            && nat_le 4096 (length (filter W.is_atomic self.now))) }
     {
         is_atomic(item) && MOST_ATOMICS <= self.atomics
     }
 
     /// Puts an item behind the others.
     pub(crate) fn add(&mut self, item: Item<'a>) -> Result<(), OutOfMemory>
-        requires is_new { is_among (map W.name_of self.old) (W.name_of (item_of item)) ≡ false }
-        requires has_room { (W.is_atomic (item_of item) && nat_le 4096 (length (filter W.is_atomic self.old))) ≡ false }
+        requires is_new { is_among (map W.item_name self.old) (W.item_name (item_of item)) ≡ false }
+        requires has_room { (W.is_atomic (item_of item)
+            && nat_le 4096 (length (filter W.is_atomic self.old))) ≡ false }
         ensures added { OnOk result (self.new ≡ self.old ++ item_of item.entry ∷ []) }
     {
         self.items.reserve(1)?;

@@ -11,7 +11,8 @@ use Rattle.model_tree.specs.Stands.{part_of}
 abbrev pub place_from : List Component → (ℕ → List ℤ) → Word → ℕ → Option ℕ
 place_from [] settings name n = None
 place_from (c ∷ cs) settings name n =
-    if bytes_eq (name_of (part_of c settings)) name then Some n else place_from cs settings name (n + 1)
+    if bytes_eq (name_of (part_of c settings)) name then Some n
+    else place_from cs settings name (n + 1)
 
 -- the place that is kept for a name
 abbrev pub kept_for : List (Bor Word × ℕ) → Word → Option ℕ
@@ -24,8 +25,12 @@ place_or (Some n) other = Some n
 
 -- a place for each name that one of the children has: that of the first such child
 abbrev pub LeadToFirst : List (Bor Word × ℕ) → List Component → Type 0
-LeadToFirst places children = (settings : ℕ → List ℤ) (name : Word) → kept_for places name ≡ place_from children settings name 0
+LeadToFirst places children =
+    (settings : ℕ → List ℤ) (name : Word)
+    → kept_for places name ≡ place_from children settings name 0
 
 -- a place is kept for one name more, unless there is one for it
 abbrev pub AddsPlace : List (Bor Word × ℕ) → List (Bor Word × ℕ) → Word → ℕ → Type 0
-AddsPlace old new added n = (name : Word) → kept_for new name ≡ place_or (kept_for old name) (if bytes_eq name added then Some n else None)
+AddsPlace old new added n =
+    (name : Word) → kept_for new name ≡ place_or (kept_for old name)
+    (if bytes_eq name added then Some n else None)

@@ -116,7 +116,8 @@ stands_at i settings first own e = P.at_source e own (child_lists i settings fir
 
 -- what stands where a link of a coupled component begins
 abbrev pub coupled_at : Coupled → (ℕ → List ℤ) → ℕ → (Word → List P.Source) → Link → List P.Source
-coupled_at c settings first own l = P.at_source l.from own (given_in c.children.items settings first) P.nothing
+coupled_at c settings first own l =
+    P.at_source l.from own (given_in c.children.items settings first) P.nothing
 
 -- what stands where each of these links begins
 abbrev pub brought_by : Inside → (ℕ → List ℤ) → ℕ → (Word → List P.Source) → List Link

@@ -18,7 +18,8 @@ pub(crate) enum Place {
     Cell(Vec<u8>, u32),
 }
 
-/// The nodes of links by where the links lead. Those of one place stand in the order of their links.
+/// The nodes of links by where the links lead. Those of one place stand in the order of their
+/// links.
 #[derive(Drop)]
 pub(crate) struct Arrivals {
     pub(crate) by_place: IndexMap<Place, Vec<u32>>,

@@ -24,7 +24,8 @@ impl Growing {
     /// One more leaf, with these nodes at its ports.
     pub(crate) fn put(&mut self, row: &[u32]) -> Result<(), OutOfMemory>
         ensures ok { OnOk result
-            ((ins : List Word) (lists : List (List AnySource)) → AllGive ins self.old.nodes.items row.now lists
+            ((ins : List Word) (lists : List (List AnySource))
+            → AllGive ins self.old.nodes.items row.now lists
             → Grows ins self.old self.new (lists ∷ [])) }
         ensures nodes { self.new.nodes.items ≡ self.old.nodes.items }
     {

@@ -1,5 +1,5 @@
-// The net of a model: first the inputs of top, then what components give, from the leaves up, and then
-// what reaches the leaves, from top down.
+// The net of a model: first the inputs of top, then what components give, from the leaves up, and
+// then what reaches the leaves, from top down.
 ghost use Rattle.std.specs.Prelude.{◌≡◌, ℕ, ℤ, List, map, IfOk, OnOk};
 ghost use Rattle.std.specs.List.{range_with_len};
 ghost use Rattle.model_tree.specs.declared.component.Component.TheVariants as in_tree;
@@ -64,7 +64,8 @@ fn outputs_of_top(
 ) -> Result<Vec<u32>, OutOfMemory>
     ensures extends { OnOk result (Extends nodes.old.items nodes.new.items) }
     ensures gives { IfOk result (λ ks. (ins : List Word) (settings : ℕ → List ℤ)
-        → AllGive ins nodes.new.items ks.items (top_sources (part_of (in_tree.Coupled top.now) settings))) }
+        → AllGive ins nodes.new.items ks.items
+        (top_sources (part_of (in_tree.Coupled top.now) settings))) }
 {
     let out = outputs_of_coupled(alloc, top, 0, nodes)?;
     let ports = Ports::Linked(&out.links, At::Own);

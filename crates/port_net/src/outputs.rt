@@ -43,7 +43,8 @@ pub(crate) fn outputs_of_coupled(
     nodes: &mut Vec<Node>,
 ) -> Result<Outputs, OutOfMemory>
     ensures extends { OnOk result (Extends nodes.old.items nodes.new.items) }
-    ensures ok { IfOk result (λ out. AreOutputs nodes.new.items (in_tree.Coupled coupled.now) first out) }
+    ensures ok { IfOk result (λ out. AreOutputs nodes.new.items
+        (in_tree.Coupled coupled.now) first out) }
 {
     let outs = outputs_of_all(alloc, &coupled.children, first, nodes)?;
     let links = coupled_arrivals(alloc, coupled, &Ports::Nothing, &outs, nodes)?;
@@ -84,7 +85,8 @@ fn outputs_of_group(
     nodes: &mut Vec<Node>,
 ) -> Result<Outputs, OutOfMemory>
     ensures extends { OnOk result (Extends nodes.old.items nodes.new.items) }
-    ensures ok { IfOk result (λ out. AreOutputs nodes.new.items (in_tree.Cells group.now) first out) }
+    ensures ok { IfOk result (λ out. AreOutputs nodes.new.items
+        (in_tree.Cells group.now) first out) }
 {
     let links = arrivals(
         alloc,

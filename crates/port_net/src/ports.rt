@@ -3,8 +3,8 @@ use crate::arrivals::Arrivals;
 use crate::children::Children;
 use quantity::Name;
 
-/// What a component gives: its first leaf, how many leaves it has, and the nodes of what its links bring
-/// where nothing stands at the own inputs.
+/// What a component gives: its first leaf, how many leaves it has, and the nodes of what its links
+/// bring where nothing stands at the own inputs.
 #[derive(Drop)]
 pub(crate) struct Outputs {
     pub(crate) first: u32,
@@ -12,8 +12,8 @@ pub(crate) struct Outputs {
     pub(crate) links: Arrivals,
 }
 
-/// Which links are meant of those that lead to ports of a name: to own ports, to those of a child, or to
-/// those of a cell.
+/// Which links are meant of those that lead to ports of a name: to own ports, to those of a child,
+/// or to those of a cell.
 #[derive(Clone, Copy)]
 pub(crate) enum At<'n> {
     Own,
@@ -21,8 +21,8 @@ pub(crate) enum At<'n> {
     Cell(u32),
 }
 
-/// Where the lists at ports come from: nothing stands there, or the inputs of top by these names, or what
-/// links bring, by their nodes.
+/// Where the lists at ports come from: nothing stands there, or the inputs of top by these names,
+/// or what links bring, by their nodes.
 #[derive(Clone, Copy)]
 pub(crate) enum Ports<'k, 'n> {
     Nothing,
@@ -30,7 +30,8 @@ pub(crate) enum Ports<'k, 'n> {
     Linked(&'k Arrivals, At<'n>),
 }
 
-/// What is inside a component: children with their outputs, or cells, the first of which is this leaf.
+/// What is inside a component: children with their outputs, or cells, the first of which is this
+/// leaf.
 #[derive(Clone, Copy)]
 pub(crate) enum Inside<'i, 'c> {
     Children(&'i Children<'c>, &'i [Outputs]),

@@ -48,7 +48,8 @@ pub(crate) fn put_coupled(
     net: &mut Growing,
 ) -> Result<(), OutOfMemory>
     ensures extends { OnOk result (Extends net.old.nodes.items net.new.nodes.items) }
-    ensures takes { OnOk result (Takes (in_tree.Coupled coupled.now) first own.now net.old net.new) }
+    ensures takes { OnOk result (Takes
+        (in_tree.Coupled coupled.now) first own.now net.old net.new) }
 {
     let outs = outputs_of_all(alloc, &coupled.children, first, &mut net.nodes)?;
     let links = coupled_arrivals(alloc, coupled, own, &outs, &mut net.nodes)?;
@@ -101,7 +102,8 @@ fn put_leaf(
 ) -> Result<(), OutOfMemory>
     ensures extends { OnOk result (Extends net.old.nodes.items net.new.nodes.items) }
     ensures takes { OnOk result
-        ((ins : List Word) (lists : Word → List AnySource) → PortsAre ins net.old.nodes.items own.now lists
+        ((ins : List Word) (lists : Word → List AnySource)
+        → PortsAre ins net.old.nodes.items own.now lists
         → Grows ins net.old net.new (map lists names.now ∷ [])) }
 {
     let ks = row(alloc, own, names, &mut net.nodes)?;

@@ -16,7 +16,10 @@ pub record IsList (ns : List Node) (node : ℕ) (old new : List Source) (span : 
   pub first : span.first ≡ length old
   pub count : span.count ≡ length (list_of ns node)
 
--- the lists of these nodes stand behind the others, and these are their spans, whatever stands behind them later
-pub record AreLists (ns : List Node) (ports : List ℕ) (old new : List Source) (spans : List Span) : Type 0 where
+-- the lists of these nodes stand behind the others, and these are their spans, whatever stands
+-- behind them later
+pub record AreLists (ns : List Node) (ports : List ℕ) (old new : List Source)
+    (spans : List Span) : Type 0 where
   pub grown : new ≡ old ++ flat_map (list_of ns) ports
-  pub shown : (more : List Source) → map (span_at (new ++ more)) spans ≡ map (λ k. Some (list_of ns k)) ports
+  pub shown : (more : List Source) → map (span_at (new ++ more)) spans
+      ≡ map (λ k. Some (list_of ns k)) ports

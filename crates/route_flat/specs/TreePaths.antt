@@ -38,5 +38,6 @@ made_in make lists = flat_map (made_at make) (enumerate_from 0 lists)
 pub record PathsOfTree (t : Tree) (r : Flat) : Type 0 where
   pub parts : paths_of r ≡ leaf_paths r ++ top_paths r
   pub leaves : map (made_of tree_path (ins_of t)) (leaf_paths r) ≡ made_in tree_path (P.sources t)
-  pub tops : map (made_of tree_path (ins_of t)) (top_paths r) ≡ made_at tree_path (0, P.top_sources t)
+  pub tops : map (made_of tree_path (ins_of t)) (top_paths r)
+      ≡ made_at tree_path (0, P.top_sources t)
   pub inputs : All (λ (p : Path). IsThere (ins_of t) p.from) (paths_of r)

@@ -40,7 +40,8 @@ ways_to_top p = ways_at (target.TopOut p.0) p.1
 -- all paths, by leaf, port and place among the sources of the port, and then by outputs of top
 abbrev pub ways_of : Flat → List Way
 ways_of r =
-    flat_map ways_to_leaf (enumerate_from 0 r.ports) ++ flat_map ways_to_top (enumerate_from 0 r.tops)
+    flat_map ways_to_leaf (enumerate_from 0 r.ports)
+    ++ flat_map ways_to_top (enumerate_from 0 r.tops)
 
 -- the path of a way
 abbrev pub path_in : Way → Path

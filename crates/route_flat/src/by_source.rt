@@ -76,7 +76,8 @@ fn put_at(
     ensures { let old = map (λ v. v.items) lists.old.items in
         let new = map (λ v. v.items) lists.new.items in
         OnOk result ((k : ℕ) → slice_index_or new k []
-        ≡ (if k == number then slice_index_or old k [] ++ target ∷ [] else slice_index_or old k [])) }
+        ≡ (if k == number then slice_index_or old k [] ++ target ∷ []
+        else slice_index_or old k [])) }
 {
     reach(alloc, lists, number)?;
     push(&mut lists[number], target)

@@ -10,8 +10,8 @@ use std::alloc::{AllocError, Global};
 /// The most that is counted: one more than there may be.
 pub(crate) const MOST: u32 = 65537;
 
-/// For each node the number of its sources, or 65537 where there are more than 65536: one pass over the
-/// links, whatever the numbers.
+/// For each node the number of its sources, or 65537 where there are more than 65536: one pass over
+/// the links, whatever the numbers.
 pub(crate) fn counts(alloc: Global, nodes: &[Node]) -> Result<Vec<u32>, OutOfMemory>
     ensures { IfOk result (λ counts. AreCounts nodes.now counts.items) }
 {

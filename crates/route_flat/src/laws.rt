@@ -9,9 +9,9 @@ ghost use Rattle.route_flat.specs.Ways.{paths_of};
 ghost use Rattle.route_flat.specs.TreePaths.{PathsOfTree};
 ghost use Rattle.route_flat.specs.Targets.{IsPortOf, port_count, target_leaves, CoversPorts};
 
-/// The paths of a tree's routes are the paths of the tree, in its order: by leaf, port and place among
-/// the sources of the port, and then by outputs of top. Those from inputs of top begin at one that there
-/// is.
+/// The paths of a tree's routes are the paths of the tree, in its order: by leaf, port and place
+/// among the sources of the port, and then by outputs of top. Those from inputs of top begin at one
+/// that there is.
 pub fn paths_are_those_of_the_tree()
     ensures { (t : Tree) (r : Flat) → RoutesOf t r → PathsOfTree t r }
 {}

@@ -44,7 +44,8 @@ impl PortLists {
         requires { IsParted net }
         ensures built { IfOk result (λ r. r ≡ flat_of_net net) }
         ensures few { IfOk result (λ r. paths_in (flat_of_net net) ≤ 65536) }
-        ensures many { result ≡ Err RouteRefusal.TooManyRoutes → 65536 < paths_in (flat_of_net net) }
+        ensures many { result ≡ Err RouteRefusal.TooManyRoutes
+            → 65536 < paths_in (flat_of_net net) }
     {
         let counts = counts(alloc, &net.nodes)?;
         let to_ports = sum_of(&net.ports, &counts);
@@ -89,7 +90,8 @@ impl PortLists {
     pub(crate) fn sources(&self, leaf: u32, port: PortNo) -> &[Source]
         requires leaf { leaf < length self.now.ports }
         requires port { HoldsAt (λ ports. port.0 < length ports) self.now.ports leaf }
-        ensures { HoldsAt (λ ports. HoldsAt (λ list. result.now ≡ list) ports port.0) self.now.ports leaf }
+        ensures { HoldsAt (λ ports. HoldsAt
+            (λ list. result.now ≡ list) ports port.0) self.now.ports leaf }
     {
         let first = self.leaves[leaf as usize].first as usize;
         part(&self.paths, self.ports[first + port.0 as usize])

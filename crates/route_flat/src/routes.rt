@@ -44,9 +44,9 @@ impl std::marker::Model for Routes {
 }
 
 impl Routes {
-    /// The routes of a model. TooManyRoutes comes exactly where there are more than 65536 paths, from
-    /// outputs of leaves and inputs of top to inputs of leaves and outputs of top; they are counted
-    /// before any is followed.
+    /// The routes of a model. TooManyRoutes comes exactly where there are more than 65536 paths,
+    /// from outputs of leaves and inputs of top to inputs of leaves and outputs of top; they are
+    /// counted before any is followed.
     pub fn build(alloc: Global, model: &Model) -> Result<Routes, RouteRefusal>
         ensures built { IfOk result (λ r. OfTree model.now (λ t. RoutesOf t r)) }
         ensures few { IfOk result (λ r. OfTree model.now (λ t. path_count t ≤ 65536)) }
@@ -62,7 +62,8 @@ impl Routes {
         requires { IsParted net }
         ensures built { IfOk result (λ r. r ≡ flat_of_net net) }
         ensures few { IfOk result (λ r. paths_in (flat_of_net net) ≤ 65536) }
-        ensures many { result ≡ Err RouteRefusal.TooManyRoutes → 65536 < paths_in (flat_of_net net) }
+        ensures many { result ≡ Err RouteRefusal.TooManyRoutes
+            → 65536 < paths_in (flat_of_net net) }
     {
         let lists = PortLists::of_net(alloc, net)?;
         let ways = ways(alloc, &lists)?;
@@ -86,7 +87,8 @@ impl Routes {
     pub fn sources(&self, leaf: u32, port: PortNo) -> &[Source]
         requires leaf { leaf < length self.now.ports }
         requires port { HoldsAt (λ ports. port.0 < length ports) self.now.ports leaf }
-        ensures { HoldsAt (λ ports. HoldsAt (λ list. result.now ≡ list) ports port.0) self.now.ports leaf }
+        ensures { HoldsAt (λ ports. HoldsAt
+            (λ list. result.now ≡ list) ports port.0) self.now.ports leaf }
     {
         self.lists.sources(leaf, port)
     }
@@ -99,17 +101,18 @@ impl Routes {
         self.lists.top_sources(out)
     }
 
-    /// The targets of a source, by rising leaf, port and place among the sources there, and then the
-    /// outputs of top. A source that there is not has none.
+    /// The targets of a source, by rising leaf, port and place among the sources there, and then
+    /// the outputs of top. A source that there is not has none.
     pub fn targets(&self, from: Source) -> &[Target]
         ensures targets { result.now ≡ targets_among (ways_of self.now) from }
-        ensures numbers { map (λ t. t.path) result.now ≡ numbers (is_from from) (paths_of self.now) }
+        ensures numbers { map (λ t. t.path) result.now
+            ≡ numbers (is_from from) (paths_of self.now) }
     {
         self.targets.targets(from)
     }
 
-    /// The number of paths. Paths are counted by rising leaf, port and place among the sources there,
-    /// and then by outputs of top.
+    /// The number of paths. Paths are counted by rising leaf, port and place among the sources
+    /// there, and then by outputs of top.
     pub fn path_count(&self) -> usize
         ensures { result ≡ length (paths_of self.now) }
     {

@@ -38,7 +38,8 @@ fn to_leaves(lists: &PortLists, into: &mut Vec<Way>) -> Result<(), OutOfMemory>
 /// Appends the paths to one leaf.
 fn to_leaf(lists: &PortLists, leaf: u32, into: &mut Vec<Way>) -> Result<(), OutOfMemory>
     requires { leaf < length lists.now.ports }
-    ensures { OnOk result (HoldsAt (λ ports. into.new.items ≡ into.old.items ++ ways_to_leaf (leaf, ports))
+    ensures { OnOk result (HoldsAt (λ ports. into.new.items
+        ≡ into.old.items ++ ways_to_leaf (leaf, ports))
         lists.now.ports leaf) }
 {
     for port in 0..lists.ports(leaf) {
@@ -82,7 +83,8 @@ fn narrow(number: u32) -> Result<u16, OutOfMemory>
 
 /// Where each source leads.
 pub(crate) fn by_source(alloc: Global, ways: &[Way]) -> Result<BySource, OutOfMemory>
-    ensures { IfOk result (λ by. (from : AnySource) → list_from by from ≡ targets_among ways.now from) }
+    ensures { IfOk result (λ by. (from : AnySource)
+        → list_from by from ≡ targets_among ways.now from) }
 {
     let mut by = BySource::new(alloc);
     for (number, way) in ways.iter().enumerate() {

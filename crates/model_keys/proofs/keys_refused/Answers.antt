@@ -3,7 +3,7 @@ use Rattle.std.specs.List.{filter, flat_map}
 use Rattle.std.specs.Option.{option_map}
 use Rattle.ma_lines.specs.declared.section.Section as code
 use Rattle.ma_lines.specs.Sections.{Section, section_of}
-use Rattle.model_text.specs.Keyed.{Item, least}
+use Rattle.model_text.specs.Keyed.{Item, least_refusal}
 use Rattle.model_text.specs.Keys.{of_section, of_atomic}
 use Rattle.model_text.specs.Walk.{is_atomic, reached, atomics}
 use Rattle.model_walk.specs.Shown.{item_of, refusal_of}
@@ -17,6 +17,6 @@ returns c =
     let met = ap (map (λ (r : Bor code.Section). section_of r.now)) c.deref.ensures.value ∙ c.requires.sections in
     let items = ap (map item_of) c.deref-2.ensures.value ∙ c.requires.items in
     c.least.ensures
-    ∙ ap (λ o. merged o (option_map refusal_of c.in_ok-second.second)) (c.in_ok-first.ensures ∙ ap (λ (xs : List Section). least (flat_map of_section xs)) met)
-    ∙ ap (merged (least (flat_map of_section (reached ss)))) (c.in_ok-second.ensures ∙ ap (λ (is : List Item). least (flat_map (of_atomic ss) (filter is_atomic is))) items)
+    ∙ ap (λ o. merged o (option_map refusal_of c.in_ok-second.second)) (c.in_ok-first.ensures ∙ ap (λ (xs : List Section). least_refusal (flat_map of_section xs)) met)
+    ∙ ap (merged (least_refusal (flat_map of_section (reached ss)))) (c.in_ok-second.ensures ∙ ap (λ (is : List Item). least_refusal (flat_map (of_atomic ss) (filter is_atomic is))) items)
     ∙ sym (least_of_both (flat_map of_section (reached ss)) (flat_map (of_atomic ss) (atomics ss)))

@@ -2,7 +2,7 @@ use Rattle.std.proofs.Common.{◌+◌, ◌∷◌, [], drop, ap, ◌∙◌}
 use Rattle.std.specs.Option.{option_map}
 use Rattle.ma_lines.specs.declared.section.Entry.{Entry}
 use Rattle.ma_lines.specs.Sections.{section_of}
-use Rattle.model_text.specs.Keyed.{least}
+use Rattle.model_text.specs.Keyed.{least_refusal}
 use Rattle.model_text.specs.Keys.{off_form}
 use Rattle.model_walk.specs.Shown.{refusal_of}
 use Rattle.model_walk.specs.Least.{merged}
@@ -15,6 +15,6 @@ loop-entry-preserved c =
     let table = table_of (section_of c.args.section.now) c.args.forms.now in
     let es = c.deref-entry-items.result.now in
     let i = c.loop-entry.entry-index in
-    ap (λ o. merged o (least (off_form table (drop (i + 1) es)))) c.least-first.ensures
+    ap (λ o. merged o (least_refusal (off_form table (drop (i + 1) es)))) c.least-first.ensures
     ∙ off_step table es i c.entry-item.result (option_map refusal_of c.loop-entry.first) (option_map refusal_of c.in_ok-off_form.field-0) c.loop-entry-test.true
-    (c.in_ok-off_form.ensures ∙ ap (λ (e : Entry). least (off_form table (e ∷ []))) c.entry-item.is) c.loop-entry.invariant
+    (c.in_ok-off_form.ensures ∙ ap (λ (e : Entry). least_refusal (off_form table (e ∷ []))) c.entry-item.is) c.loop-entry.invariant

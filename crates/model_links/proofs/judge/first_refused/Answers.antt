@@ -1,6 +1,6 @@
 use Rattle.std.proofs.Common.{[], ◌+◌, map, drop, take, ap, ◌∙◌, option_to_list}
 use Rattle.std.specs.Option.{option_map}
-use Rattle.model_text.specs.Keyed.{least}
+use Rattle.model_text.specs.Keyed.{least_refusal}
 use Rattle.model_walk.specs.Shown.{refusal_of}
 use Rattle.model_walk.specs.Least.{merged}
 use Rattle.model_links.specs.declared.section.FoundLink.{FoundLink}
@@ -19,7 +19,7 @@ loop-one-preserved c =
     record {
       seen = seen_step xs i x seen (map joined c.add_link.new.links.keys) c.loop-one-test.true
           (c.in_ok-add_link.ensures ∙ ap (λ (y : FoundLink). with_links seen (option_to_list y.link)) c.one-item.is) c.loop-one.invariant.seen;
-      judged = ap (λ o. merged o (least (refused_after f (links_in (take (i + 1) xs)) (drop (i + 1) xs)))) c.least-first.ensures
-          ∙ judged_step f xs i x seen (option_map refusal_of c.loop-one.first) (option_map refusal_of c.refused.result) (least (refused_after f [] xs)) c.loop-one-test.true
+      judged = ap (λ o. merged o (least_refusal (refused_after f (links_in (take (i + 1) xs)) (drop (i + 1) xs)))) c.least-first.ensures
+          ∙ judged_step f xs i x seen (option_map refusal_of c.loop-one.first) (option_map refusal_of c.refused.result) (least_refusal (refused_after f [] xs)) c.loop-one-test.true
           (c.refused.ensures ∙ ap (refusal_after f seen) c.one-item.is) c.loop-one.invariant.seen c.loop-one.invariant.judged;
     }

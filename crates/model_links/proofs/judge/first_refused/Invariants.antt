@@ -1,6 +1,6 @@
 use Rattle.std.proofs.Common.{◌≡◌, map, take, drop, []}
 use Rattle.std.specs.Option.{option_map}
-use Rattle.model_text.specs.Keyed.{least}
+use Rattle.model_text.specs.Keyed.{least_refusal}
 use Rattle.model_walk.specs.Shown.{refusal_of}
 use Rattle.model_walk.specs.Least.{merged}
 use Rattle.link_ends.specs.Lent.{joined, with_links}
@@ -11,5 +11,5 @@ use Rattle.model_links.proofs.judge.first_refused.Given as goal
 abbrev pub invariant-loop-one : goal.invariant-loop-one
 invariant-loop-one l = record {
   seen : map joined l.before.keys ≡ with_links [] (links_in (take l.one-index l.found));
-  judged : merged (option_map refusal_of l.first) (least (refused_after l.face (links_in (take l.one-index l.found)) (drop l.one-index l.found))) ≡ least (refused_after l.face [] l.found);
+  judged : merged (option_map refusal_of l.first) (least_refusal (refused_after l.face (links_in (take l.one-index l.found)) (drop l.one-index l.found))) ≡ least_refusal (refused_after l.face [] l.found);
 }

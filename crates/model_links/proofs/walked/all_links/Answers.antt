@@ -6,7 +6,7 @@ use Rattle.std.specs.Int.{from_bool}
 use Rattle.ma_lines.specs.declared.section.Section as code
 use Rattle.ma_lines.specs.Sections.{section_of}
 use Rattle.cell_grid.specs.Space.{Space}
-use Rattle.model_text.specs.Keyed.{least}
+use Rattle.model_text.specs.Keyed.{least_refusal}
 use Rattle.model_text.specs.Walk.{is_group}
 use Rattle.model_text.specs.Spaces.{space_of}
 use Rattle.model_text.specs.Links.{links_of, of_links}
@@ -54,7 +54,7 @@ loop-section-preserved c =
           ∙ ap (λ n. n + from_bool (is_group (section_of (get_or rs i r).now))) c.loop-section.invariant.next ∙ sym (groups_more rs i r c.loop-section-test.true);
       links = links_step rs i r c.loop-section.links.items c.push.new.self.items c.in_ok-read.read.links c.loop-section-test.true pushed
           (read.links ∙ ap (λ (q : Bor code.Section). links_of (section_of q.now)) c.section-item.is) c.loop-section.invariant.links;
-      refused = ap (λ o. merged o (least (all_refused ss (drop (i + 1) rs)))) c.least-refused.ensures
-          ∙ section_step ss rs i r (option_map refusal_of c.loop-section.refused) (option_map refusal_of c.in_ok-read.read.refused) (least (all_refused ss rs)) c.loop-section-test.true
-          (read.refused ∙ ap (λ (q : Bor code.Section). least (of_links ss (section_of q.now))) c.section-item.is) c.loop-section.invariant.refused;
+      refused = ap (λ o. merged o (least_refusal (all_refused ss (drop (i + 1) rs)))) c.least-refused.ensures
+          ∙ section_step ss rs i r (option_map refusal_of c.loop-section.refused) (option_map refusal_of c.in_ok-read.read.refused) (least_refusal (all_refused ss rs)) c.loop-section-test.true
+          (read.refused ∙ ap (λ (q : Bor code.Section). least_refusal (of_links ss (section_of q.now))) c.section-item.is) c.loop-section.invariant.refused;
     }

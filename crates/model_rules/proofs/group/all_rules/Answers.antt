@@ -1,13 +1,13 @@
 use Rattle.std.proofs.Common.{[], ◌∷◌, sym, subst}
 use Rattle.model_spaces.specs.declared.placed.PlacedGroup.{PlacedGroup}
-use Rattle.model_rules.specs.Parts.{CanBeRead, AddsGroups, group_section}
+use Rattle.model_rules.specs.Parts.{IsPlaced, AddsGroups, group_section}
 use Rattle.model_rules.proofs.Adds.{groups_step}
-use Rattle.model_rules.proofs.Whole.{read_at}
+use Rattle.model_rules.proofs.Whole.{placed_at}
 use Rattle.model_rules.proofs.group.all_rules.Goals as goal
 
 pub add_group-requires : goal.add_group-requires
 add_group-requires c =
-    subst CanBeRead (sym c.group-item.is) (read_at c.args.groups.now c.loop-group.group-index _ c.requires c.loop-group-test.true)
+    subst IsPlaced (sym c.group-item.is) (placed_at c.args.groups.now c.loop-group.group-index _ c.requires c.loop-group-test.true)
 
 pub loop-group-preserved : goal.loop-group-preserved
 loop-group-preserved c =

@@ -10,7 +10,7 @@ pub returns-clause-refused : goal.returns-clause-refused
 returns-clause-refused c =
     let g = c.args.group.now in
     let s = group_section g in
-    refused_by c.args.sections.now s (syntax.names_of g.names) (map item_of c.deref-2.result.now) _ _ _ _ (names_by g c.requires.placed)
+    refused_by c.args.sections.now s (syntax.names_of g.names) (map item_of c.deref-2.result.now) _ _ _ _ (names_by g c.requires)
     (ap (map item_of) c.deref-2.ensures.value ∙ c.in_ok-items.ensures)
     (c.as_slice.ensures ∙ named_by s c.deref.result.now _ (ap (map item_of) c.deref.ensures.value ∙ c.in_ok-items.ensures) c.in_ok-named.ensures)
     c.absent.ensures c.in_ok-found.ensures.refused c.least.ensures
@@ -19,7 +19,7 @@ pub returns-clause-rules : goal.returns-clause-rules
 returns-clause-rules c =
     let g = c.args.group.now in
     let s = group_section g in
-    sets_by c.args.sections.now g c.in_ok-named.named c.in_ok-found.found c.in_ok-numbered.numbered c.requires.placed
+    sets_by c.args.sections.now g c.in_ok-named.named c.in_ok-found.found c.in_ok-numbered.numbered c.requires
     (named_by s c.deref.result.now c.in_ok-named.named (ap (map item_of) c.deref.ensures.value ∙ c.in_ok-items.ensures) c.in_ok-named.ensures)
     (c.in_ok-found.ensures.sets ∙ ap (λ us. map (rules_in (syntax.names_of g.names)) (sections_named c.args.sections.now us)) c.as_slice.ensures)
     c.in_ok-numbered.ensures.sets c.in_ok-numbered.ensures.zones c.in_ok-numbered.ensures.ports

@@ -1,7 +1,7 @@
 use Rattle.std.proofs.Common.{◌≡◌, drop, map}
 use Rattle.std.specs.List.{flat_map}
 use Rattle.std.specs.Option.{option_map}
-use Rattle.model_text.specs.Keyed.{least}
+use Rattle.model_text.specs.Keyed.{least_refusal}
 use Rattle.model_text.specs.Rules as R
 use Rattle.model_walk.specs.Shown.{item_of, refusal_of}
 use Rattle.model_walk.specs.Least.{merged}
@@ -9,5 +9,5 @@ use Rattle.model_rules.proofs.named.absent.Given as goal
 
 abbrev pub invariant-loop-item : goal.invariant-loop-item
 invariant-loop-item l =
-    merged (option_map refusal_of l.first) (least (flat_map (R.absent l.sections) (map item_of (drop l.item-index l.items))))
-    ≡ least (flat_map (R.absent l.sections) (map item_of l.items))
+    merged (option_map refusal_of l.first) (least_refusal (flat_map (R.absent l.sections) (map item_of (drop l.item-index l.items))))
+    ≡ least_refusal (flat_map (R.absent l.sections) (map item_of l.items))

@@ -3,7 +3,7 @@ use Rattle.std.specs.List.{flat_map}
 use Rattle.std.specs.Option.{option_map}
 use Rattle.rule_syntax.specs.Shown.{names_of}
 use Rattle.ma_lines.specs.Sections.{section_of}
-use Rattle.model_text.specs.Keyed.{least, entries_of}
+use Rattle.model_text.specs.Keyed.{least_refusal, entries_of}
 use Rattle.model_text.specs.Rules as R
 use Rattle.model_walk.specs.Shown.{refusal_of}
 use Rattle.model_walk.specs.Least.{merged}
@@ -16,4 +16,4 @@ returns-clause-refused c =
     let off = flat_map (R.rule_refused (names_of c.args.names.now)) (entries_of (codes "rule") s) in
     let many = R.too_many (entries_of (codes "rule") s) in
     c.least.ensures ∙ ap (λ o. merged o (option_map refusal_of c.too_many.result)) c.in_ok-read.ensures.refused
-    ∙ ap (λ o. merged (least off) o) c.too_many.ensures ∙ sym (least_of_both off many)
+    ∙ ap (λ o. merged (least_refusal off) o) c.too_many.ensures ∙ sym (least_of_both off many)

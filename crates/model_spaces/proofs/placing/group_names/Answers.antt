@@ -1,11 +1,21 @@
 use Rattle.std.proofs.Common.{ap, ◌∙◌}
 use Rattle.cell_grid.specs.Space.{dims_of}
 use Rattle.ma_lines.specs.Sections.{section_of}
-use Rattle.model_spaces.proofs.Passed.{offsets_pass, names_by}
+use Rattle.model_spaces.proofs.Passed.{few_by, offsets_pass, names_by}
 use Rattle.model_spaces.proofs.placing.group_names.Goals as goal
+
+pub invariant_of-result : goal.invariant_of-result
+invariant_of-result c =
+    let s = section_of c.args.section.now in
+    let offsets = c.in_ok-offsets.ensures ∙ offsets_pass s c.requires.right.passes in
+    record {
+      few =
+          few_by s c.in_ok-offsets.offsets.items c.in_ok-variables.variables.items c.in_ok-ports.ports.items
+          c.requires.right.few offsets c.in_ok-variables.ensures c.in_ok-ports.ensures;
+    }
 
 pub returns : goal.returns
 returns c =
     let s = section_of c.args.section.now in
     names_by s c.in_ok-offsets.offsets.items c.dims.result c.in_ok-variables.variables.items c.in_ok-ports.ports.items
-    (c.in_ok-offsets.ensures ∙ offsets_pass s c.requires.passes) (c.dims.ensures ∙ ap dims_of c.requires.space) c.in_ok-variables.ensures c.in_ok-ports.ensures
+    (c.in_ok-offsets.ensures ∙ offsets_pass s c.requires.right.passes) (c.dims.ensures ∙ ap dims_of c.requires.space) c.in_ok-variables.ensures c.in_ok-ports.ensures

@@ -3,7 +3,7 @@ use Rattle.std.specs.List.{flat_map}
 use Rattle.std.specs.Option.{option_map}
 use Rattle.ma_lines.specs.declared.section.Entry.{Entry}
 use Rattle.ma_lines.specs.Sections.{section_of}
-use Rattle.model_text.specs.Keyed.{least}
+use Rattle.model_text.specs.Keyed.{least_refusal}
 use Rattle.model_text.specs.Spaces as S
 use Rattle.model_walk.specs.Shown.{refusal_of}
 use Rattle.model_walk.specs.Least.{merged}
@@ -17,8 +17,8 @@ loop-entry-preserved c =
     let es = c.deref-entry-items.result.now in
     let i = c.loop-entry.entry-index in
     let seen = c.loop-entry.seen in
-    ap (λ o. merged o (least (S.ports_refused s c.entry_refused.new.seen (port_entries (drop (i + 1) es))))) c.least-first.ensures
+    ap (λ o. merged o (least_refusal (S.ports_refused s c.entry_refused.new.seen (port_entries (drop (i + 1) es))))) c.least-first.ensures
     ∙ ports_step s es i c.entry-item.result (option_map refusal_of c.loop-entry.first) (option_map refusal_of c.in_ok-entry_refused.field-0) seen c.entry_refused.new.seen _ c.loop-entry-test.true
-    (c.in_ok-entry_refused.ensures.refused ∙ ap (λ (e : Entry). least (flat_map (refused_after s seen) (port_entries (e ∷ [])))) c.entry-item.is)
+    (c.in_ok-entry_refused.ensures.refused ∙ ap (λ (e : Entry). least_refusal (flat_map (refused_after s seen) (port_entries (e ∷ [])))) c.entry-item.is)
     (c.in_ok-entry_refused.ensures.seen ∙ ap (λ (e : Entry). seen_after s seen (e ∷ [])) c.entry-item.is)
     c.loop-entry.invariant
