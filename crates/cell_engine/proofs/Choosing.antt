@@ -14,7 +14,7 @@ use Rattle.rule_tree.specs.declared.outcome.Answer.{Answer}
 use Rattle.rule_tree.specs.declared.outcome.RuleStop.{RuleStop}
 use Rattle.rule_tree.specs.declared.outcome.RuleStop.TheVariants as rules
 use Rattle.rule_tree.specs.Expression.{Expr, Rule}
-use Rattle.rule_tree.specs.Meaning.{Sight, number_in, truth_in, meaning}
+use Rattle.rule_tree.specs.Meaning.{Sight, number_answered, truth_in, meaning}
 use Rattle.rule_tree.specs.Scope.{differ}
 use Rattle.rule_tree.specs.Chosen.{Chosen, unless_overflow, after, with_delay, delay_of, if_true, values_of, variables_after, given, chosen}
 use Rattle.rule_eval.specs.declared.given.Given.{Given}
@@ -44,9 +44,9 @@ has_ports : (gs : List (ℕ × Expr)) (s : Sight) → HasPorts (ports_of gs) (va
 has_ports [] s = refl
 has_ports (g ∷ gs) s = at (meaning g.1 s) (has_ports gs s)
   where
-    at : (o : Option Answer) → HasPorts (ports_of gs) (values_of gs s) → HasPorts (g.0 ∷ ports_of gs) (unless_overflow o (λ v. after (values_of gs s) (λ vs. Ok ((g.0, number_in v) ∷ vs))))
+    at : (o : Option Answer) → HasPorts (ports_of gs) (values_of gs s) → HasPorts (g.0 ∷ ports_of gs) (unless_overflow o (λ v. after (values_of gs s) (λ vs. Ok ((g.0, number_answered v) ∷ vs))))
     at None h = tt
-    at (Some v) h = one_more g.0 (number_in v) (ports_of gs) (values_of gs s) h
+    at (Some v) h = one_more g.0 (number_answered v) (ports_of gs) (values_of gs s) h
 
 -- ---- a delay is no longer than a delay may be
 
@@ -67,13 +67,13 @@ IsRight (Ok g) = (differ (map (λ (v : ℕ × Value). v.0) g.values) ≡ true) �
 IsRight (Err stop) = Unit {0}
 
 right_given : (values : Result (List (ℕ × Value)) RuleStop) (o : Option Answer) (variables : Result (List Value) RuleStop) (ports : List ℕ) → differ ports ≡ true → HasPorts ports values
-    → IsRight (after values (λ vs. unless_overflow o (λ d. with_delay (number_in d) (delay_of (number_in d)) (λ ms. after variables (λ xs. Ok (record { values = vs; delay = ms; variables = xs }))))))
+    → IsRight (after values (λ vs. unless_overflow o (λ d. with_delay (number_answered d) (delay_of (number_answered d)) (λ ms. after variables (λ xs. Ok (record { values = vs; delay = ms; variables = xs }))))))
 right_given (Err stop) o variables ports d h = tt
 right_given (Ok vs) None variables ports d h = tt
-right_given (Ok vs) (Some a) variables ports d h = at (delay_of (number_in a)) (few (number_in a)) variables
+right_given (Ok vs) (Some a) variables ports d h = at (delay_of (number_answered a)) (few (number_answered a)) variables
   where
     at : (ms : Option ℕ) → IfSome ms (λ n. n ≤ 359999999) → (b : Result (List Value) RuleStop)
-        → IsRight (with_delay (number_in a) ms (λ n. after b (λ xs. Ok (record { values = vs; delay = n; variables = xs }))))
+        → IsRight (with_delay (number_answered a) ms (λ n. after b (λ xs. Ok (record { values = vs; delay = n; variables = xs }))))
     at None f b = tt
     at (Some n) f (Ok xs) = (ap differ h ∙ d, f)
     at (Some n) f (Err stop) = tt

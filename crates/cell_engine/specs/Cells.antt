@@ -33,7 +33,8 @@ sight_in t g cells i = sight_of t (map cell_state cells) g 0 i
 
 -- what the reference makes of a cell that moves over the cells as they stand
 abbrev pub computed_at : ℕ → Group → List CellState → ℕ → Bool → Bag → Stepped
-computed_at t g cells i woken bag = cell_moved g i t woken (sight_in t g cells i) bag (cell_at cells i)
+computed_at t g cells i woken bag =
+    cell_moved g i t woken (sight_in t g cells i) bag (cell_at cells i)
 
 -- why a cell stops, as the call answers it
 abbrev pub stop_of : RuleStop → CellStop
@@ -41,8 +42,10 @@ stop_of rules.NoTrueRule = NoTrueRule
 stop_of rules.Overflow = Overflow
 stop_of (rules.BadDelay v) = BadDelay v
 
--- the cell is what the step makes of it, and each stop but want of memory comes just where the step stops so
-abbrev pub Computes : {U : Type 0} → ℕ → List CellState → List CellState → Stepped → Result U CellStop → Type 0
+-- the cell is what the step makes of it, and each stop but want of memory comes just where the step
+-- stops so
+abbrev pub Computes : {U : Type 0} → ℕ → List CellState → List CellState → Stepped
+    → Result U CellStop → Type 0
 Computes i old new (Ok c) (Ok u) = new ≡ slice_set old i c
 Computes i old new (Ok c) (Err Memory) = ⊤
 Computes i old new (Ok c) (Err NoTrueRule) = ⊥

@@ -15,5 +15,6 @@ StandAt first cells states =
 -- for each cell of a group whose cells stand among the leaves
 abbrev pub SeesItsGroup : Type 0
 SeesItsGroup =
-    (t : ℕ) (g : Group) (first i : ℕ) (cells : List CellState) (states : List LeafState) → length cells ≡ cell_count g.space → i < length cells → StandAt first cells states
+    (t : ℕ) (g : Group) (first i : ℕ) (cells : List CellState) (states : List LeafState)
+    → length cells ≡ cell_count g.space → i < length cells → StandAt first cells states
     → sight_of t states g first i ≡ sight_in t g cells i

@@ -69,7 +69,8 @@ abbrev pub at_port : Value → Sight → Sight
 at_port v s = record s { port = v }
 
 -- a view of what a cell sees
-pub record LooksAt (v : View) (t : ℕ) (l : Layout) (tb : Table) (i : ℕ) (at_own : Value) : Type 0 where
+pub record LooksAt (v : View) (t : ℕ) (l : Layout) (tb : Table) (i : ℕ)
+    (at_own : Value) : Type 0 where
   pub time : v.time ≡ t
   pub place : v.place ≡ place_of l.space i
   pub dims : v.dims ≡ dims_of l.space
@@ -96,11 +97,13 @@ pub record StandForRules (codes : List Codes) (rules : List Rule) : Type 0 where
 
 -- a cell after the first true rule over what it sees
 abbrev pub ruled : DelayKind → Sight → List Rule → CellState → Stepped
-ruled kind sight rules c = and_took kind sight.time c (chosen rules (record sight { variables = c.variables }))
+ruled kind sight rules c =
+    and_took kind sight.time c (chosen rules (record sight { variables = c.variables }))
 
 -- all rules are evaluated with so many answers on the stack
 abbrev pub NeedAtMost : ℕ → List (List Codes) → Type 0
-NeedAtMost depth codes = All (λ (rules : List Codes). All (λ (rule : Codes). rule_depth rule ≤ depth) rules) codes
+NeedAtMost depth codes =
+    All (λ (rules : List Codes). All (λ (rule : Codes). rule_depth rule ≤ depth) rules) codes
 
 -- ---- the group
 

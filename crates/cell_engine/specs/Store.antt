@@ -1,6 +1,7 @@
 -- When a store is ready for each step of its cells. Only private clauses name this.
 use Rattle.std.specs.Prelude.{◌≡◌, ℕ, ◌+◌, ◌*◌, ◌≤◌, ◌<◌, length}
 use Rattle.std.specs.List.{All}
+use Rattle.quantity.specs.declared.bounds.TheConstants.{MAX_DELAY}
 use Rattle.rule_eval.specs.RuleCodes.{rule_depth}
 use Rattle.cell_grid.specs.Space.{cell_count}
 use Rattle.cell_reach.specs.Neighbourhoods.{Neighbourhood}
@@ -18,7 +19,7 @@ pub record IsPlan (l : Layout) (n : Neighbourhood) : Type 0 where
   pub ports : l.ports ≤ 3
   pub variables : l.variables ≤ 8
   pub offsets : length l.offsets ≤ 128
-  pub delay : l.default_delay ≤ 359999999
+  pub delay : l.default_delay ≤ MAX_DELAY
 
 -- the table has the layout's cells, and there is room for what a cell sees, sets and evaluates
 pub record IsReady (l : Layout) (t : Table) (p r c d : ℕ) : Type 0 where
@@ -32,4 +33,6 @@ pub record IsReady (l : Layout) (t : Table) (p r c d : ℕ) : Type 0 where
 
 -- the same of a desk
 abbrev pub IsAtDesk : Layout → Table → Desk → Type 0
-IsAtDesk l t d = IsReady l t (length d.neighbours.items) (length d.seen.items) (length d.changed.items) d.stack.depth
+IsAtDesk l t d =
+    IsReady l t (length d.neighbours.items) (length d.seen.items)
+    (length d.changed.items) d.stack.depth

@@ -3,6 +3,7 @@ ghost use Rattle.std.specs.Prelude.{◌≡◌, ◌<◌, ◌≤◌, Option, None,
 ghost use Rattle.std.specs.Prelude.{length, slice_index_or, IfSome, IsTrue};
 ghost use Rattle.std.specs.List.{All, find};
 ghost use Rattle.std.specs.Option.{option_map};
+ghost use Rattle.quantity.specs.declared.bounds.TheConstants.{MAX_DELAY};
 ghost use Rattle.quantity.specs.declared.value.Value.{Value as AnyValue};
 ghost use Rattle.rule_tree.specs.Meaning.{Sight};
 ghost use Rattle.atomic_face.specs.declared.class.PortNo.{PortNo as Port};
@@ -41,7 +42,7 @@ pub(crate) fn advance(
     desk: &mut Desk,
 ) -> Result<(), CellStop>
     requires ready { IsAtDesk plan.now table.old desk.old }
-    requires time { t ≤ 359999999 }
+    requires time { t ≤ MAX_DELAY }
     requires cell { i < length table.old.cells }
     requires ports { All (λ (o : Port × AnyValue). o.0.0 < length ports.now) bag.now }
     ensures cell { (g : Group) → IsOfGroup g plan.now ports.now i
@@ -65,7 +66,7 @@ fn wake(
     desk: &mut Desk,
 ) -> Result<(), CellStop>
     requires ready { IsAtDesk plan.now table.old desk.old }
-    requires time { t ≤ 359999999 }
+    requires time { t ≤ MAX_DELAY }
     requires cell { i < length table.old.cells }
     ensures cell { (g : Group) → StandsFor g plan.now → IsTrue (is_sound_group g)
         → Computes i table.old.cells table.new.cells
@@ -93,7 +94,7 @@ fn treat_all(
     desk: &mut Desk,
 ) -> Result<(), CellStop>
     requires ready { IsAtDesk plan.now table.old desk.old }
-    requires time { t ≤ 359999999 }
+    requires time { t ≤ MAX_DELAY }
     requires cell { i < length table.old.cells }
     requires ports { All (λ (o : Port × AnyValue). o.0.0 < length ports.now) bag.now }
     ensures cell { (g : Group) → IsOfGroup g plan.now ports.now i
@@ -123,7 +124,7 @@ fn treat_one(
     desk: &mut Desk,
 ) -> Result<(), CellStop>
     requires ready { IsAtDesk plan.now table.old desk.old }
-    requires time { t ≤ 359999999 }
+    requires time { t ≤ MAX_DELAY }
     requires cell { i < length table.old.cells }
     requires port { input.now.0.0 < length ports.now }
     ensures cell { (g : Group) → IsOfGroup g plan.now ports.now i
@@ -150,7 +151,7 @@ fn treat(
     desk: &mut Desk,
 ) -> Result<(), CellStop>
     requires ready { IsAtDesk plan.now table.old desk.old }
-    requires time { t ≤ 359999999 }
+    requires time { t ≤ MAX_DELAY }
     requires cell { i < length table.old.cells }
     ensures cell { (g : Group) → StandsFor g plan.now → IsTrue (is_sound_group g)
         → Computes i table.old.cells table.new.cells
@@ -176,7 +177,7 @@ fn take_itself(
     value: Value,
     table: &mut CellTable,
 ) -> Result<(), CellStop>
-    requires time { t ≤ 359999999 }
+    requires time { t ≤ MAX_DELAY }
     requires cell { i < length table.old.cells }
     ensures cell { (g : Group) → StandsFor g plan.now → (sight : Sight)
         → Computes i table.old.cells table.new.cells

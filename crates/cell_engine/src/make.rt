@@ -53,7 +53,8 @@ pub(crate) fn table_of(alloc: Global, group: &CellGroup) -> Result<CellTable, Ou
 
 /// The most answers that any rule of these sets needs at once.
 pub(crate) fn deepest_of_sets(sets: &[Vec<RuleCode>]) -> usize
-    ensures { All (λ rules. All (λ rule. rule_depth rule ≤ result) rules) (map (λ rules. rules.items) sets.now) }
+    ensures { All (λ rules. All (λ rule. rule_depth rule ≤ result) rules)
+        (map (λ rules. rules.items) sets.now) }
 {
     let mut most = 0;
     for rules in sets {
@@ -75,7 +76,8 @@ fn deepest(rules: &[RuleCode]) -> usize
 
 /// The codes of all rule sets.
 fn codes_of_sets(alloc: Global, sets: &[Vec<RuleTree>]) -> Result<Vec<Vec<RuleCode>>, OutOfMemory>
-    ensures { IfOk result (λ codes. map (λ rules. rules.items) codes.items ≡ map (map codes_of) (map (λ rules. map rule_of rules.items) sets.now)) }
+    ensures { IfOk result (λ codes. map (λ rules. rules.items) codes.items
+        ≡ map (map codes_of) (map (λ rules. map rule_of rules.items) sets.now)) }
 {
     let mut codes = Vec::new(alloc);
     for rules in sets {
@@ -86,7 +88,8 @@ fn codes_of_sets(alloc: Global, sets: &[Vec<RuleTree>]) -> Result<Vec<Vec<RuleCo
 }
 
 fn add_set(codes: &mut Vec<Vec<RuleCode>>, set: Vec<RuleCode>) -> Result<(), OutOfMemory>
-    ensures { OnOk result (map (λ rules. rules.items) codes.new.items ≡ map (λ rules. rules.items) codes.old.items ++ set.items ∷ []) }
+    ensures { OnOk result (map (λ rules. rules.items) codes.new.items
+        ≡ map (λ rules. rules.items) codes.old.items ++ set.items ∷ []) }
 {
     codes.push(set).map_err(AllocError::from)?;
     Ok(())
@@ -114,7 +117,8 @@ fn add_code(codes: &mut Vec<RuleCode>, code: RuleCode) -> Result<(), OutOfMemory
 /// For each cell the number of its rule set.
 #[tactic(auto, using(crate::proofs::Planned::range_more))]
 fn sets_of_cells(alloc: Global, group: &CellGroup) -> Result<Vec<usize>, OutOfMemory>
-    ensures { IfOk result (λ sets. sets.items ≡ map (set_of (group_of group.now)) (range_with_len 0 (cell_count group.now.grid))) }
+    ensures { IfOk result (λ sets. sets.items
+        ≡ map (set_of (group_of group.now)) (range_with_len 0 (cell_count group.now.grid))) }
 {
     let mut sets = Vec::new(alloc);
     for cell in 0..group.grid.cells() {

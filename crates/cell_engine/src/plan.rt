@@ -6,8 +6,8 @@ use quantity::{DelayKind, Time};
 use rule_eval::RuleCode;
 use std::marker::Model;
 
-/// What a store keeps of its group: the space and the offsets, the delays, and the rules with the number of each cell's
-/// rule set. It is seen as a layout.
+/// What a store keeps of its group: the space and the offsets, the delays, and the rules with the
+/// number of each cell's rule set. It is seen as a layout.
 #[derive(Drop)]
 pub(crate) struct Plan {
     pub grid: Grid,

@@ -2,8 +2,9 @@
 ghost use Rattle.std.specs.Prelude.{◌≡◌, [], ◌++◌, ◌+◌, ◌*◌, ◌<◌, ◌≤◌, length, map, replicate};
 ghost use Rattle.std.specs.Prelude.{pos, ◌+ℤ◌, ◌≤ℤ◌, ◌<ℤ◌, vec_capacity, IfSome};
 ghost use Rattle.std.specs.List.{All, flat_map};
+ghost use Rattle.quantity.specs.declared.bounds.TheConstants.{MAX_CELLS};
 ghost use Rattle.quantity.specs.declared.value.Value.{Value as AnyValue};
-ghost use Rattle.cell_grid.specs.Space.{cell_count};
+ghost use Rattle.cell_grid.specs.Space.{cell_count, place_of};
 ghost use Rattle.cell_reach.specs.Neighbourhoods.{further, neighbours};
 ghost use Rattle.cell_table.specs.Table.{IsTable};
 ghost use Rattle.cell_table.specs.Told.{cell_at};
@@ -12,19 +13,28 @@ ghost use Rattle.cell_engine.specs.Step.{AreCells, IsBelow, LooksAt, near};
 
 use crate::plan::Plan;
 use cell_table::CellTable;
-use quantity::{Time, Value};
+use quantity::{Place, Time, Value};
 use rule_eval::View;
+
+/// The place of a cell, which is worked out once in a step.
+pub(crate) fn place_of(plan: &Plan, i: u32) -> Place
+    requires { i < cell_count plan.now.space }
+    ensures { result ≡ place_of plan.now.space i }
+{
+    plan.grid.position(i)
+}
 
 /// What a cell sees, with a value at the port that its rules are for.
 pub(crate) fn view<'a>(
     plan: &Plan,
     table: &'a CellTable,
     i: u32,
+    place: Place,
     t: Time,
     port: Value,
     seen: &'a [Value],
 ) -> View<'a>
-    requires cell { i < cell_count plan.now.space }
+    requires place { place ≡ place_of plan.now.space i }
     requires exists { i < length table.now.cells }
     requires width { table.now.width ≡ plan.now.ports + 1 }
     requires seen { seen.now ≡ flat_map (given_by table.now) (neighbours (near plan.now) i) }
@@ -36,7 +46,7 @@ pub(crate) fn view<'a>(
     let ports = table.width() - 1;
     View {
         time: t,
-        place: plan.grid.position(i),
+        place,
         dims: plan.grid.dims(),
         neighbours: seen,
         ports: ports as u8,
@@ -50,10 +60,12 @@ pub(crate) fn look(
     plan: &Plan,
     table: &CellTable,
     i: u32,
+    place: Place,
     around: &mut [Option<u32>],
     seen: &mut Vec<Value>,
 )
     requires cell { i < cell_count plan.now.space }
+    requires place { place ≡ place_of plan.now.space i }
     requires cells { length table.now.cells ≡ cell_count plan.now.space }
     requires places { length around.old ≡ length plan.now.offsets }
     requires room { length seen.old.items ≡ length plan.now.offsets * table.now.width }
@@ -61,7 +73,7 @@ pub(crate) fn look(
     ensures room { length seen.new.items ≡ length plan.now.offsets * table.now.width }
 {
     if table.width() == 1 {
-        look_at_outs(plan, table.all_emitted(), i, around, seen);
+        look_at_outs(plan, table.all_emitted(), i, place, around, seen);
     } else {
         plan.reach.neighbours(i, around);
         seen.clear();
@@ -74,17 +86,19 @@ fn look_at_outs(
     plan: &Plan,
     emitted: &[Value],
     i: u32,
+    place: Place,
     around: &mut [Option<u32>],
     seen: &mut [Value],
 )
     requires cell { i < cell_count plan.now.space }
+    requires place { place ≡ place_of plan.now.space i }
     requires cells { length emitted.now ≡ cell_count plan.now.space }
     requires places { length around.old ≡ length plan.now.offsets }
     requires room { length seen.old ≡ length plan.now.offsets }
     ensures { seen.new ≡ map (out_of emitted.now) (neighbours (near plan.now) i) }
 {
     let _most = plan.grid.cells();
-    match plan.reach.differences(i) {
+    match plan.reach.differences_at(place) {
         Some(differences) => see_further(emitted, i, differences, seen),
         None => {
             plan.reach.neighbours(i, around);
@@ -95,8 +109,8 @@ fn look_at_outs(
 
 /// What the cells so much further gave at their port out.
 fn see_further(emitted: &[Value], cell: u32, differences: &[i32], seen: &mut [Value])
-    requires near { cell < 1048576 }
-    requires cells { length emitted.now ≤ 1048576 }
+    requires near { cell < MAX_CELLS }
+    requires cells { length emitted.now ≤ MAX_CELLS }
     requires inside { All (IsBelow (length emitted.now) cell) differences.now }
     requires length { length seen.old ≡ length differences.now }
     ensures { seen.new ≡ map (out_further emitted.now cell) differences.now }
@@ -109,12 +123,13 @@ fn see_further(emitted: &[Value], cell: u32, differences: &[i32], seen: &mut [Va
 /// The number so much further.
 #[inline(always)]
 fn further(cell: u32, difference: i32) -> usize
-    requires near { cell < 1048576 }
+    requires near { cell < MAX_CELLS }
     requires low { pos 0 ≤ℤ (pos cell +ℤ difference) }
     requires high { (pos cell +ℤ difference) <ℤ pos 1048577 }
     ensures { result ≡ further cell difference }
 {
-    (cell as i32 + difference) as usize
+    // As `u32` first: then no sign is carried into the wider number.
+    (cell as i32 + difference) as u32 as usize
 }
 
 /// What each neighbour gave at its port out, the only one.

@@ -2,6 +2,7 @@
 ghost use Rattle.std.specs.Prelude.{◌≡◌, ℕ, ◌+◌, ◌<◌, ◌≤◌, List, length};
 ghost use Rattle.std.specs.Prelude.{OnOk, OnErr, slice_set};
 ghost use Rattle.std.specs.List.{All};
+ghost use Rattle.quantity.specs.declared.bounds.TheConstants.{MAX_DELAY};
 ghost use Rattle.quantity.specs.declared.value.Value.{Value as AnyValue};
 ghost use Rattle.rule_tree.specs.Expression.{Rule};
 ghost use Rattle.rule_eval.specs.RuleCodes.{rule_depth};
@@ -15,13 +16,14 @@ ghost use Rattle.cell_engine.specs.Store.{IsAtDesk};
 use crate::CellStop;
 use crate::desk::Desk;
 use crate::plan::Plan;
-use crate::sight::{look, view};
+use crate::sight::{look, place_of, view};
 use cell_table::CellTable;
 use quantity::{DelayKind, OutOfMemory, Time, Value};
 use rule_eval::{Given, RuleCode, evaluate};
 use rule_tree::RuleStop;
 
-/// A cell takes what the first true rule gives over what it sees, with a value at the port that the rules are for.
+/// A cell takes what the first true rule gives over what it sees, with a value at the port that the
+/// rules are for.
 pub(crate) fn by_rules(
     plan: &Plan,
     rules: &[RuleCode],
@@ -32,7 +34,7 @@ pub(crate) fn by_rules(
     desk: &mut Desk,
 ) -> Result<(), CellStop>
     requires ready { IsAtDesk plan.now table.old desk.old }
-    requires time { t ≤ 359999999 }
+    requires time { t ≤ MAX_DELAY }
     requires cell { i < length table.old.cells }
     requires depth { All (λ rule. rule_depth rule ≤ desk.old.stack.depth) rules.now }
     // For all rules that the codes stand for.
@@ -43,8 +45,9 @@ pub(crate) fn by_rules(
     ensures only { OnlyCell i table.old.cells table.new.cells }
     ensures ready { IsAtDesk plan.now table.new desk.new }
 {
-    look(plan, table, i, &mut desk.neighbours, &mut desk.seen);
-    let view = view(plan, table, i, t, port, &desk.seen);
+    let place = place_of(plan, i);
+    look(plan, table, i, place, &mut desk.neighbours, &mut desk.seen);
+    let view = view(plan, table, i, place, t, port, &desk.seen);
     match evaluate(rules, &view, &mut desk.changed, &mut desk.stack) {
         Ok((given, delay)) => {
             let at = later(t, delay);
@@ -56,8 +59,8 @@ pub(crate) fn by_rules(
 
 /// The time that is so much later.
 fn later(t: Time, delay: Time) -> Time
-    requires time { t ≤ 359999999 }
-    requires delay { delay ≤ 359999999 }
+    requires time { t ≤ MAX_DELAY }
+    requires delay { delay ≤ MAX_DELAY }
     ensures { result ≡ t + delay }
 {
     t.after(delay)

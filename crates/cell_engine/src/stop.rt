@@ -8,7 +8,7 @@ pub enum CellStop {
     NoTrueRule,
     /// An evaluated part is too large.
     Overflow,
-    /// A delay that is no whole number of milliseconds from 0 to 359999999.
+    /// A delay that is no whole number of milliseconds from 0 to `MAX_DELAY`.
     BadDelay(Value),
     /// There is no memory.
     Memory,

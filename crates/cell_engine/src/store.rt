@@ -1,6 +1,7 @@
 // The cells of a group, and what one step makes of a cell.
 ghost use Rattle.std.specs.Prelude.{◌≡◌, ℕ, ◌+◌, ◌<◌, ◌≤◌, [], ◌∷◌, length, map, OnOk, OnErr, IfOk, IsTrue, Ok, Some, slice_get, slice_index_or};
 ghost use Rattle.std.specs.List.{All};
+ghost use Rattle.quantity.specs.declared.bounds.TheConstants.{MAX_CELLS, MAX_DELAY};
 ghost use Rattle.quantity.specs.declared.value.Value.{Value as AnyValue};
 ghost use Rattle.atomic_face.specs.declared.class.PortNo.{PortNo as Port};
 ghost use Rattle.model_tree.specs.Tree.{Group};
@@ -51,7 +52,8 @@ impl CellStore {
     pub fn new(alloc: Global, group: &CellGroup) -> Result<CellStore, OutOfMemory>
         requires { IsTrue (is_sound_group (group_of group.now)) }
         ensures layout { IfOk result (λ s. StandsFor (group_of group.now) s.layout) }
-        ensures cells { IfOk result (λ s. s.cells ≡ map (initial_cell (group_of group.now)) group.now.initial) }
+        ensures cells { IfOk result (λ s. s.cells
+            ≡ map (initial_cell (group_of group.now)) group.now.initial) }
     {
         let plan = plan_of(alloc, group)?;
         let table = table_of(alloc, group)?;
@@ -68,7 +70,7 @@ impl CellStore {
     /// How many cells there are.
     pub fn cells(&self) -> u32
         ensures value { result ≡ length self.now.cells }
-        ensures most { result ≤ 1048576 }
+        ensures most { result ≤ MAX_CELLS }
     {
         self.table.cells()
     }
@@ -115,22 +117,24 @@ impl CellStore {
         variables[usize::from(k)]
     }
 
-    /// A cell that is due gives, at each port that waits for this time, the value of its first pair, which leaves the
-    /// list. It takes no memory.
+    /// A cell that is due gives, at each port that waits for this time, the value of its first
+    /// pair, which leaves the list. It takes no memory.
     pub fn emit<L: Ledger>(&mut self, i: u32, t: Time, steps: &mut Steps<L>) -> Given
         requires within { i < length self.old.cells }
         requires due { cell_next (cell_at self.old.cells i) ≡ Some t }
         ensures value { bag_of_given result ≡ cell_output t (cell_at self.old.cells i) }
-        ensures cells { self.new ≡ with_cell self.old i (cell_emitted t (cell_at self.old.cells i)) }
+        ensures cells { self.new ≡ with_cell self.old i
+            (cell_emitted t (cell_at self.old.cells i)) }
         ensures steps { steps.new ≡ steps.old + 1 }
     {
         steps.tick();
         self.table.emit(i, t)
     }
 
-    /// A cell after its emission moves: where it is woken its rules are evaluated over what the cells gave, and then each
-    /// value of its bag is treated. `ports` are the names of the cell's input ports by number. One visit, and one for each
-    /// offset. After a stop nothing is promised of this cell but what it has emitted.
+    /// A cell after its emission moves: where it is woken its rules are evaluated over what the
+    /// cells gave, and then each value of its bag is treated. `ports` are the names of the cell's
+    /// input ports by number. One visit, and one for each offset. After a stop nothing is promised
+    /// of this cell but what it has emitted.
     pub fn compute<L: Ledger>(
         &mut self,
         i: u32,
@@ -141,11 +145,13 @@ impl CellStore {
         steps: &mut Steps<L>,
     ) -> Result<(), CellStop>
         requires within { i < length self.old.cells }
-        requires time { t ≤ 359999999 }
+        requires time { t ≤ MAX_DELAY }
         requires ports { All (λ (o : Port × AnyValue). o.0.0 < length ports.now) bag.now }
         // For every group that the store stands for.
-        ensures computed { (g : Group) → StandsFor g self.old.layout → IsTrue (is_sound_group g) → ports.now ≡ cell_ports g i
-            → Computes i self.old.cells self.new.cells (computed_at t g self.old.cells i woken bag.now) result }
+        ensures computed { (g : Group) → StandsFor g self.old.layout → IsTrue (is_sound_group g)
+            → ports.now ≡ cell_ports g i
+            → Computes i self.old.cells self.new.cells
+            (computed_at t g self.old.cells i woken bag.now) result }
         ensures layout { self.new.layout ≡ self.old.layout }
         ensures only { OnlyCell i self.old.cells self.new.cells }
         ensures steps { steps.new ≡ steps.old + (1 + length self.old.layout.offsets) }
@@ -179,7 +185,8 @@ impl CellStore {
         self.table.state(alloc, i)
     }
 
-    /// The cell has this state, and every other cell stays. Without memory nothing changes. It counts no visit.
+    /// The cell has this state, and every other cell stays. Without memory nothing changes. It
+    /// counts no visit.
     pub fn put(&mut self, i: u32, state: &CellState) -> Result<(), OutOfMemory>
         requires within { i < length self.old.cells }
         requires state { CanBePut self.old.layout (cell_of_saved state.now) }

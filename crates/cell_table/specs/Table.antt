@@ -1,6 +1,7 @@
 -- How cells lie in flat lists, one for all ports of all cells and one for all variables.
 use Rattle.std.specs.Prelude.{◌≡◌, ℕ, ◌+◌, ◌*◌, ◌≤◌, ◌==◌, Option, Some, None, List, [], ◌∷◌, ◌++◌, map, length, take, drop, slice_index_or, if◌then◌else◌}
 use Rattle.std.specs.List.{All, range_with_len}
+use Rattle.quantity.specs.declared.bounds.TheConstants.{MAX_CELLS}
 use Rattle.quantity.specs.declared.value.Value.{Value}
 use Rattle.quantity.specs.declared.value.Value.TheVariants.{Undefined}
 use Rattle.rule_tree.specs.Ports.{changed_at}
@@ -15,12 +16,13 @@ pub record Table : Type 0 where
   pub variables : ℕ
   pub cells : List CellState
 
--- each cell has just these numbers of ports and variables, and there are no more than a group may have
+-- each cell has just these numbers of ports and variables, and there are no more than a group may
+-- have
 pub record IsTable (t : Table) : Type 0 where
   pub numbers : All (HasNumbers t.width t.variables) t.cells
   pub width : t.width ≤ 4
   pub variables : t.variables ≤ 8
-  pub cells : length t.cells ≤ 1048576
+  pub cells : length t.cells ≤ MAX_CELLS
 
 -- ---- flat lists
 
@@ -36,14 +38,18 @@ variable_in values k = slice_index_or values k Undefined
 -- cell i, of so many ports and variables
 abbrev pub cell_in : (ℕ → PortState) → (ℕ → Value) → ℕ → ℕ → ℕ → CellState
 cell_in port variable width count i =
-    record { ports = map port (range_with_len (i * width) width); variables = map variable (range_with_len (i * count) count) }
+    record {
+      ports = map port (range_with_len (i * width) width);
+      variables = map variable (range_with_len (i * count) count);
+    }
 
 -- all n cells
 abbrev pub cells_in : (ℕ → PortState) → (ℕ → Value) → ℕ → ℕ → ℕ → List CellState
 cells_in port variable width count n = map (cell_in port variable width count) (range_with_len 0 n)
 
 -- the lists have a place for each port and each variable of all n cells
-pub record IsLaid (n w k : ℕ) (es cs : List Value) (ls : List (List (ℕ × Value))) (xs : List Value) : Type 0 where
+pub record IsLaid (n w k : ℕ) (es cs : List Value) (ls : List (List (ℕ × Value)))
+    (xs : List Value) : Type 0 where
   pub emitted : length es ≡ n * w
   pub computed : length cs ≡ n * w
   pub lists : length ls ≡ n * w
@@ -51,7 +57,7 @@ pub record IsLaid (n w k : ℕ) (es cs : List Value) (ls : List (List (ℕ × Va
   pub some : 1 ≤ w
   pub width : w ≤ 4
   pub count : k ≤ 8
-  pub cells : n ≤ 1048576
+  pub cells : n ≤ MAX_CELLS
 
 -- ---- changes
 
@@ -89,12 +95,17 @@ waits_at_0 v = (0, v) ∷ []
 
 -- a cell at the start: its initial value, those of its further ports, and its variables
 abbrev pub started : List Value → List Value → Value → CellState
-started further variables v = record { ports = map initial_port (v ∷ further); variables = variables }
+started further variables v =
+    record { ports = map initial_port (v ∷ further); variables = variables }
 
 -- all cells at the start
 abbrev pub starting : List Value → List Value → List Value → Table
 starting initial further xs =
-    record { width = length further + 1; variables = length xs; cells = map (started further xs) initial }
+    record {
+      width = length further + 1;
+      variables = length xs;
+      cells = map (started further xs) initial;
+    }
 
 -- ---- what a port tells
 

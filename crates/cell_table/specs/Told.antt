@@ -20,7 +20,9 @@ cell_at cells i = slice_index_or cells i no_cell
 
 -- of each of four ports the value, and `?` past the group's ports
 abbrev pub in_four : List Value → List Value
-in_four vs = slice_index_or vs 0 Undefined ∷ slice_index_or vs 1 Undefined ∷ slice_index_or vs 2 Undefined ∷ slice_index_or vs 3 Undefined ∷ []
+in_four vs =
+    slice_index_or vs 0 Undefined ∷ slice_index_or vs 1 Undefined ∷ slice_index_or vs 2 Undefined
+    ∷ slice_index_or vs 3 Undefined ∷ []
 
 -- what each port has emitted
 abbrev pub emitted_of : CellState → List Value

@@ -48,13 +48,15 @@ impl CellTable {
         })
     }
 
-    /// A cell has this state. Room for all its pairs is made first, so that without memory nothing changes.
+    /// A cell has this state. Room for all its pairs is made first, so that without memory nothing
+    /// changes.
     pub fn put(&mut self, i: u32, state: &CellState) -> Result<(), OutOfMemory>
         requires cell { i < length self.old.cells }
         requires ports { length state.now.ports.items ≡ self.old.width }
         requires variables { length state.now.variables.items ≡ self.old.variables }
         requires rising { All (λ (p : Port). RisesFrom 0 p.pairs) (cell_of_saved state.now).ports }
-        ensures ok { OnOk result (self.new ≡ changed_cell i (λ _. cell_of_saved state.now) self.old) }
+        ensures ok { OnOk result (self.new
+            ≡ changed_cell i (λ _. cell_of_saved state.now) self.old) }
         ensures err { OnErr result (self.new ≡ self.old) }
     {
         let pairs = number_of_pairs(&state.ports)?;
@@ -70,7 +72,8 @@ impl CellTable {
 }
 
 fn add_port(ports: &mut Vec<PortState>, port: PortState) -> Result<(), OutOfMemory>
-    ensures { OnOk result (map port_of_saved ports.new.items ≡ map port_of_saved ports.old.items ++ port_of_saved port ∷ []) }
+    ensures { OnOk result (map port_of_saved ports.new.items
+        ≡ map port_of_saved ports.old.items ++ port_of_saved port ∷ []) }
 {
     ports.push(port).map_err(AllocError::from)?;
     Ok(())
@@ -124,7 +127,8 @@ fn write_lists(delays: &mut Delays, first: usize, ports: &[PortState])
     requires places { length delays.old.lists ≤ 4194304 }
     requires rising { All (λ p. RisesFrom 0 p.pairs.items) ports.now }
     requires room { sum_by pair_number ports.now ≤ delays.old.spare }
-    ensures { delays.new.lists ≡ with_piece first (map (λ p. p.pairs.items) ports.now) delays.old.lists }
+    ensures { delays.new.lists ≡ with_piece first
+        (map (λ p. p.pairs.items) ports.now) delays.old.lists }
 {
     for (p, port) in ports.iter().enumerate() {
         write_list(delays, (first + p) as u32, &port.pairs);
@@ -160,7 +164,8 @@ fn clear(delays: &mut Delays, port: u32)
 fn add_pair(delays: &mut Delays, port: u32, at: Time, value: Value)
     requires exists { port < length delays.old.lists }
     requires room { 1 ≤ delays.old.spare }
-    ensures list { ChangesList delays.old delays.new port (put_pair at value (list_of delays.old port)) }
+    ensures list { ChangesList delays.old delays.new port
+        (put_pair at value (list_of delays.old port)) }
     ensures spare { delays.old.spare ≤ delays.new.spare + 1 }
 {
     match delays.transport(port, at, value) {

@@ -1,12 +1,14 @@
 // All ports and variables of all cells, in flat lists.
 ghost use Rattle.std.specs.Prelude.{◌≡◌, ℕ, [], ◌∷◌, ◌++◌, ◌+◌, ◌*◌, ◌<◌, ◌≤◌, take, drop, length, slice_index_or, None, OnOk, OnErr, IfOk, map, replicate};
-ghost use Rattle.std.specs.List.{flat_map};
+ghost use Rattle.std.specs.List.{flat_map, enumerate_from};
+ghost use Rattle.quantity.specs.declared.bounds.TheConstants.{MAX_CELLS};
 ghost use Rattle.quantity.specs.Arithmetic.{same_value};
 ghost use Rattle.quantity.specs.declared.value.Value.{Value as AnyValue};
 ghost use Rattle.rule_tree.specs.Ports.{taken_at, taken_by_port};
 ghost use Rattle.quantity.specs.Delay.{delayed};
 ghost use Rattle.run_model.specs.CellStep.{first_time, least, port_emitted, port_took, cell_next, cell_output, cell_emitted};
-ghost use Rattle.cell_table.specs.Told.{Tells, bag_of_given, cell_at, emitted_of, computed_of, OnlyCell};
+ghost use Rattle.cell_table.specs.Told.{Tells, bag_of_given, if_given, cell_at, emitted_of, computed_of};
+ghost use Rattle.cell_table.specs.Told.{OnlyCell};
 ghost use Rattle.delay_lines.specs.Lists.{list_of, ChangesList};
 ghost use Rattle.cell_table.specs.Table.{starting, waits_at_0, pair_at, IsTable, HasShape, with_variables, changed_cell, changed_port, changed_ports, port_at, given_by_port};
 
@@ -17,7 +19,8 @@ use rule_eval::Given;
 use std::alloc::{AllocError, Global};
 use std::marker::Model;
 
-/// The cells of a group in flat lists. It is seen as their states, and the numbers of their ports and variables.
+/// The cells of a group in flat lists. It is seen as their states, and the numbers of their ports
+/// and variables.
 #[derive(Drop)]
 pub struct CellTable {
     // How many ports a cell has, `out` included, and how many variables.
@@ -47,14 +50,15 @@ impl Model for CellTable {
 }
 
 impl CellTable {
-    /// Cells that each wait at 0 for their initial value, and at each further port for the value of that port.
+    /// Cells that each wait at 0 for their initial value, and at each further port for the value of
+    /// that port.
     pub fn new(
         alloc: Global,
         outs: &[Value],
         further: &[Value],
         variables: &[Value],
     ) -> Result<CellTable, OutOfMemory>
-        requires cells { length outs.now ≤ 1048576 }
+        requires cells { length outs.now ≤ MAX_CELLS }
         requires ports { length further.now ≤ 3 }
         requires variables { length variables.now ≤ 8 }
         ensures { IfOk result (λ t. t ≡ starting outs.now further.now variables.now) }
@@ -92,10 +96,11 @@ impl CellTable {
     /// What a port has emitted, and `?` where the cell has no such port.
     pub fn emitted(&self, i: u32, p: usize) -> Value
         requires cell { i < length self.now.cells }
-        ensures { result ≡ slice_index_or (emitted_of (cell_at self.now.cells i)) p AnyValue.Undefined }
+        ensures { result ≡ slice_index_or (emitted_of
+            (cell_at self.now.cells i)) p AnyValue.Undefined }
     {
         if p < self.width {
-            value_at(&self.emitted, i as usize * self.width + p)
+            value_in(&self.emitted, i as usize * self.width + p)
         } else {
             Value::Undefined
         }
@@ -104,10 +109,11 @@ impl CellTable {
     /// What a port has computed, and `?` where the cell has no such port.
     pub fn computed(&self, i: u32, p: usize) -> Value
         requires cell { i < length self.now.cells }
-        ensures { result ≡ slice_index_or (computed_of (cell_at self.now.cells i)) p AnyValue.Undefined }
+        ensures { result ≡ slice_index_or (computed_of
+            (cell_at self.now.cells i)) p AnyValue.Undefined }
     {
         if p < self.width {
-            value_at(&self.computed, i as usize * self.width + p)
+            value_in(&self.computed, i as usize * self.width + p)
         } else {
             Value::Undefined
         }
@@ -156,6 +162,7 @@ impl CellTable {
     }
 
     /// A port that is due at this time emits the value of its first pair, which leaves the list.
+    #[inline(always)]
     pub fn emit_port(&mut self, i: u32, p: usize, t: Time) -> Option<Value>
         requires cell { i < length self.old.cells }
         ensures given { result ≡ given_by_port t (port_at self.old i p) }
@@ -176,7 +183,8 @@ impl CellTable {
         }
     }
 
-    /// A cell gives, at each port that is due at this time, the value of its first pair, which leaves the list.
+    /// A cell gives, at each port that is due at this time, the value of its first pair, which
+    /// leaves the list.
     pub fn emit(&mut self, i: u32, t: Time) -> Given
         requires cell { i < length self.old.cells }
         ensures given { bag_of_given result ≡ cell_output t (cell_at self.old.cells i) }
@@ -189,13 +197,25 @@ impl CellTable {
                 values: [only, None, None, None],
             };
         }
+        Given {
+            values: self.emit_ports(i, t),
+        }
+    }
+
+    /// The same, port after port.
+    #[inline(never)]
+    fn emit_ports(&mut self, i: u32, t: Time) -> [Option<Value>; 4]
+        requires cell { i < length self.old.cells }
+        ensures given { flat_map if_given (enumerate_from 0 result)
+            ≡ cell_output t (cell_at self.old.cells i) }
+        ensures cell { self.new ≡ changed_cell i (cell_emitted t) self.old }
+    {
+        let _width = self.width();
         let a = self.emit_port(i, 0, t);
         let b = self.emit_port(i, 1, t);
         let c = self.emit_port(i, 2, t);
         let d = self.emit_port(i, 3, t);
-        Given {
-            values: [a, b, c, d],
-        }
+        [a, b, c, d]
     }
 
     /// The least time for which a value waits at a port.
@@ -262,11 +282,12 @@ impl CellTable {
     ) -> Result<(), OutOfMemory>
         requires cell { i < length self.old.cells }
         requires port { p < self.old.width }
-        ensures ok { OnOk result (self.new ≡ changed_cell i (changed_port p (port_took kind at value)) self.old) }
+        ensures ok { OnOk result (self.new
+            ≡ changed_cell i (changed_port p (port_took kind at value)) self.old) }
         ensures err { OnErr result (self.new ≡ self.old) }
     {
         let port = i * self.width as u32 + p as u32;
-        if is_same(&value, &value_at(&self.computed, port as usize)) {
+        if is_same(&value, &value_in(&self.computed, port as usize)) {
             return Ok(());
         }
         put(&mut self.delays, kind, port, at, &value)?;
@@ -286,7 +307,8 @@ impl CellTable {
         given: Option<Value>,
     ) -> Result<(), OutOfMemory>
         requires cell { i < length self.old.cells }
-        ensures ok { OnOk result (self.new ≡ changed_cell i (changed_port p (taken_at (port_took kind at) given)) self.old) }
+        ensures ok { OnOk result (self.new
+            ≡ changed_cell i (changed_port p (taken_at (port_took kind at) given)) self.old) }
         ensures only { OnlyCell i self.old.cells self.new.cells }
         ensures shape { HasShape self.old self.new }
     {
@@ -297,7 +319,8 @@ impl CellTable {
         }
     }
 
-    /// Each port of a cell takes what is given to it. Without memory some ports may have taken theirs.
+    /// Each port of a cell takes what is given to it. Without memory some ports may have taken
+    /// theirs.
     #[inline(always)]
     pub fn take(
         &mut self,
@@ -307,7 +330,9 @@ impl CellTable {
         given: &Given,
     ) -> Result<(), OutOfMemory>
         requires cell { i < length self.old.cells }
-        ensures ok { OnOk result (self.new ≡ changed_cell i (changed_ports (taken_by_port (port_took kind at) given.now.values)) self.old) }
+        ensures ok { OnOk result (self.new
+            ≡ changed_cell i (changed_ports (taken_by_port
+            (port_took kind at) given.now.values)) self.old) }
         ensures only { OnlyCell i self.old.cells self.new.cells }
         ensures shape { HasShape self.old self.new }
     {
@@ -315,7 +340,9 @@ impl CellTable {
         if width == 1 {
             return self.take_given(i, 0, kind, at, given_at(given, 0));
         }
-        self.take_ports(i, kind, at, given)
+        // Of a copy, so that what is given needs no place in memory where a cell has one port.
+        let all = *given;
+        self.take_ports(i, kind, at, &all)
     }
 
     /// The same, port after port.
@@ -419,8 +446,8 @@ fn start() -> Time
     }
 }
 
-/// A value waits in a list for a time, in the way of this kind. Mostly a cell takes the value that it
-/// has, so this is no part of `take`.
+/// A value waits in a list for a time, in the way of this kind. Mostly a cell takes the value that
+/// it has, so this is no part of `take`.
 #[inline(never)]
 fn put(
     delays: &mut Delays,
@@ -430,7 +457,8 @@ fn put(
     value: &Value,
 ) -> Result<(), OutOfMemory>
     requires { port < length delays.old.lists }
-    ensures ok { OnOk result (ChangesList delays.old delays.new port (delayed kind (list_of delays.old port) at value.now)) }
+    ensures ok { OnOk result (ChangesList delays.old delays.new port
+        (delayed kind (list_of delays.old port) at value.now)) }
     ensures err { OnErr result (delays.new.lists ≡ delays.old.lists) }
 {
     match kind {
@@ -439,7 +467,8 @@ fn put(
     }
 }
 
-/// A value waits alone in a list. It takes memory only where the list was empty and nothing is spare.
+/// A value waits alone in a list. It takes memory only where the list was empty and nothing is
+/// spare.
 fn put_alone(delays: &mut Delays, port: u32, at: Time, value: Value) -> Result<(), OutOfMemory>
     requires { port < length delays.old.lists }
     ensures ok { OnOk result (ChangesList delays.old delays.new port ((at, value) ∷ [])) }
@@ -489,10 +518,20 @@ pub(crate) fn value_at(values: &[Value], k: usize) -> Value
     }
 }
 
+/// The value that stands at this place, of which it is known that it is there.
+#[inline(always)]
+fn value_in(values: &[Value], k: usize) -> Value
+    requires { k < length values.now }
+    ensures { result ≡ slice_index_or values.now k AnyValue.Undefined }
+{
+    values[k]
+}
+
 /// Writes values from a place on.
 pub(crate) fn write(values: &mut [Value], first: usize, new: &[Value])
     requires { first + length new.now ≤ length values.old }
-    ensures { values.new ≡ take first values.old ++ new.now ++ drop (first + length new.now) values.old }
+    ensures { values.new ≡ take first values.old ++ new.now
+        ++ drop (first + length new.now) values.old }
 {
     let part = &mut values[first..first + new.len()];
     part.copy_from_slice(new);

@@ -6,7 +6,8 @@ use Rattle.record_text.specs.Held.{y_at}
 use Rattle.sparse_cycle.specs.Collect.{Collected}
 
 -- the lists are what leaves gave
-pub record Collects (t : ℕ) (c : Collected) (y n : List YRecord) (givers : List ℕ) (states : List LeafState) : Type 0 where
+pub record Collects (t : ℕ) (c : Collected) (y n : List YRecord) (givers : List ℕ)
+    (states : List LeafState) : Type 0 where
   pub y_is : y ≡ map (y_at t) c.y
   pub n_is : n ≡ map (y_at t) c.n
   pub givers_is : givers ≡ c.givers

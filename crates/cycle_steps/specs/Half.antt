@@ -18,7 +18,8 @@ abbrev pub due_give : ℕ → List LeafState → Collected
 due_give t states = collected_at_once t states (due_leaves t states)
 
 -- the leaves, the inputs of the instant, the paths and the watchers are those of a run of a model
-pub record IsRunOf (tree : Tree) (t : ℕ) (s : RunState) (states : List LeafState) (inputs : List (ℕ × Value)) (paths : List Path) (watches : ℕ → ℕ → Bool) : Type 0 where
+pub record IsRunOf (tree : Tree) (t : ℕ) (s : RunState) (states : List LeafState)
+    (inputs : List (ℕ × Value)) (paths : List Path) (watches : ℕ → ℕ → Bool) : Type 0 where
   pub states_are : s.leaf_states ≡ states
   pub inputs_are : inputs ≡ inputs_at t s.events
   pub at_inputs : AreAtInputs (ins_of tree) s.events
@@ -27,7 +28,8 @@ pub record IsRunOf (tree : Tree) (t : ℕ) (s : RunState) (states : List LeafSta
   pub watch : (k l : ℕ) → watches k l ≡ watches_at tree k l
 
 -- the parts of a cycle that stand before its leaves move
-pub record HalfOf (p : Parts) (t : ℕ) (states : List LeafState) (records : Records) (touched : List ℕ) : Type 0 where
+pub record HalfOf (p : Parts) (t : ℕ) (states : List LeafState) (records : Records)
+    (touched : List ℕ) : Type 0 where
   pub emitted_is : states ≡ p.emitted
   pub y_is : records.y.items ≡ map (y_at t) (y_of p.given)
   pub n_is : records.n.items ≡ map (y_at t) (n_of p.given)

@@ -38,8 +38,10 @@ abbrev pub stand_of : List LeafState → List (Option ℕ) → Stand
 stand_of states waiting = record { leaf_states = states; waiting = waiting }
 
 -- all leaves have moved, and these are the S records; or this is the first that stops
-abbrev pub WalksTo : {U : Type 0} → ℕ → Walked → List LeafState → List (Option ℕ) → List SRecord → Result U Halt → Type 0
-WalksTo t (walked st rs) states waiting s (Ok u) = (st ≡ stand_of states waiting) × (s ≡ map (s_at t) rs)
+abbrev pub WalksTo : {U : Type 0} → ℕ → Walked → List LeafState → List (Option ℕ) → List SRecord
+    → Result U Halt → Type 0
+WalksTo t (walked st rs) states waiting s (Ok u) =
+    (st ≡ stand_of states waiting) × (s ≡ map (s_at t) rs)
 WalksTo t (halted l why) states waiting s (Ok u) = ⊥
 WalksTo t (walked st rs) states waiting s (Err (Stopped l stop)) = ⊥
 WalksTo t (halted l why) states waiting s (Err (Stopped k stop)) = (k ≡ l) × (stop ≡ why)

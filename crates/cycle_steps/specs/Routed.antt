@@ -1,4 +1,5 @@
--- Paths by their numbers: which of them bring something, and what they bring to leaves and to outputs of top.
+-- Paths by their numbers: which of them bring something, and what they bring to leaves and to
+-- outputs of top.
 use Rattle.std.specs.Prelude.{ℕ, ◌==◌, Bool, ◌||◌, List, [], map}
 use Rattle.std.specs.List.{list_any, filter, flat_map}
 use Rattle.quantity.specs.declared.value.Value.{Value}
@@ -15,7 +16,8 @@ use Rattle.sparse_cycle.specs.Feed.{values_of_leaf}
 
 -- the values at an input of top
 abbrev pub values_of_input : List (ℕ × Value) → ℕ → List Value
-values_of_input inputs k = map (λ (e : ℕ × Value). e.1) (filter (λ (e : ℕ × Value). e.0 == k) inputs)
+values_of_input inputs k =
+    map (λ (e : ℕ × Value). e.1) (filter (λ (e : ℕ × Value). e.0 == k) inputs)
 
 -- what these Y records and inputs put at a source
 abbrev pub values_at : List PortRecord → List (ℕ × Value) → Source → List Value
@@ -25,7 +27,8 @@ values_at y inputs (TopIn k) = values_of_input inputs k
 -- a Y record or an input stands at the path's source
 abbrev pub reaches : List PortRecord → List (ℕ × Value) → Path → Bool
 reaches y inputs p =
-    list_any (λ (r : PortRecord). is_from (Leaf r.leaf) p) y || list_any (λ (e : ℕ × Value). is_from (TopIn e.0) p) inputs
+    list_any (λ (r : PortRecord). is_from (Leaf r.leaf) p) y
+    || list_any (λ (e : ℕ × Value). is_from (TopIn e.0) p) inputs
 
 -- values that come to a port of a leaf
 abbrev pub fed_to : TargetPort → List Value → List PortRecord

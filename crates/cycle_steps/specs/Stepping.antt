@@ -12,13 +12,16 @@ use Rattle.cycle_steps.specs.declared.halt.Halt.{Halt}
 use Rattle.cycle_steps.specs.declared.halt.Halt.TheVariants.{Stopped, Memory}
 
 -- a leaf's state, its next time and its S record
-pub record StepsTo (t : ℕ) (old new : List LeafState) (w w' : List (Option ℕ)) (s s' : List SRecord) (l : ℕ) (x : LeafState) : Type 0 where
+pub record StepsTo (t : ℕ) (old new : List LeafState) (w w' : List (Option ℕ)) (s s' : List SRecord)
+    (l : ℕ) (x : LeafState) : Type 0 where
   pub states_are : new ≡ slice_set old l x
   pub waiting_are : w' ≡ slice_set w l (leaf_next x)
-  pub records_are : s' ≡ s ++ map (s_at t) (record { leaf = l; value = computed_of x; next = leaf_next x } ∷ [])
+  pub records_are : s' ≡ s ++ map (s_at t)
+      (record { leaf = l; value = computed_of x; next = leaf_next x } ∷ [])
 
 -- a step by what becomes of the leaf
-abbrev pub StepsOne : {U : Type 0} → ℕ → List LeafState → List LeafState → List (Option ℕ) → List (Option ℕ) → List SRecord → List SRecord → ℕ → Moved → Result U Halt → Type 0
+abbrev pub StepsOne : {U : Type 0} → ℕ → List LeafState → List LeafState → List (Option ℕ)
+    → List (Option ℕ) → List SRecord → List SRecord → ℕ → Moved → Result U Halt → Type 0
 StepsOne t old new w w' s s' l stayed (Ok u) = ⊥
 StepsOne t old new w w' s s' l (moved x) (Ok u) = StepsTo t old new w w' s s' l x
 StepsOne t old new w w' s s' l (stopped why) (Ok u) = ⊥

@@ -18,7 +18,11 @@ pub record HasRecords (p : Parts) (t : ℕ) (records : Records) : Type 0 where
   pub x_is : records.x.items ≡ map (x_at t) p.fed
   pub out_is : records.out.items ≡ map (out_at t) p.out
 
--- the touched leaves have moved one after another, from where all stood after the emission and from this queue
-pub record CyclesTo {U : Type 0} (tree : Tree) (t : ℕ) (p : Parts) (waiting : List (Option ℕ)) (states : List LeafState) (left : List (Option ℕ)) (records : Records) (result : Result U Halt) : Type 0 where
-  pub walks : WalksTo t (walk tree t p.given p.fed p.touched (stand_of p.emitted waiting)) states left records.s.items result
+-- the touched leaves have moved one after another, from where all stood after the emission and from
+-- this queue
+pub record CyclesTo {U : Type 0} (tree : Tree) (t : ℕ) (p : Parts) (waiting : List (Option ℕ))
+    (states : List LeafState) (left : List (Option ℕ)) (records : Records)
+    (result : Result U Halt) : Type 0 where
+  pub walks : WalksTo t (walk tree t p.given p.fed p.touched
+      (stand_of p.emitted waiting)) states left records.s.items result
   pub records_are : OnOk result (HasRecords p t records)

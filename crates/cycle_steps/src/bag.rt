@@ -16,6 +16,9 @@ pub fn bag_at(x: &[XRecord], leaf: u32, into: &mut Vec<(PortNo, Value)>) -> Resu
     requires empty { into.old.items ≡ [] }
     ensures { OnOk result (into.new.items ≡ bag_in (x_records x.now) leaf) }
 {
+    if x.is_empty() {
+        return Ok(());
+    }
     let first = first_fed(x, leaf);
     append_bag(leaf, &x[first..], into)
 }

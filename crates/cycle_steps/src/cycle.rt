@@ -3,6 +3,7 @@ ghost use Rattle.std.specs.Prelude.{◌≡◌, ◌≤◌, ◌+◌, [], ℕ, fals
 ghost use Rattle.std.specs.List.{All, sum_by};
 ghost use Rattle.std.specs.List.Sorted.{IsNonDecreasingBy};
 ghost use Rattle.std.specs.Vec.{vec_capacity};
+ghost use Rattle.quantity.specs.declared.bounds.TheConstants.{MAX_DELAY};
 ghost use Rattle.model_tree.specs.Tree.{Tree as AnyTree};
 ghost use Rattle.run_model.specs.Run.{RunState};
 ghost use Rattle.record_text.specs.Held.{AreEmpty};
@@ -44,7 +45,7 @@ pub fn cycle_at<C, L: Leaves<C>, W: Watched, R: Routing, S: LeafSet, Q: TimeQueu
     moving: &mut Vec<u32>,
     counter: &mut C,
 ) -> Result<(), Halt>
-    requires time { t ≤ 359999999 }
+    requires time { t ≤ MAX_DELAY }
     requires due { due.now ≡ due_leaves t (L.states leaves.old) }
     requires count { W.count watched.now ≡ length (L.states leaves.old) }
     requires waiting { length (Q.waiting queue.old) ≡ W.count watched.now }
@@ -64,7 +65,8 @@ pub fn cycle_at<C, L: Leaves<C>, W: Watched, R: Routing, S: LeafSet, Q: TimeQueu
     ensures stands { (tree : AnyTree) → L.stands_for leaves.old tree
         → OnOk result (L.stands_for leaves.new tree) }
     ensures kept { L.kept leaves.new ≡ L.kept leaves.old }
-    ensures few { (tree : AnyTree) (s : RunState) → IsRunOf tree t s (L.states leaves.old) inputs.now
+    ensures few { (tree : AnyTree) (s : RunState)
+        → IsRunOf tree t s (L.states leaves.old) inputs.now
         (R.paths routes.now) (W.watches watched.now)
         → length moving.new.items ≤ length (parts_of tree t s).touched }
     ensures moving_room { vec_capacity moving.new ≡ vec_capacity moving.old }

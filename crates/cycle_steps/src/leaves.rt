@@ -7,6 +7,7 @@ use quantity::{OutOfMemory, Time, Value};
 pub trait Leaves<C> {
     ghost use Rattle.std.specs.Prelude.{◌≡◌, ◌<◌, ◌≤◌, ◌+◌, [], ℕ, Some, List, OnOk, length, slice_get, slice_set};
     ghost use Rattle.std.specs.List.{All};
+    ghost use Rattle.quantity.specs.declared.bounds.TheConstants.{MAX_DELAY};
     ghost use Rattle.quantity.specs.declared.value.Value.{Value as AnyValue};
     ghost use Rattle.atomic_face.specs.declared.class.PortNo.{PortNo as AnyPort};
     ghost use Rattle.model_tree.specs.Tree.{Tree, leaves};
@@ -67,7 +68,7 @@ pub trait Leaves<C> {
         counter: &mut C,
     ) -> Result<Told, LeafStop>
         requires within { leaf < length (states self.old) }
-        requires time { t ≤ 359999999 }
+        requires time { t ≤ MAX_DELAY }
         requires ports { All (λ (o : AnyPort × AnyValue). o.0.0 < ports self.old leaf) bag.now }
         ensures moves { (tree : Tree) → stands_for self.old tree
             → Moves (states self.old) (states self.new) leaf

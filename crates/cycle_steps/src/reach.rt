@@ -30,7 +30,8 @@ pub trait Routing {
 
     /// The targets of the paths that begin at a source, by their rising numbers.
     fn targets(&self, from: Source) -> &[Target]
-        ensures { map (λ (t : AnyTarget). t.path) result.now ≡ numbers (is_from from) (paths self.now) };
+        ensures { map (λ (t : AnyTarget). t.path) result.now
+            ≡ numbers (is_from from) (paths self.now) };
 }
 
 /// Puts the rising numbers of the paths at whose source a Y record or an input stands into an empty

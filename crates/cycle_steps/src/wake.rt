@@ -1,5 +1,6 @@
 // Who is woken by those that gave, and who is touched.
-ghost use Rattle.std.specs.Prelude.{◌≡◌, ◌<◌, ◌≤◌, [], ℕ, Bool, false, List, OnOk, length, replicate};
+ghost use Rattle.std.specs.Prelude.{◌≡◌, ◌<◌, ◌≤◌, [], ℕ, Bool, true, false};
+ghost use Rattle.std.specs.Prelude.{List, OnOk, length, replicate, slice_set};
 ghost use Rattle.std.specs.List.{All};
 ghost use Rattle.std.specs.Vec.{vec_capacity};
 ghost use Rattle.record_text.specs.declared.records.XRecord.{XRecord as AnyXRecord};
@@ -24,9 +25,8 @@ pub trait Watched {
     /// Whether the first leaf watches the second.
     ghost watches: { Self → ℕ → ℕ → Bool };
 
-    /// Puts the leaves that watch a leaf into an empty list, in any order.
+    /// Puts the leaves that watch a leaf into a list, in place of what it holds, in any order.
     fn watchers_of(&self, leaf: u32, into: &mut Vec<u32>) -> Result<(), OutOfMemory>
-        requires empty { into.old.items ≡ [] }
         ensures within { OnOk result (All (λ k. k < count self.now) into.new.items) }
         ensures watch { OnOk result ((k : ℕ) → is_among into.new.items k
             ≡ watches self.now k leaf) };
@@ -43,24 +43,36 @@ pub fn mark_all<S: LeafSet>(set: &mut S, leaves: &[u32])
     }
 }
 
-/// All of these leaves are in as well, in both sets.
+/// All of these leaves are in as well, in two sets that have the same members.
 fn mark_both<S: LeafSet>(woken: &mut S, touched: &mut S, leaves: &[u32])
-    requires woken { All (λ l. l < length (S.members woken.old)) leaves.now }
-    requires touched { All (λ l. l < length (S.members touched.old)) leaves.now }
+    requires within { All (λ l. l < length (S.members woken.old)) leaves.now }
+    requires same { S.members touched.old ≡ S.members woken.old }
     ensures long { length (S.members woken.new) ≡ length (S.members woken.old) }
-    ensures touched_long { length (S.members touched.new) ≡ length (S.members touched.old) }
-    ensures woken { Marks (is_among leaves.now) (S.members woken.old) (S.members woken.new) }
-    ensures touched { Marks (is_among leaves.now) (S.members touched.old)
-        (S.members touched.new) }
+    ensures marked { Marks (is_among leaves.now) (S.members woken.old) (S.members woken.new) }
+    ensures same { S.members touched.new ≡ S.members woken.new }
 {
     for leaf in leaves {
-        woken.insert(*leaf);
-        touched.insert(*leaf);
+        mark_one(woken, touched, *leaf);
     }
 }
 
-/// Marks the leaves that watch a giver, in both sets.
-pub fn wake<W: Watched, S: LeafSet>(
+/// A leaf is in as well, in two sets that have the same members. Most are marked more than once:
+/// one that is in is in both.
+fn mark_one<S: LeafSet>(woken: &mut S, touched: &mut S, leaf: u32)
+    requires within { leaf < length (S.members woken.old) }
+    requires same { S.members touched.old ≡ S.members woken.old }
+    ensures marked { S.members woken.new ≡ slice_set (S.members woken.old) leaf true }
+    ensures same { S.members touched.new ≡ S.members woken.new }
+{
+    if woken.has(leaf) {
+        return;
+    }
+    woken.insert(leaf);
+    touched.insert(leaf);
+}
+
+/// Marks the leaves that watch a giver, in two sets that have the same members.
+pub(crate) fn wake<W: Watched, S: LeafSet>(
     watched: &W,
     givers: &[u32],
     near: &mut Vec<u32>,
@@ -68,17 +80,13 @@ pub fn wake<W: Watched, S: LeafSet>(
     touched: &mut S,
 ) -> Result<(), OutOfMemory>
     requires woken { length (S.members woken.old) ≡ W.count watched.now }
-    requires touched { length (S.members touched.old) ≡ W.count watched.now }
+    requires same { S.members touched.old ≡ S.members woken.old }
     ensures long { OnOk result (length (S.members woken.new) ≡ length (S.members woken.old)) }
-    ensures touched_long { OnOk result (length (S.members touched.new)
-        ≡ length (S.members touched.old)) }
     ensures woken { OnOk result (Marks (watches_any (W.watches watched.now) givers.now)
         (S.members woken.old) (S.members woken.new)) }
-    ensures touched { OnOk result (Marks (watches_any (W.watches watched.now) givers.now)
-        (S.members touched.old) (S.members touched.new)) }
+    ensures same { OnOk result (S.members touched.new ≡ S.members woken.new) }
 {
     for leaf in givers {
-        near.clear();
         watched.watchers_of(*leaf, near)?;
         mark_both(woken, touched, near);
     }

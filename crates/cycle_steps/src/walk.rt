@@ -2,6 +2,7 @@
 ghost use Rattle.std.specs.Prelude.{◌≡◌, ◌<◌, ◌≤◌, ◌+◌, ◌++◌, ◌∷◌, ℕ, List, [], OnOk, length, slice_get, slice_set};
 ghost use Rattle.std.specs.List.{All, sum_by};
 ghost use Rattle.std.specs.List.Sorted.{IsNonDecreasingBy};
+ghost use Rattle.quantity.specs.declared.bounds.TheConstants.{MAX_DELAY};
 ghost use Rattle.model_tree.specs.Tree.{Tree as AnyTree, leaves};
 ghost use Rattle.run_model.specs.Run.{PortRecord};
 ghost use Rattle.record_text.specs.declared.records.XRecord.{XRecord as AnyXRecord};
@@ -36,7 +37,7 @@ pub fn walk<C, Q: TimeQueue, S: LeafSet, M: Leaves<C>>(
     s: &mut Vec<SRecord>,
     counter: &mut C,
 ) -> Result<(), Halt>
-    requires time { t ≤ 359999999 }
+    requires time { t ≤ MAX_DELAY }
     requires touched { All (λ l. l < length (M.states movers.old)) touched.now }
     requires waiting { length (Q.waiting queue.old) ≡ length (M.states movers.old) }
     requires woken { length (S.members woken.now) ≡ length (M.states movers.old) }
@@ -52,7 +53,8 @@ pub fn walk<C, Q: TimeQueue, S: LeafSet, M: Leaves<C>>(
     ensures stands { (tree : AnyTree) → M.stands_for movers.old tree
         → OnOk result (M.stands_for movers.new tree) }
     ensures kept { M.kept movers.new ≡ M.kept movers.old }
-    ensures visits { M.visits counter.new ≤ M.visits counter.old + sum_by (M.most movers.old) touched.now }
+    ensures visits { M.visits counter.new
+        ≤ M.visits counter.old + sum_by (M.most movers.old) touched.now }
 {
     for leaf in touched {
         match step(movers, queue, woken, x, *leaf, t, bag, s, counter) {
@@ -75,7 +77,7 @@ fn step<C, Q: TimeQueue, S: LeafSet, M: Leaves<C>>(
     s: &mut Vec<SRecord>,
     counter: &mut C,
 ) -> Result<(), Halt>
-    requires time { t ≤ 359999999 }
+    requires time { t ≤ MAX_DELAY }
     requires within { leaf < length (M.states movers.old) }
     requires waiting { leaf < length (Q.waiting queue.old) }
     requires woken { leaf < length (S.members woken.now) }
@@ -83,7 +85,8 @@ fn step<C, Q: TimeQueue, S: LeafSet, M: Leaves<C>>(
     requires ports { All (λ (r : AnyXRecord). r.port.0 < M.ports movers.old r.leaf) x.now }
     ensures steps { (tree : AnyTree) (given : List PortRecord) → M.stands_for movers.old tree
         → is_in (S.members woken.now) leaf ≡ is_woken_at given (slice_get (leaves tree) leaf)
-        → StepsOne t (M.states movers.old) (M.states movers.new) (Q.waiting queue.old) (Q.waiting queue.new)
+        → StepsOne t (M.states movers.old) (M.states movers.new) (Q.waiting queue.old)
+        (Q.waiting queue.new)
         s.old.items s.new.items leaf (move_at tree t (M.states movers.old) given (x_records x.now) leaf) result }
     ensures stands { (tree : AnyTree) → M.stands_for movers.old tree
         → OnOk result (M.stands_for movers.new tree) }

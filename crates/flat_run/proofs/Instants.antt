@@ -4,7 +4,7 @@ use Rattle.std.specs.Prelude.{nat_lt, nat_le, if◌then◌else◌, IfSome}
 use Rattle.std.specs.List.{All, filter}
 use Rattle.std.proofs.lemmas.List.Elements.{All-filter}
 use Rattle.event_list.specs.Events.{Event}
-use Rattle.event_list.specs.Shown.{first_time}
+use Rattle.event_list.specs.Shown.{first_event_time}
 use Rattle.model_tree.specs.Tree.{Tree}
 use Rattle.run_model.specs.CellStep.{least}
 use Rattle.run_model.specs.Cycle.{next_of_all}
@@ -16,7 +16,7 @@ use Rattle.sparse_cycle.specs.Sparse.{parts_of, next_of_parts, sparse_at, sparse
 -- ---- events
 
 -- no event is before the first of events that stand by rising time
-pub first-event : (es : List Event) → IfSome (first_time es) (λ t. All (λ (e : Event). t ≤ e.time) es) → first_event es ≡ first_time es
+pub first-event : (es : List Event) → IfSome (first_event_time es) (λ t. All (λ (e : Event). t ≤ e.time) es) → first_event es ≡ first_event_time es
 first-event [] all = refl
 first-event (e ∷ es) all = least-first e.time (first_event es) (none-before e.time es (λ k d lt. all (suc k) d (omega (arith, lt))))
   where
@@ -33,7 +33,7 @@ first-event (e ∷ es) all = least-first e.time (first_event es) (none-before e.
     least-first t (Some u) h = let m : min t u ≡ t = omega (arith, h) in ap Some m
 
 -- the same of a time that is told
-pub first-event-of : (es : List Event) (o : Option ℕ) → o ≡ first_time es → IfSome o (λ t. All (λ (e : Event). t ≤ e.time) es) → o ≡ first_event es
+pub first-event-of : (es : List Event) (o : Option ℕ) → o ≡ first_event_time es → IfSome o (λ t. All (λ (e : Event). t ≤ e.time) es) → o ≡ first_event es
 first-event-of es o told all =
     told ∙ sym (first-event es (subst (λ (x : Option ℕ). IfSome x (λ t. All (λ (e : Event). t ≤ e.time) es)) told all))
 

@@ -2,6 +2,7 @@
 use Rattle.std.specs.Prelude.{◌≡◌, ℕ, ◌≤◌, Bool, false, Option, None, List, replicate, slice_get}
 use Rattle.std.specs.List.{All}
 use Rattle.std.specs.List.Sorted.{IsNonDecreasingBy}
+use Rattle.quantity.specs.declared.bounds.TheConstants.{MAX_DELAY}
 use Rattle.event_list.specs.Events.{Event}
 use Rattle.model_tree.specs.Tree.{Tree, ins_of, leaf_count, leaves}
 use Rattle.run_model.specs.Fitting.{FitsTree}
@@ -17,7 +18,7 @@ use Rattle.flat_run.specs.declared.progress.Stop.{Stop}
 
 -- the end, the limit, and how many cycles the last instant has had
 pub record AreCounts (end limit count : ℕ) : Type 0 where
-  pub end_is : end ≤ 359999999
+  pub end_is : end ≤ MAX_DELAY
   pub few : count ≤ limit
   pub some : 1 ≤ limit
 

@@ -2,6 +2,7 @@
 ghost use Rattle.std.specs.Prelude.{◌≡◌, ◌+◌, ◌≤◌, [], Some, false, OnOk, OnErr, length, replicate, if◌then◌else◌};
 ghost use Rattle.std.specs.List.{All};
 ghost use Rattle.std.specs.Vec.{vec_capacity};
+ghost use Rattle.quantity.specs.declared.bounds.TheConstants.{MAX_DELAY};
 ghost use Rattle.atomic_face.specs.Classes.{is_at};
 ghost use Rattle.event_list.specs.Events.{Event as AnyEvent};
 ghost use Rattle.time_queue.specs.Waiting.{leaves_at, without};
@@ -26,8 +27,9 @@ use run_leaves::{FlatLeaves, Watchers};
 use std::sync::ledger::Ledger;
 use time_queue::TimeQueue;
 
-/// The cycle at the next instant: what its parts make of leaves, queue, events and records. It takes no more visits than
-/// values are given and the touched leaves take, also where a leaf stops or memory ends.
+/// The cycle at the next instant: what its parts make of leaves, queue, events and records. It
+/// takes no more visits than values are given and the touched leaves take, also where a leaf stops
+/// or memory ends.
 pub(crate) fn run_cycle<Q: TimeQueue, M: AtomicModel, L: Ledger>(
     leaves: &mut FlatLeaves<M>,
     watchers: &Watchers,
@@ -44,10 +46,11 @@ pub(crate) fn run_cycle<Q: TimeQueue, M: AtomicModel, L: Ledger>(
     records: &mut Records,
     steps: &mut Steps<L>,
 ) -> Result<(), Halt>
-    requires time { t ≤ 359999999 }
+    requires time { t ≤ MAX_DELAY }
     requires frame { IsFrameOf (tree_by leaves.old) routes.now watchers.now events.old
         (vec_capacity due.old) (vec_capacity moving.old) }
-    requires stands { GoesOn (tree_by leaves.old) leaves.old (Q.waiting queue.old) woken.old touched.old }
+    requires stands { GoesOn (tree_by leaves.old) leaves.old
+        (Q.waiting queue.old) woken.old touched.old }
     requires instant { instant_of leaves.old.states events.old ≡ Some t }
     requires records { AreEmpty records.old }
     ensures runs { Runs t (parts_at leaves.old events.old t) events.old
@@ -58,7 +61,8 @@ pub(crate) fn run_cycle<Q: TimeQueue, M: AtomicModel, L: Ledger>(
         (vec_capacity due.new) (vec_capacity moving.new) }
     ensures stands { OnOk result
         (GoesOn (tree_by leaves.old) leaves.new (Q.waiting queue.new) woken.new touched.new) }
-    ensures visits { steps.new ≤ steps.old + visits_in (tree_by leaves.old) (parts_at leaves.old events.old t) }
+    ensures visits { steps.new ≤ steps.old
+        + visits_in (tree_by leaves.old) (parts_at leaves.old events.old t) }
 {
     sparse_cycle::laws::a_cycle_is_what_its_leaves_make_of_it();
     sparse_cycle::laws::leaves_move_one_after_another();
@@ -92,7 +96,8 @@ fn take_due<Q: TimeQueue>(queue: &mut Q, t: Time, due: &mut Vec<u32>)
     queue.take_all_at(t, due);
 }
 
-/// Takes the events of the instant: puts their inputs and values into a list, in place of what it holds.
+/// Takes the events of the instant: puts their inputs and values into a list, in place of what it
+/// holds.
 fn take_inputs(
     events: &mut Events,
     t: Time,

@@ -1,4 +1,5 @@
-//! The run of a model, cycle by cycle: the next cycle is made of the leaves that are due, woken or fed.
+//! The run of a model, cycle by cycle: the next cycle is made of the leaves that are due, woken or
+//! fed.
 #![tactic(auto)]
 
 mod cycle;

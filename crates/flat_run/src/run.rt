@@ -1,6 +1,7 @@
 // A run, cycle by cycle.
 ghost use Rattle.std.specs.Prelude.{◌≡◌, ℕ, ◌+◌, ◌<◌, ◌≤◌, None, [], length, OnOk, OnErr, IfOk, IsTrue, nat_lt};
 ghost use Rattle.std.specs.List.{filter};
+ghost use Rattle.quantity.specs.declared.bounds.TheConstants.{MAX_DELAY};
 ghost use Rattle.atomic_face.specs.Held.{Held};
 ghost use Rattle.atomic_face.specs.Moves.{RestoreGives};
 ghost use Rattle.event_list.specs.Events.{Event as AnyEvent};
@@ -34,7 +35,8 @@ use std::marker::Model;
 use std::sync::ledger::Ledger;
 use time_queue::TimeQueue;
 
-/// A run of a model. It is seen as the model, the state of the reference run, the end, the limit, and why it stopped.
+/// A run of a model. It is seen as the model, the state of the reference run, the end, the limit,
+/// and why it stopped.
 #[derive(Drop)]
 pub struct FlatRun<Q: TimeQueue, M: AtomicModel> {
     leaves: FlatLeaves<M>,
@@ -80,7 +82,8 @@ impl<Q: TimeQueue, M: AtomicModel> Model for FlatRun<Q, M> {
 }
 
 impl<Q: TimeQueue, M: AtomicModel> FlatRun<Q, M> {
-    /// A run of a model before its first cycle, up to `end` and with at most `limit` cycles at one instant.
+    /// A run of a model before its first cycle, up to `end` and with at most `limit` cycles at one
+    /// instant.
     pub fn new(
         alloc: Global,
         model: Tree,
@@ -92,7 +95,7 @@ impl<Q: TimeQueue, M: AtomicModel> FlatRun<Q, M> {
         limit: u32,
     ) -> Result<FlatRun<Q, M>, OutOfMemory>
         requires starts { StartsFrom model stock routes events (Q.waiting queue) }
-        requires end { end ≤ 359999999 }
+        requires end { end ≤ MAX_DELAY }
         requires limit { 1 ≤ limit }
         ensures model { IfOk result (λ r. r.model ≡ model) }
         ensures settings { IfOk result (λ r. r.settings ≡ settings_in stock) }
@@ -128,8 +131,8 @@ impl<Q: TimeQueue, M: AtomicModel> FlatRun<Q, M> {
         })
     }
 
-    /// Runs the next cycle, whose records are then those in `records`, or says how the run ended; then there are none. After
-    /// a stop the same stop is answered for ever, and after Done, Done.
+    /// Runs the next cycle, whose records are then those in `records`, or says how the run ended;
+    /// then there are none. After a stop the same stop is answered for ever, and after Done, Done.
     pub fn cycle<L: Ledger>(
         &mut self,
         records: &mut Records,
@@ -231,7 +234,8 @@ impl<Q: TimeQueue, M: AtomicModel> FlatRun<Q, M> {
         requires goes { self.now.stopped ≡ None }
         requires cell { IsTrue (is_cell (leaf_of self.now.state.leaf_states leaf)) }
         requires within { leaf < length self.now.state.leaf_states }
-        ensures state { IfOk result (λ c. leaf_of self.now.state.leaf_states leaf ≡ cell_state (cell_of_saved c)) }
+        ensures state { IfOk result (λ c. leaf_of self.now.state.leaf_states leaf
+            ≡ cell_state (cell_of_saved c)) }
         ensures steps { steps.new ≡ steps.old + 1 }
     {
         self.leaves.save_cell(*self.due.allocator(), leaf, steps)
@@ -241,7 +245,8 @@ impl<Q: TimeQueue, M: AtomicModel> FlatRun<Q, M> {
     pub fn box_state(&self, leaf: u32) -> Result<Vec<i64>, OutOfMemory>
         requires goes { self.now.stopped ≡ None }
         requires leaf { IsTrue (is_box (leaf_of self.now.state.leaf_states leaf)) }
-        ensures state { IfOk result (λ words. words.items ≡ words_of (leaf_of self.now.state.leaf_states leaf)) }
+        ensures state { IfOk result (λ words. words.items
+            ≡ words_of (leaf_of self.now.state.leaf_states leaf)) }
     {
         let mut words = Vec::new(*self.due.allocator());
         self.leaves.save_box(leaf, &mut words)?;
@@ -261,7 +266,8 @@ impl<Q: TimeQueue, M: AtomicModel> FlatRun<Q, M> {
     pub fn put_cell(&mut self, leaf: u32, state: &CellState) -> Result<(), OutOfMemory>
         requires fresh { (self.old.state.last ≡ None) × (self.old.stopped ≡ None) }
         requires state { CanPut (tree_in self.old) leaf (cell_of_saved state.now) }
-        ensures ok { OnOk result (self.new ≡ with_leaf_state self.old leaf (cell_state (cell_of_saved state.now))) }
+        ensures ok { OnOk result (self.new
+            ≡ with_leaf_state self.old leaf (cell_state (cell_of_saved state.now))) }
         ensures err { OnErr result (self.new ≡ self.old) }
     {
         self.leaves.put_cell(leaf, state)?;
@@ -269,13 +275,14 @@ impl<Q: TimeQueue, M: AtomicModel> FlatRun<Q, M> {
         Ok(())
     }
 
-    /// The leaf's box has the state of these numbers, before the first cycle. BadState exactly where they are none of its
-    /// class with its settings; a refusal changes nothing.
+    /// The leaf's box has the state of these numbers, before the first cycle. BadState exactly
+    /// where they are none of its class with its settings; a refusal changes nothing.
     pub fn put_box(&mut self, leaf: u32, words: &[i64]) -> Result<(), RestoreRefusal>
         requires fresh { (self.old.state.last ≡ None) × (self.old.stopped ≡ None) }
         requires leaf { IsTrue (is_box (leaf_of self.old.state.leaf_states leaf)) }
         ensures { (b : Held) → leaf_of self.old.state.leaf_states leaf ≡ box_state b
-            → (c : Held) × RestoreGives words.now b c result × (self.new ≡ with_leaf_state self.old leaf (box_state c)) }
+            → (c : Held) × RestoreGives words.now b c result
+            × (self.new ≡ with_leaf_state self.old leaf (box_state c)) }
     {
         let alloc = *self.due.allocator();
         self.leaves.put_box(alloc, leaf, words)?;
@@ -286,7 +293,8 @@ impl<Q: TimeQueue, M: AtomicModel> FlatRun<Q, M> {
     /// Drops the events up to this time, before the first cycle. It takes no memory.
     pub fn skip(&mut self, to: Time)
         requires fresh { (self.old.state.last ≡ None) × (self.old.stopped ≡ None) }
-        ensures { self.new ≡ with_events self.old (filter (λ (e : AnyEvent). nat_lt to e.time) self.old.state.events) }
+        ensures { self.new ≡ with_events self.old
+            (filter (λ (e : AnyEvent). nat_lt to e.time) self.old.state.events) }
     {
         self.events.skip(to);
     }

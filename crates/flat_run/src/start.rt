@@ -34,8 +34,8 @@ fn wait<Q: TimeQueue, M: AtomicModel>(leaves: &FlatLeaves<M>, leaf: u32, queue: 
     set_next(queue, leaf, leaves.next(leaf));
 }
 
-/// The routes of a sound model lead to ports that there are, by rising leaf, and no two inputs of top have one name. The
-/// call does nothing.
+/// The routes of a sound model lead to ports that there are, by rising leaf, and no two inputs of
+/// top have one name. The call does nothing.
 pub(crate) fn routes_are_ready()
     ensures { (t : Tree) (r : Flat)
         → RoutesOf t r → IsTrue (is_sound_model t) → AreRoutes t (paths_of r) }

@@ -76,7 +76,8 @@ fn take_members(members: &mut Vec<bool>, into: &mut Vec<u32>)
 fn take_member(members: &mut Vec<bool>, leaf: u32, into: &mut Vec<u32>)
     requires within { leaf < length members.old.items }
     requires room { vec_len into.old < vec_capacity into.old }
-    ensures taken { into.new.items ≡ into.old.items ++ one_member (is_in members.old.items leaf) leaf }
+    ensures taken { into.new.items ≡ into.old.items
+        ++ one_member (is_in members.old.items leaf) leaf }
     ensures left { members.new.items ≡ slice_set members.old.items leaf false }
     ensures capacity { vec_capacity into.new ≡ vec_capacity into.old }
 {

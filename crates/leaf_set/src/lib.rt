@@ -9,6 +9,3 @@ mod words;
 pub use bits::BitSet;
 pub use flags::FlagSet;
 pub use set::LeafSet;
-
-#[cfg(test)]
-mod tests;

@@ -3,13 +3,13 @@ use Rattle.std.proofs.Common.{◌≡◌, ◌≢◌, ℕ, zero, suc, ◌<◌, ◌
 use Rattle.std.specs.Prelude.{IfSome}
 use Rattle.std.proofs.lemmas.List.{get_or-set_other}
 use Rattle.time_queue.specs.Waiting.{time_of, least_of}
-use Rattle.linked_queue.specs.Lists.{AreLinked, Links, first_time, link_of}
+use Rattle.linked_queue.specs.Lists.{AreLinked, Links, time_of_first, link_of}
 use Rattle.linked_queue.specs.declared.lists.Lists.{Lists}
 use Rattle.time_queue.proofs.Least.{least_reached, least_below, least_is, no_least, none_waits}
 
 -- ---- the first leaves stand for all
 
-first_parts : (b t : Option ℕ) (v : ℕ) → first_time b t ≡ Some v → (b ≡ None) × (t ≡ Some v)
+first_parts : (b t : Option ℕ) (v : ℕ) → time_of_first b t ≡ Some v → (b ≡ None) × (t ≡ Some v)
 first_parts None t v is = (refl, is)
 first_parts (Some b) t v is = cc
 
@@ -21,7 +21,7 @@ module _ (T H B N : ℕ → Option ℕ) (links : Links T H B N None) where
   first_waits h t is = first_parts (B h) (T h) t (sym (links.firsts h (no_one h)) ∙ is)
 
   by_before : (y t : ℕ) (o : Option ℕ) → B y ≡ o → T y ≡ Some t → ((x : ℕ) → links.rank x < links.rank y → T x ≡ Some t → (h : ℕ) × (H h ≡ Some t)) → (h : ℕ) × (H h ≡ Some t)
-  by_before y t None is waits before = (y, links.firsts y (no_one y) ∙ (λ i. first_time (is i) (waits i)))
+  by_before y t None is waits before = (y, links.firsts y (no_one y) ∙ (λ i. time_of_first (is i) (waits i)))
   by_before y t (Some x) is waits before =
       let there = links.back x y is in
       let alike = (links.forth x y there.0).1 in

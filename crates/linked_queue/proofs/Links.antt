@@ -3,7 +3,7 @@ use Rattle.std.proofs.Common.{◌≡◌, ◌≢◌, ℕ, zero, suc, ◌+◌, ◌
 use Rattle.std.proofs.lemmas.Bool.{cases_eq}
 use Rattle.std.proofs.lemmas.Bool.Decides.{nat_tests}
 use Rattle.std.proofs.lemmas.List.{get_or-set_same, get_or-set_other}
-use Rattle.linked_queue.specs.Lists.{link_of, first_time, WaitAlike, IsLoose, Links}
+use Rattle.linked_queue.specs.Lists.{link_of, time_of_first, WaitAlike, IsLoose, Links}
 
 -- one place has another value
 pub record Changed (f g : ℕ → Option ℕ) (x : ℕ) (v : Option ℕ) : Type 0 where
@@ -49,9 +49,9 @@ module _ (T H B N : ℕ → Option ℕ) where
       record {
         rank = links.rank;
         firsts = λ z ne. let other : z ≢ x = λ e. ne (ap Some (sym e)) in
-            links.firsts z (nothing_loose z) ∙ ap (first_time (B z)) (sym (change.rest z other));
+            links.firsts z (nothing_loose z) ∙ ap (time_of_first (B z)) (sym (change.rest z other));
         loose_one = λ z e. let one : IsLoose T' H B x = record {
-          unseen = links.firsts x (nothing_loose x) ∙ (λ i. first_time (ahead i) (idle i));
+          unseen = links.firsts x (nothing_loose x) ∙ (λ i. time_of_first (ahead i) (idle i));
           ahead = ahead;
           at = at;
           waits = change.here;
@@ -73,7 +73,7 @@ module _ (T H B N : ℕ → Option ℕ) where
       record {
         rank = links.rank;
         firsts = λ z _. ⊎_elim
-            (λ e. ap H' e ∙ change.here ∙ sym waits ∙ (λ i. first_time (sym loose.ahead i) (T x)) ∙ (λ i. first_time (B (sym e i)) (T (sym e i))))
+            (λ e. ap H' e ∙ change.here ∙ sym waits ∙ (λ i. time_of_first (sym loose.ahead i) (T x)) ∙ (λ i. time_of_first (B (sym e i)) (T (sym e i))))
             (λ ne. change.rest z ne ∙ links.firsts z (not_loose x z ne))
             (cases_eq z x);
         loose_one = λ z e. absurd (nothing_loose z e);
@@ -102,8 +102,8 @@ module _ (T H B N : ℕ → Option ℕ) where
         firsts = λ z _. ⊎_elim
             (λ e. let b : B z ≡ None = ap B e ∙ loose.ahead in
             let t : T' z ≡ None = ap T' e ∙ change.here in
-            ap H e ∙ loose.unseen ∙ sym (λ i. first_time (b i) (t i)))
-            (λ ne. links.firsts z (not_loose x z ne) ∙ ap (first_time (B z)) (sym (change.rest z ne)))
+            ap H e ∙ loose.unseen ∙ sym (λ i. time_of_first (b i) (t i)))
+            (λ ne. links.firsts z (not_loose x z ne) ∙ ap (time_of_first (B z)) (sym (change.rest z ne)))
             (cases_eq z x);
         loose_one = λ z e. absurd (nothing_loose z e);
         forth = λ z y is.
@@ -127,11 +127,11 @@ module _ (T H B N : ℕ → Option ℕ) where
             ⊎_elim
             (λ e. let b : B' z ≡ None = befores.rest z other ∙ ap B e ∙ loose.ahead in
             let t : T' z ≡ None = ap T' e ∙ times.here in
-            ap H e ∙ loose.unseen ∙ sym (λ i. first_time (b i) (t i)))
-            (λ ne'. links.firsts z (not_loose x z ne') ∙ (λ i. first_time (sym (befores.rest z other) i) (sym (times.rest z ne') i)))
+            ap H e ∙ loose.unseen ∙ sym (λ i. time_of_first (b i) (t i)))
+            (λ ne'. links.firsts z (not_loose x z ne') ∙ (λ i. time_of_first (sym (befores.rest z other) i) (sym (times.rest z ne') i)))
             (cases_eq z x);
         loose_one = λ z e. let one : IsLoose T' H B' n = record {
-          unseen = links.firsts n (not_loose x n apart) ∙ (λ i. first_time (first.0 i) (T n));
+          unseen = links.firsts n (not_loose x n apart) ∙ (λ i. time_of_first (first.0 i) (T n));
           ahead = befores.here;
           at = first.1.at;
           waits = times.rest n apart ∙ first.1.other;
@@ -170,8 +170,8 @@ module _ (T H B N : ℕ → Option ℕ) where
         rank = rank_with links.rank l x;
         firsts = λ z _. ⊎_elim
             (λ e. let b : B' z ≡ Some l = ap B' e ∙ befores.here in
-            ap H e ∙ links.firsts x (nothing_loose x) ∙ (λ i. first_time (ahead i) (idle i)) ∙ sym (λ i. first_time (b i) (T' z)))
-            (λ ne. links.firsts z (nothing_loose z) ∙ (λ i. first_time (sym (befores.rest z ne) i) (sym (times.rest z ne) i)))
+            ap H e ∙ links.firsts x (nothing_loose x) ∙ (λ i. time_of_first (ahead i) (idle i)) ∙ sym (λ i. time_of_first (b i) (T' z)))
+            (λ ne. links.firsts z (nothing_loose z) ∙ (λ i. time_of_first (sym (befores.rest z ne) i) (sym (times.rest z ne) i)))
             (cases_eq z x);
         loose_one = λ z e. absurd (nothing_loose z e);
         forth = λ z y is'. ⊎_elim
@@ -209,8 +209,8 @@ module _ (T H B N : ℕ → Option ℕ) where
         firsts = λ z _. ⊎_elim
             (λ e. let bz : B' z ≡ None = ap B' e ∙ befores.here in
             let tz : T' z ≡ None = ap T' e ∙ times.here in
-            ap H e ∙ links.firsts x (nothing_loose x) ∙ (λ i. first_time (behind i) (T x)) ∙ sym (λ i. first_time (bz i) (tz i)))
-            (λ ne. links.firsts z (nothing_loose z) ∙ (λ i. first_time (sym (befores.rest z ne) i) (sym (times.rest z ne) i)))
+            ap H e ∙ links.firsts x (nothing_loose x) ∙ (λ i. time_of_first (behind i) (T x)) ∙ sym (λ i. time_of_first (bz i) (tz i)))
+            (λ ne. links.firsts z (nothing_loose z) ∙ (λ i. time_of_first (sym (befores.rest z ne) i) (sym (times.rest z ne) i)))
             (cases_eq z x);
         loose_one = λ z e. absurd (nothing_loose z e);
         forth = λ z y is'.
@@ -245,13 +245,13 @@ module _ (T H B N : ℕ → Option ℕ) where
         firsts = λ z _. ⊎_elim
             (λ e. let bz : B' z ≡ None = ap B' e ∙ bx in
             let tz : T' z ≡ None = ap T' e ∙ times.here in
-            ap H e ∙ links.firsts x (nothing_loose x) ∙ (λ i. first_time (behind i) (T x)) ∙ sym (λ i. first_time (bz i) (tz i)))
+            ap H e ∙ links.firsts x (nothing_loose x) ∙ (λ i. time_of_first (behind i) (T x)) ∙ sym (λ i. time_of_first (bz i) (tz i)))
             (λ ne. ⊎_elim
             (λ e. let bz : B z ≡ Some x = ap B e ∙ after.0 in
             let bz' : B' z ≡ Some b = ap B' e ∙ befores.here in
-            links.firsts z (nothing_loose z) ∙ (λ i. first_time (bz i) (T z)) ∙ sym (λ i. first_time (bz' i) (T' z)))
+            links.firsts z (nothing_loose z) ∙ (λ i. time_of_first (bz i) (T z)) ∙ sym (λ i. time_of_first (bz' i) (T' z)))
             (λ ne'. let bz : B' z ≡ B z = befores.rest z ne' ∙ befores1.rest z ne in
-            links.firsts z (nothing_loose z) ∙ (λ i. first_time (sym bz i) (sym (times.rest z ne) i)))
+            links.firsts z (nothing_loose z) ∙ (λ i. time_of_first (sym bz i) (sym (times.rest z ne) i)))
             (cases_eq z n))
             (cases_eq z x);
         loose_one = λ z e. absurd (nothing_loose z e);
@@ -290,7 +290,7 @@ module _ (T H B N : ℕ → Option ℕ) where
 pub nothing_linked : (T H B N : ℕ → Option ℕ) → ((k : ℕ) → T k ≡ None) → ((k : ℕ) → H k ≡ None) → ((k : ℕ) → B k ≡ None) → ((k : ℕ) → N k ≡ None) → Links T H B N None
 nothing_linked T H B N ts hs bs ns = record {
   rank = λ k. k;
-  firsts = λ x _. hs x ∙ sym (λ i. first_time (bs x i) (ts x i));
+  firsts = λ x _. hs x ∙ sym (λ i. time_of_first (bs x i) (ts x i));
   loose_one = λ x e. absurd (nothing_loose x e);
   forth = λ x y is. absurd (let none = ns x in cc);
   back = λ x y is. absurd (let none = bs y in cc);

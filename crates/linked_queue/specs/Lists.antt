@@ -7,9 +7,9 @@ abbrev pub link_of : List (Option ℕ) → ℕ → Option ℕ
 link_of links leaf = slice_index_or links leaf None
 
 -- the time of a leaf that stands first, and none where one stands before it
-abbrev pub first_time : Option ℕ → Option ℕ → Option ℕ
-first_time None time = time
-first_time (Some before) time = None
+abbrev pub time_of_first : Option ℕ → Option ℕ → Option ℕ
+time_of_first None time = time
+time_of_first (Some before) time = None
 
 -- both wait for one time
 pub record WaitAlike (time : ℕ → Option ℕ) (x y : ℕ) : Type 0 where
@@ -28,7 +28,7 @@ pub record IsLoose (time first before : ℕ → Option ℕ) (x : ℕ) : Type 0 w
 -- may be loose
 pub record Links (time first before after : ℕ → Option ℕ) (loose : Option ℕ) : Type 0 where
   pub rank : ℕ → ℕ
-  pub firsts : (x : ℕ) → loose ≢ Some x → first x ≡ first_time (before x) (time x)
+  pub firsts : (x : ℕ) → loose ≢ Some x → first x ≡ time_of_first (before x) (time x)
   pub loose_one : (x : ℕ) → loose ≡ Some x → IsLoose time first before x
   pub forth : (x y : ℕ) → after x ≡ Some y → (before y ≡ Some x) × WaitAlike time x y
   pub back : (x y : ℕ) → before y ≡ Some x → (after x ≡ Some y) × (rank x < rank y)

@@ -5,6 +5,3 @@ mod linked;
 mod lists;
 
 pub use linked::LinkedQueue;
-
-#[cfg(test)]
-mod tests;

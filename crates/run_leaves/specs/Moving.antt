@@ -40,7 +40,8 @@ leaf_stop (cell.BadDelay v) = Rule (rules.BadDelay v)
 leaf_stop cell.Memory = Memory
 
 -- a cell that moved: the cells then, and what is told of it
-pub record HasMovedCell (old new : List CellState) (i : ℕ) (c : CellState) (told : Told) : Type 0 where
+pub record HasMovedCell (old new : List CellState) (i : ℕ) (c : CellState)
+    (told : Told) : Type 0 where
   pub cells : new ≡ slice_set old i c
   pub value : told.value ≡ computed_of (cell_state c)
   pub next : told.next ≡ cell_next c
@@ -60,21 +61,26 @@ abbrev pub with_box : Stocked → Held → Stocked
 with_box s b = record s { box = b }
 
 -- a box that moved: the stock then, and what is told of it
-pub record HasMovedBox (old new : List Stocked) (at : ℕ) (s : Stocked) (b : Held) (told : Told) : Type 0 where
+pub record HasMovedBox (old new : List Stocked) (at : ℕ) (s : Stocked) (b : Held)
+    (told : Told) : Type 0 where
   pub stock : new ≡ slice_set old at (with_box s b)
   pub value : told.value ≡ None
   pub next : told.next ≡ next_of_box b
 
 -- a box moves to a state, or overflows
-abbrev pub GoesTo : List Stocked → List Stocked → ℕ → Stocked → Option (List ℤ) → Result Told LeafStop → Type 0
-GoesTo old new at s (Some words) (Ok told) = HasMovedBox old new at s (with_box_state s.box words) told
+abbrev pub GoesTo : List Stocked → List Stocked → ℕ → Stocked → Option (List ℤ)
+    → Result Told LeafStop → Type 0
+GoesTo old new at s (Some words) (Ok told) =
+    HasMovedBox old new at s (with_box_state s.box words) told
 GoesTo old new at s None (Ok told) = ⊥
 GoesTo old new at s (Some words) (Err (Rule stop)) = ⊥
 GoesTo old new at s None (Err (Rule stop)) = (stop ≡ rules.Overflow) × (new ≡ old)
 GoesTo old new at s words (Err Memory) = new ≡ old
 
 -- the box at a place moves by its class
-pub record MovesBox (t : ℕ) (bag : Bag) (at : ℕ) (old new : List Stocked) (result : Result Told LeafStop) : Type 0 where
+pub record MovesBox (t : ℕ) (bag : Bag) (at : ℕ) (old new : List Stocked)
+    (result : Result Told LeafStop) : Type 0 where
   pub before : Stocked
   pub stood : slice_get old at ≡ Some before
-  pub goes : GoesTo old new at before (moved_state before.box.kind before.box.settings before.box.state t bag) result
+  pub goes : GoesTo old new at before
+      (moved_state before.box.kind before.box.settings before.box.state t bag) result

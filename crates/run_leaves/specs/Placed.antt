@@ -1,4 +1,5 @@
--- What the leaves of a run start with: a place for each leaf, and a store for each group. Only private clauses name these.
+-- What the leaves of a run start with: a place for each leaf, and a store for each group. Only
+-- private clauses name these.
 use Rattle.std.specs.Prelude.{◌≡◌, ℕ, Some, List, map, length, slice_get, IsTrue}
 use Rattle.model_tree.specs.declared.table.Model.{Model}
 use Rattle.model_tree.specs.declared.leaves.LeafAt.{LeafAt}
@@ -36,4 +37,6 @@ pub record AreStoresOf (m : Model) (stores : List Cells) : Type 0 where
 
 -- each group is sound
 abbrev pub HasSoundGroups : Model → Type 0
-HasSoundGroups m = OfTree m (λ t. (n : ℕ) (g : Group) → slice_get (groups t) n ≡ Some g → IsTrue (is_sound_group g))
+HasSoundGroups m =
+    OfTree m (λ t. (n : ℕ) (g : Group) → slice_get (groups t) n ≡ Some g
+    → IsTrue (is_sound_group g))

@@ -1,4 +1,5 @@
--- The leaves of a run as the program keeps them: a place for each leaf, which says where its state lies.
+-- The leaves of a run as the program keeps them: a place for each leaf, which says where its state
+-- lies.
 use Rattle.std.specs.Prelude.{◌≡◌, ℕ, ◌+◌, ◌<◌, ◌≤◌, Bool, true, false, Option, Some, None, List, [], map, length, slice_get, slice_index_or, IsTrue, ℤ}
 use Rattle.std.specs.List.{All}
 use Rattle.cell_grid.specs.Space.{cell_count}
@@ -35,7 +36,8 @@ tree_at m settings = tree_of m (settings_at settings)
 
 -- ---- where states lie
 
--- the leaves: the model, where each leaf's state lies, what is kept of each group, and all states in declared order
+-- the leaves: the model, where each leaf's state lies, what is kept of each group, and all states
+-- in declared order
 pub record Seated : Type 0 where
   pub model : Model
   pub seats : List LeafAt
@@ -115,8 +117,10 @@ pub record IsBoxPlace (tree : Tree) (settings : List (List ℤ)) (l : ℕ) (at :
   pub leaf : slice_get (leaves tree) l ≡ Some (atomic_leaf name class words)
   pub inside : at.0 < length settings
 
--- a cell of a group that the store of this number stands for; the cells of the group stand one after another
-pub record IsCellPlace (tree : Tree) (seats : List LeafAt) (layouts : List Layout) (sizes : List ℕ) (l store cell : ℕ) : Type 0 where
+-- a cell of a group that the store of this number stands for; the cells of the group stand one
+-- after another
+pub record IsCellPlace (tree : Tree) (seats : List LeafAt) (layouts : List Layout) (sizes : List ℕ)
+    (l store cell : ℕ) : Type 0 where
   pub group : Group
   pub first : ℕ
   pub layout : Layout
@@ -127,14 +131,19 @@ pub record IsCellPlace (tree : Tree) (seats : List LeafAt) (layouts : List Layou
   pub size : slice_get sizes store ≡ Some (cell_count group.space)
   pub inside : cell < cell_count group.space
   pub number : first + cell ≡ l
-  pub others : (k : ℕ) → k < cell_count group.space → slice_get seats (first + k) ≡ Some (Cell store k)
+  pub others : (k : ℕ) → k < cell_count group.space
+      → slice_get seats (first + k) ≡ Some (Cell store k)
 
 -- each leaf has a place of its own
-pub record Places (tree : Tree) (seats : List LeafAt) (settings : List (List ℤ)) (layouts : List Layout) (sizes : List ℕ) : Type 0 where
+pub record Places (tree : Tree) (seats : List LeafAt) (settings : List (List ℤ))
+    (layouts : List Layout) (sizes : List ℕ) : Type 0 where
   pub long : length seats ≡ leaf_count tree
-  pub boxes : (l : ℕ) (at : BoxNo) → slice_get seats l ≡ Some (Atomic at) → IsBoxPlace tree settings l at
-  pub cells : (l store cell : ℕ) → slice_get seats l ≡ Some (Cell store cell) → IsCellPlace tree seats layouts sizes l store cell
-  pub apart : (k l : ℕ) (at : LeafAt) → slice_get seats k ≡ Some at → slice_get seats l ≡ Some at → k ≡ l
+  pub boxes : (l : ℕ) (at : BoxNo) → slice_get seats l ≡ Some (Atomic at)
+      → IsBoxPlace tree settings l at
+  pub cells : (l store cell : ℕ) → slice_get seats l ≡ Some (Cell store cell)
+      → IsCellPlace tree seats layouts sizes l store cell
+  pub apart : (k l : ℕ) (at : LeafAt) → slice_get seats k ≡ Some at → slice_get seats l ≡ Some at
+      → k ≡ l
 
 -- a cell has at least its port out
 abbrev pub HasPort : CellState → Type 0

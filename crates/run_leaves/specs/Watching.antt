@@ -26,7 +26,8 @@ watches_there blocks (Some (Some number)) k l = watches_in (slice_get blocks num
 abbrev pub watches_by : Watching → ℕ → ℕ → Bool
 watches_by w k l = watches_there w.blocks (slice_get w.seats l) k l
 
--- they are the watchers of a model: there is a place for each leaf, and each watches whom it watches there
+-- they are the watchers of a model: there is a place for each leaf, and each watches whom it
+-- watches there
 pub record IsWatchingOf (tree : Tree) (w : Watching) : Type 0 where
   pub long : length w.seats ≡ leaf_count tree
   pub watches : (k l : ℕ) → watches_by w k l ≡ watches_at tree k l
@@ -53,14 +54,19 @@ pub record IsInBlock (count : ℕ) (blocks : List Block) (l number : ℕ) : Type
 -- each leaf that has the number of a block is in it
 abbrev pub StandInBlocks : List (Option ℕ) → List Block → Type 0
 StandInBlocks seats blocks =
-    (l number : ℕ) → slice_get seats l ≡ Some (Some number) → IsInBlock (length seats) blocks l number
+    (l number : ℕ) → slice_get seats l ≡ Some (Some number)
+    → IsInBlock (length seats) blocks l number
 
 -- ---- the blocks of a model
 
 -- the block of a group whose first cell has this leaf number
 abbrev pub block_of : Group → ℕ → Block
 block_of g first =
-    record { first = first; most = length g.offsets; reach = record { space = g.space; offsets = g.offsets } }
+    record {
+      first = first;
+      most = length g.offsets;
+      reach = record { space = g.space; offsets = g.offsets };
+    }
 
 -- an atomic component is in no block, and a cell in that of its group
 abbrev pub IsSeatOf : List Block → Leaf → Option ℕ → Type 0
@@ -71,5 +77,6 @@ IsSeatOf blocks (cell_leaf g first cell) seat =
 -- so it is for the leaves that have a place
 abbrev pub AreSeated : Tree → List (Option ℕ) → List Block → Type 0
 AreSeated tree seats blocks =
-    (k : ℕ) (l : Leaf) (seat : Option ℕ) → slice_get (leaves tree) k ≡ Some l → slice_get seats k ≡ Some seat
+    (k : ℕ) (l : Leaf) (seat : Option ℕ) → slice_get (leaves tree) k ≡ Some l
+    → slice_get seats k ≡ Some seat
     → IsSeatOf blocks l seat

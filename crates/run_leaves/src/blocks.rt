@@ -1,5 +1,6 @@
 // The cells of a group as a block of leaves that stand one after another.
-ghost use Rattle.std.specs.Prelude.{◌≡◌, ℕ, ◌+◌, ◌<◌, ◌≤◌, ◌^◌, Some, [], ◌∷◌, ◌++◌, length, map, OnOk, OnErr, IfOk};
+ghost use Rattle.std.specs.Prelude.{◌≡◌, ℕ, ◌+◌, ◌<◌, ◌≤◌, ◌^◌, Some, [], ◌∷◌, ◌++◌};
+ghost use Rattle.std.specs.Prelude.{length, map, OnOk, OnErr, IfOk};
 ghost use Rattle.std.specs.List.{All};
 ghost use Rattle.model_tree.specs.Stands.{group_of};
 ghost use Rattle.model_tree.specs.Leaves.{AtLeaf, IsLeafOf, OfTree};
@@ -11,7 +12,8 @@ use model_tree::{CellGroup, LeafAt, Model as Tree};
 use quantity::OutOfMemory;
 use std::alloc::{AllocError, Global};
 
-/// The cells of a group: the number of the first one's leaf, the most cells that watch one of them, and which do.
+/// The cells of a group: the number of the first one's leaf, the most cells that watch one of
+/// them, and which do.
 #[derive(Drop)]
 pub(crate) struct Block {
     first: u32,
@@ -19,8 +21,8 @@ pub(crate) struct Block {
     reach: Reach,
 }
 
-/// The number of the block that a leaf is in, if it is a cell. A group's first cell begins a block, and each other cell
-/// is in that of the leaf before it.
+/// The number of the block that a leaf is in, if it is a cell. A group's first cell begins a block,
+/// and each other cell is in that of the leaf before it.
 pub(crate) fn seat_at(
     alloc: Global,
     model: &Tree,
@@ -71,13 +73,13 @@ fn begin(
 }
 
 impl Block {
-    /// Puts the leaves that watch a leaf of this block.
+    /// Puts the leaves that watch a leaf of this block, in place of what the list holds. One that
+    /// holds as many from before is only written over.
     pub(crate) fn put_watchers(&self, leaf: u32, into: &mut Vec<u32>) -> Result<(), OutOfMemory>
         requires begun { self.now.first ≤ leaf }
         requires inside { leaf < end_of self.now }
         requires short { end_of self.now ≤ 2 ^ 32 }
         requires room { length self.now.reach.offsets ≤ self.now.most }
-        requires empty { into.old.items ≡ [] }
         ensures within { OnOk result (All (λ k. k < end_of self.now) into.new.items) }
         ensures watch { OnOk result ((k : ℕ) → is_among into.new.items k
             ≡ watches_in (Some self.now) k leaf) }

@@ -1,5 +1,6 @@
 // How a box moves.
 ghost use Rattle.std.specs.Prelude.{◌≡◌, ◌<◌, ◌≤◌, length};
+ghost use Rattle.quantity.specs.declared.bounds.TheConstants.{MAX_DELAY};
 ghost use Rattle.run_leaves.specs.Moving.{MovesBox};
 
 use atomic_face::{AdvanceRefusal, AtomicModel, BoxNo, PortNo, Stock};
@@ -15,7 +16,7 @@ pub(crate) fn move_box<M: AtomicModel>(
     bag: &[(PortNo, Value)],
 ) -> Result<Told, LeafStop>
     requires at { at.0 < length stock.old }
-    requires time { t ≤ 359999999 }
+    requires time { t ≤ MAX_DELAY }
     ensures { MovesBox t bag.now at.0 stock.old stock.new result }
 {
     match stock.advance(at, t, bag) {

@@ -1,6 +1,7 @@
 // What one cell gives, and how it moves.
 ghost use Rattle.std.specs.Prelude.{◌≡◌, ℕ, ◌+◌, ◌<◌, ◌≤◌, ◌++◌, Some, [], ◌∷◌, length, OnOk, IsTrue, slice_index_or};
 ghost use Rattle.std.specs.List.{All};
+ghost use Rattle.quantity.specs.declared.bounds.TheConstants.{MAX_DELAY};
 ghost use Rattle.quantity.specs.declared.value.Value.{Value as AnyValue};
 ghost use Rattle.quantity.specs.declared.value.Value.TheVariants.{Undefined};
 ghost use Rattle.atomic_face.specs.declared.class.PortNo.{PortNo as AnyPort};
@@ -80,7 +81,7 @@ pub(crate) fn move_cell<L: Ledger>(
 ) -> Result<Told, LeafStop>
     requires within { cell < length store.old.cells }
     requires some { HasPort (cell_at store.old.cells cell) }
-    requires time { t ≤ 359999999 }
+    requires time { t ≤ MAX_DELAY }
     requires ports { All (λ (o : AnyPort × AnyValue). o.0.0 < length ports.now) bag.now }
     ensures moves { (g : Group) → StandsFor g store.old.layout → IsTrue (is_sound_group g)
         → ports.now ≡ cell_ports g cell

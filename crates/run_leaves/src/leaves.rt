@@ -1,6 +1,7 @@
 // The leaves of a run: each is asked for its output, and then to move.
 ghost use Rattle.std.specs.Prelude.{◌≡◌, ℕ, ◌+◌, ◌<◌, ◌≤◌, ◌++◌, Some, List, [], length, map, OnOk, OnErr, IfOk, IsTrue, slice_get};
 ghost use Rattle.std.specs.List.{All};
+ghost use Rattle.quantity.specs.declared.bounds.TheConstants.{MAX_DELAY};
 ghost use Rattle.quantity.specs.declared.value.Value.{Value as AnyValue};
 ghost use Rattle.atomic_face.specs.declared.class.PortNo.{PortNo as AnyPort};
 ghost use Rattle.atomic_face.specs.Held.{Held};
@@ -32,8 +33,8 @@ use std::alloc::Global;
 use std::marker::Model;
 use std::sync::ledger::Ledger;
 
-/// The leaves of a model: the cells of each group in a store, and the boxes in their stock. They are seen as the model,
-/// where each leaf's state lies, and all states in declared order.
+/// The leaves of a model: the cells of each group in a store, and the boxes in their stock. They
+/// are seen as the model, where each leaf's state lies, and all states in declared order.
 #[derive(Drop)]
 pub struct FlatLeaves<M: AtomicModel> {
     model: Tree,
@@ -64,8 +65,8 @@ impl<M: AtomicModel> Model for FlatLeaves<M> {
 }
 
 impl<M: AtomicModel> FlatLeaves<M> {
-    /// The leaves of a sound model at their start. Each atomic component has a box of its own, at the start that its
-    /// settings give.
+    /// The leaves of a sound model at their start. Each atomic component has a box of its own, at
+    /// the start that its settings give.
     pub fn new(alloc: Global, model: Tree, stock: Stock<M>) -> Result<FlatLeaves<M>, OutOfMemory>
         requires sound { IsTrue (is_sound_model (tree_at model (settings_in stock))) }
         requires boxes { BoxesStand stock model }
@@ -131,7 +132,8 @@ impl<M: AtomicModel> FlatLeaves<M> {
     /// Appends the numbers of the state of a leaf's box.
     pub fn save_box(&self, leaf: u32, into: &mut Vec<i64>) -> Result<(), OutOfMemory>
         requires { IsTrue (is_box (leaf_of self.now.states leaf)) }
-        ensures { OnOk result (into.new.items ≡ into.old.items ++ words_of (leaf_of self.now.states leaf)) }
+        ensures { OnOk result (into.new.items
+            ≡ into.old.items ++ words_of (leaf_of self.now.states leaf)) }
     {
         match self.seats[leaf as usize] {
             LeafAt::Atomic(at) => self.stock.save(at, into),
@@ -148,7 +150,8 @@ impl<M: AtomicModel> FlatLeaves<M> {
     ) -> Result<CellState, OutOfMemory>
         requires cell { IsTrue (is_cell (leaf_of self.now.states leaf)) }
         requires within { leaf < length self.now.states }
-        ensures state { IfOk result (λ c. leaf_of self.now.states leaf ≡ cell_state (cell_of_saved c)) }
+        ensures state { IfOk result (λ c. leaf_of self.now.states leaf
+            ≡ cell_state (cell_of_saved c)) }
         ensures steps { steps.new ≡ steps.old + 1 }
     {
         match self.seats[leaf as usize] {
@@ -162,7 +165,8 @@ impl<M: AtomicModel> FlatLeaves<M> {
         requires fits { OfLeaf (tree_at self.old.model self.old.settings) leaf
             (λ l. Fits l (cell_state (cell_of_saved state.now))) }
         requires rising { CellWaitsFrom 0 (cell_of_saved state.now) }
-        ensures ok { OnOk result (self.new ≡ with_state self.old leaf (cell_state (cell_of_saved state.now))) }
+        ensures ok { OnOk result (self.new
+            ≡ with_state self.old leaf (cell_state (cell_of_saved state.now))) }
         ensures err { OnErr result (self.new ≡ self.old) }
     {
         match self.seats[leaf as usize] {
@@ -171,12 +175,13 @@ impl<M: AtomicModel> FlatLeaves<M> {
         }
     }
 
-    /// A leaf's box has the state of these numbers. BadState exactly where they are none of its class with its settings; a
-    /// refusal changes nothing.
+    /// A leaf's box has the state of these numbers. BadState exactly where they are none of its
+    /// class with its settings; a refusal changes nothing.
     pub fn put_box(&mut self, alloc: Global, leaf: u32, words: &[i64]) -> Result<(), RestoreRefusal>
         requires { IsTrue (is_box (leaf_of self.old.states leaf)) }
         ensures puts { (b : Held) → leaf_of self.old.states leaf ≡ box_state b
-            → (c : Held) × RestoreGives words.now b c result × (self.new ≡ with_state self.old leaf (box_state c)) }
+            → (c : Held) × RestoreGives words.now b c result
+            × (self.new ≡ with_state self.old leaf (box_state c)) }
         ensures err { OnErr result (self.new ≡ self.old) }
     {
         match self.seats[leaf as usize] {
@@ -185,7 +190,8 @@ impl<M: AtomicModel> FlatLeaves<M> {
         }
     }
 
-    /// A leaf that is due gives its output, and every other leaf stays. A cell takes one visit, and a box none.
+    /// A leaf that is due gives its output, and every other leaf stays. A cell takes one visit, and
+    /// a box none.
     pub fn give<L: Ledger>(
         &mut self,
         leaf: u32,
@@ -195,7 +201,8 @@ impl<M: AtomicModel> FlatLeaves<M> {
     ) -> Result<(), OutOfMemory>
         requires empty { into.old.items ≡ [] }
         requires due { leaf_next (leaf_of self.old.states leaf) ≡ Some t }
-        ensures given { OnOk result (into.new.items ≡ collected_of t (leaf_of self.old.states leaf)) }
+        ensures given { OnOk result (into.new.items
+            ≡ collected_of t (leaf_of self.old.states leaf)) }
         ensures leaves { OnOk result
             (self.new ≡ with_state self.old leaf (leaf_emitted t (leaf_of self.old.states leaf))) }
         ensures kept { StaysAs self.old self.new }
@@ -210,8 +217,8 @@ impl<M: AtomicModel> FlatLeaves<M> {
         }
     }
 
-    /// A leaf after its emission moves over the states as they stand. After a stop, and without memory, its state may be
-    /// any; model, places and settings stay.
+    /// A leaf after its emission moves over the states as they stand. After a stop, and without
+    /// memory, its state may be any; model, places and settings stay.
     pub fn move_leaf<L: Ledger>(
         &mut self,
         leaf: u32,
@@ -221,11 +228,12 @@ impl<M: AtomicModel> FlatLeaves<M> {
         steps: &mut Steps<L>,
     ) -> Result<Told, LeafStop>
         requires within { leaf < length self.old.states }
-        requires time { t ≤ 359999999 }
+        requires time { t ≤ MAX_DELAY }
         requires ports { All (λ (o : AnyPort × AnyValue). o.0.0 < ports_at self.old leaf) bag.now }
         ensures moves { Moves self.old.states self.new.states leaf
             (move_to t self.old.states woken bag.now
-            (slice_get (leaves (tree_at self.old.model self.old.settings)) leaf) (leaf_of self.old.states leaf))
+            (slice_get (leaves (tree_at self.old.model self.old.settings)) leaf)
+            (leaf_of self.old.states leaf))
             result }
         ensures kept { StaysAs self.old self.new }
         ensures visits { steps.new ≤ steps.old + visits_at self.old leaf }

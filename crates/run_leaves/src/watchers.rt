@@ -9,8 +9,9 @@ use quantity::OutOfMemory;
 use std::alloc::{AllocError, Global};
 use std::marker::Model;
 
-/// The leaves that watch each leaf: of a cell those cells of its group that have it as a neighbour, found by fixed
-/// differences. It is seen as the number of the block that each leaf is in, and the blocks.
+/// The leaves that watch each leaf: of a cell those cells of its group that have it as a neighbour,
+/// found by fixed differences. It is seen as the number of the block that each leaf is in, and the
+/// blocks.
 #[derive(Drop)]
 pub struct Watchers {
     seats: Vec<Option<u32>>,
@@ -25,7 +26,8 @@ impl Model for Watchers {
 
     ghost view = { λ w. record { seats = w.seats.items; blocks = w.blocks.items } };
 
-    ghost invariant = { λ w. (length w.seats.items < 2 ^ 32) × StandInBlocks w.seats.items w.blocks.items };
+    ghost invariant = { λ w. (length w.seats.items < 2 ^ 32)
+        × StandInBlocks w.seats.items w.blocks.items };
 }
 
 impl Watchers {
@@ -56,10 +58,14 @@ impl Watched for Watchers {
     fn watchers_of(&self, leaf: u32, into: &mut Vec<u32>) -> Result<(), OutOfMemory> {
         let at = leaf as usize;
         if self.seats.len() <= at {
+            into.clear();
             return Ok(());
         }
         match self.seats[at] {
-            None => Ok(()),
+            None => {
+                into.clear();
+                Ok(())
+            }
             Some(number) => self.blocks[number as usize].put_watchers(leaf, into),
         }
     }

@@ -13,11 +13,11 @@ use Rattle.atomic_face.specs.declared.class.Class.TheVariants.{Queue, Generator,
 use Rattle.atomic_face.specs.declared.class.PortNo.{PortNo}
 use Rattle.atomic_face.specs.Words.{no_time, time_in, word_of, value_in, milliseconds}
 use Rattle.atomic_face.specs.Bags.{outputs, same_time}
-use Rattle.atomic_face.specs.Parameters.{first_time, setting}
+use Rattle.atomic_face.specs.Parameters.{time_setting, setting}
 use Rattle.atomic_face.specs.Queue.{QueueState, queue_state, without_first, first_value, queue_internal, queue_input, queue_inputs, queue_closing, queue_next, is_empty}
 use Rattle.atomic_face.specs.Generator.{GeneratorState, GeneratorSettings, generator_state, generator_settings, generator_words, generator_internal, is_none_left, one_less}
 use Rattle.atomic_face.specs.Cpu.{cpu_pairs, cpu_next, cpu_put, cpu_inputs, cpu_moved, pairs_at, values_in}
-use Rattle.atomic_face.specs.Counter.{CounterState, counter_state, counter_words, counter_input, counter_inputs, counter_closing, counter_internal, or_none}
+use Rattle.atomic_face.specs.Counter.{CounterState, counter_state, counter_words, counter_input, counter_inputs, counter_closing, counter_internal, for_some}
 use Rattle.atomic_face.specs.TableSettings.{any_word}
 use Rattle.atomic_face.specs.StateTable.{TableSettings, TableState, Take, Hold, no_hold, same_word, held_value, table_settings, table_state, entered, due_after, hold_of, taken, takes, table_input, table_internal}
 use Rattle.atomic_face.specs.Classes.{Bag, is_at, next_of, output_of, moved_state, initial_state}
@@ -87,7 +87,7 @@ queue-is settings state t bag set time good h =
     let q = queue_state state in
     let begun = if is_at t (queue_next q) then queue_internal q else q in
     let whole : IsQueue q = record { due = h.0; waiting = h.1 } in
-    let end = queue_closing-is (first_time settings) t (queue_inputs begun bag) set time (queue_inputs-are begun bag good (queue_start-is q (is_at t (queue_next q)) whole)) in
+    let end = queue_closing-is (time_setting settings) t (queue_inputs begun bag) set time (queue_inputs-are begun bag good (queue_start-is q (is_at t (queue_next q)) whole)) in
     (end.due, end.waiting)
 
 first-is : (ws : List ℤ) → All IsValueWord ws → All IsBounded (first_value ws)
@@ -132,8 +132,8 @@ inputs-are at ps (i ∷ is) le good h =
 cpu-is : (settings state : List ℤ) (t : ℕ) (bag : Bag) → AreBoundedSettings Cpu settings → IsDelay t → All IsBoundedInput bag → IsBoundedBox Cpu state → IfSome (moved_state Cpu settings state t bag) (IsBoundedBox Cpu)
 cpu-is settings state t bag set time good h =
     let ps = cpu_pairs state in
-    subst (All AreBoundedWords) (sym (cpu_pairs-cpu_words (cpu_moved (first_time settings) t ps bag)))
-    (inputs-are (t + first_time settings) (if is_at t (cpu_next ps) then pairs_at false (cpu_next ps) ps else ps) bag (omega (arith, set, time)) good (begun (is_at t (cpu_next ps))))
+    subst (All AreBoundedWords) (sym (cpu_pairs-cpu_words (cpu_moved (time_setting settings) t ps bag)))
+    (inputs-are (t + time_setting settings) (if is_at t (cpu_next ps) then pairs_at false (cpu_next ps) ps else ps) bag (omega (arith, set, time)) good (begun (is_at t (cpu_next ps))))
   where
     begun : (b : Bool) → All AreBoundedWords (if b then pairs_at false (cpu_next (cpu_pairs state)) (cpu_pairs state) else cpu_pairs state)
     begun true = All-filter (λ (p : ℤ × ℤ). beq false (same_time (cpu_next (cpu_pairs state)) (time_in p.0))) AreBoundedWords (cpu_pairs state) h
@@ -159,7 +159,7 @@ counter_inputs-are : (settings : List ℤ) (c : CounterState) (bag : Bag) → Ar
 counter_inputs-are settings c [] set h = h
 counter_inputs-are settings c (i ∷ is) set h = goes_on (counter_input settings c i) (counter_input-is settings c i set h) (λ d. counter_inputs-are settings d is set)
   where
-    goes_on : (o : Option CounterState) → IfSome o IsCounter → ((d : CounterState) → IsCounter d → IfSome (counter_inputs settings d is) IsCounter) → IfSome (or_none o (λ d. counter_inputs settings d is)) IsCounter
+    goes_on : (o : Option CounterState) → IfSome o IsCounter → ((d : CounterState) → IsCounter d → IfSome (counter_inputs settings d is) IsCounter) → IfSome (for_some o (λ d. counter_inputs settings d is)) IsCounter
     goes_on None k rest = tt
     goes_on (Some d) k rest = rest d k
 

@@ -14,7 +14,7 @@ use Rattle.rule_tree.specs.declared.outcome.Answer.{Answer}
 use Rattle.rule_tree.specs.declared.outcome.Answer.TheVariants.{Num as Number', Logic}
 use Rattle.rule_tree.specs.declared.outcome.RuleStop.{RuleStop}
 use Rattle.rule_tree.specs.Expression.{Expr, Rule}
-use Rattle.rule_tree.specs.Meaning.{Sight, number_in, truth_in, meaning}
+use Rattle.rule_tree.specs.Meaning.{Sight, number_answered, truth_in, meaning}
 use Rattle.rule_tree.specs.Chosen.{Given, Chosen, delay_of, unless_overflow, after, values_of, variables_after, with_delay, given, if_true, chosen}
 use Rattle.atomic_face.specs.Classes.{Bag, is_at}
 use Rattle.atomic_face.specs.declared.class.PortNo.{PortNo}
@@ -38,11 +38,11 @@ pub record IsBoundedGiven (g : Given) : Type 0 where
   pub delay : IsDelay g.delay
   pub variables : All IsBounded g.variables
 
-number-is : (a : Answer) → IsBoundedAnswer a → IsBounded (number_in a)
+number-is : (a : Answer) → IsBoundedAnswer a → IsBounded (number_answered a)
 number-is (Number' v) h = h
 number-is (Logic t) h = tt
 
-unless_overflow-is : {B : Type 0} (P : B → Type 0) (o : Option Answer) (go : Answer → Result B RuleStop) → IfSome o IsBoundedAnswer → ((a : Answer) → IsBounded (number_in a) → IfOk (go a) P) → IfOk (unless_overflow o go) P
+unless_overflow-is : {B : Type 0} (P : B → Type 0) (o : Option Answer) (go : Answer → Result B RuleStop) → IfSome o IsBoundedAnswer → ((a : Answer) → IsBounded (number_answered a) → IfOk (go a) P) → IfOk (unless_overflow o go) P
 unless_overflow-is P None go h goes = tt
 unless_overflow-is P (Some a) go h goes = goes a (number-is a h)
 
@@ -53,9 +53,9 @@ after-is Q P (Err stop) go h goes = tt
 values-are : (gs : List (ℕ × Expr)) (s : Sight) → All IsBoundedPart gs → IsBoundedSight s → IfOk (values_of gs s) (All IsBoundedGive)
 values-are [] s h see = All-nil IsBoundedGive
 values-are (g ∷ gs) s h see =
-    unless_overflow-is (All IsBoundedGive) (meaning g.1 s) (λ v. after (values_of gs s) (λ vs. Ok ((g.0, number_in v) ∷ vs))) (meaning-is g.1 s (All-head IsBoundedPart g gs h) see)
-    (λ v k. after-is (All IsBoundedGive) (All IsBoundedGive) (values_of gs s) (λ vs. Ok ((g.0, number_in v) ∷ vs)) (values-are gs s (All-tail IsBoundedPart g gs h) see)
-    (λ vs l. All-cons IsBoundedGive (g.0, number_in v) vs k l))
+    unless_overflow-is (All IsBoundedGive) (meaning g.1 s) (λ v. after (values_of gs s) (λ vs. Ok ((g.0, number_answered v) ∷ vs))) (meaning-is g.1 s (All-head IsBoundedPart g gs h) see)
+    (λ v k. after-is (All IsBoundedGive) (All IsBoundedGive) (values_of gs s) (λ vs. Ok ((g.0, number_answered v) ∷ vs)) (values-are gs s (All-tail IsBoundedPart g gs h) see)
+    (λ vs l. All-cons IsBoundedGive (g.0, number_answered v) vs k l))
 
 with_variables : (s : Sight) (xs : List Value) → IsBoundedSight s → All IsBounded xs → IsBoundedSight (record s { variables = xs })
 with_variables s xs see h = record { time = see.time; place = see.place; neighbours = see.neighbours; few = see.few; port = see.port; variables = h }
@@ -66,9 +66,9 @@ with_port s v see h = record { time = see.time; place = see.place; neighbours = 
 variables-are : (xs : List (ℕ × Expr)) (s : Sight) → All IsBoundedPart xs → IsBoundedSight s → IfOk (variables_after xs s) (All IsBounded)
 variables-are [] s h see = see.variables
 variables-are (x ∷ xs) s h see =
-    unless_overflow-is (All IsBounded) (meaning x.1 s) (λ v. variables_after xs (record s { variables = set s.variables x.0 (number_in v) })) (meaning-is x.1 s (All-head IsBoundedPart x xs h) see)
-    (λ v k. variables-are xs (record s { variables = set s.variables x.0 (number_in v) }) (All-tail IsBoundedPart x xs h)
-    (with_variables s (set s.variables x.0 (number_in v)) see (All-set IsBounded s.variables x.0 (number_in v) k see.variables)))
+    unless_overflow-is (All IsBounded) (meaning x.1 s) (λ v. variables_after xs (record s { variables = set s.variables x.0 (number_answered v) })) (meaning-is x.1 s (All-head IsBoundedPart x xs h) see)
+    (λ v k. variables-are xs (record s { variables = set s.variables x.0 (number_answered v) }) (All-tail IsBoundedPart x xs h)
+    (with_variables s (set s.variables x.0 (number_answered v)) see (All-set IsBounded s.variables x.0 (number_answered v) k see.variables)))
 
 delay-is : (v : Value) → IfSome (delay_of v) IsDelay
 delay-is Undefined = tt
@@ -88,7 +88,7 @@ given-is : (r : Rule) (s : Sight) → IsBoundedRule r → IsBoundedSight s → I
 given-is r s h see =
     after-is (All IsBoundedGive) IsBoundedGiven (values_of r.gives s) _ (values-are r.gives s h.gives see) (λ vs values.
     unless_overflow-is IsBoundedGiven (meaning r.delay s) _ (meaning-is r.delay s h.delay see) (λ d bound.
-    with_delay-is (number_in d) (delay_of (number_in d)) _ (delay-is (number_in d)) (λ ms delay.
+    with_delay-is (number_answered d) (delay_of (number_answered d)) _ (delay-is (number_answered d)) (λ ms delay.
     after-is (All IsBounded) IsBoundedGiven (variables_after r.sets s) _ (variables-are r.sets s h.sets see) (λ xs variables.
     record { values = values; delay = delay; variables = variables }))))
 

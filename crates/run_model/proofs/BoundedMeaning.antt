@@ -26,7 +26,7 @@ use Rattle.rule_tree.specs.declared.function.Function.TheVariants.{StateCount, C
 use Rattle.rule_tree.specs.Expression as E
 use Rattle.rule_tree.specs.Expression.{Expr, Exprs}
 use Rattle.rule_tree.specs.Functions.{Of, Maker, taken, given, made, is_undefined}
-use Rattle.rule_tree.specs.Meaning.{Sight, value_at, outs, whole, number_in, as_answer, how_many, counted, one_meaning, two_meaning, by_truth, state_count, coordinates, cell_position, call_meaning, with_answer, with_answers, in_front, meaning, meanings}
+use Rattle.rule_tree.specs.Meaning.{Sight, value_at, outs, whole, number_answered, as_answer, how_many, counted, one_meaning, two_meaning, by_truth, state_count, coordinates, cell_position, call_meaning, with_answer, with_answers, in_front, meaning, meanings}
 use Rattle.quantity.specs.Times.{IsDelay}
 use Rattle.run_model.specs.Bounds.{HasBoundedNumbers, HaveBoundedNumbers}
 use Rattle.run_model.proofs.BoundedValues.{sum-is, difference-is, product-is, quotient-is, remainder-is, least-is, greatest-is, negative-is, size-is, sign-is, whole_part-is, fraction-is, rounded-is, root-is}
@@ -52,7 +52,7 @@ at_or P (x ∷ xs) (suc k) d none h = at_or P xs k d none (All-tail P x xs h)
 whole-is : (n : ℕ) → n ≤ 10000000000 → IsBounded (whole n)
 whole-is n le = omega (arith, le)
 
-number-is : (a : Answer) → IsBoundedAnswer a → IsBounded (number_in a)
+number-is : (a : Answer) → IsBoundedAnswer a → IsBounded (number_answered a)
 number-is (Number' v) h = h
 number-is (Logic t) h = tt
 
@@ -71,7 +71,7 @@ counted-is Undefs s see = how_many-is Undefined s see
 
 one-is : (u : Unary) (a : Answer) → IsBoundedAnswer a → IfSome (one_meaning u a) IsBoundedAnswer
 one-is Plus a h = number-is a h
-one-is Minus a h = negative-is (number_in a) (number-is a h)
+one-is Minus a h = negative-is (number_answered a) (number-is a h)
 one-is Not a h = tt
 
 two-is : (b : Binary) (x y : Answer) → IfSome (two_meaning b x y) IsBoundedAnswer
@@ -81,10 +81,10 @@ two-is Or x y = tt
 two-is Xor x y = tt
 two-is And x y = tt
 two-is (Cmp how) x y = tt
-two-is Add x y = as_answer-is _ (sum-is (number_in x) (number_in y))
-two-is Sub x y = as_answer-is _ (difference-is (number_in x) (number_in y))
-two-is Mul x y = as_answer-is _ (product-is (number_in x) (number_in y))
-two-is Div x y = as_answer-is _ (quotient-is (number_in x) (number_in y))
+two-is Add x y = as_answer-is _ (sum-is (number_answered x) (number_answered y))
+two-is Sub x y = as_answer-is _ (difference-is (number_answered x) (number_answered y))
+two-is Mul x y = as_answer-is _ (product-is (number_answered x) (number_answered y))
+two-is Div x y = as_answer-is _ (quotient-is (number_answered x) (number_answered y))
 
 by_truth-is : (t : Tri) (a b u : Value) → IsBounded a → IsBounded b → IsBounded u → IsBounded (by_truth t a b u)
 by_truth-is True a b u h k l = h

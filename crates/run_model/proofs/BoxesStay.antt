@@ -13,10 +13,10 @@ use Rattle.atomic_face.specs.declared.class.Class.TheVariants.{Queue, Cpu, Count
 use Rattle.atomic_face.specs.declared.class.PortNo.{PortNo}
 use Rattle.atomic_face.specs.Words.{no_time, time_in, word_of, value_in, milliseconds, is_time_word, is_none_word, is_due, is_value_word, are_values}
 use Rattle.atomic_face.specs.Bags.{same_time}
-use Rattle.atomic_face.specs.Parameters.{first_time, setting}
+use Rattle.atomic_face.specs.Parameters.{time_setting, setting}
 use Rattle.atomic_face.specs.Queue.{QueueState, queue_state, queue_words, without_first, queue_internal, queue_input, queue_inputs, queue_closing, queue_next, is_empty, is_waiting, is_one, is_queue}
 use Rattle.atomic_face.specs.Cpu.{cpu_pairs, cpu_words, cpu_next, cpu_put, cpu_inputs, cpu_moved, pairs_at, are_pairs}
-use Rattle.atomic_face.specs.Counter.{CounterState, counter_state, counter_words, counter_input, counter_inputs, counter_closing, counter_internal, or_none, is_counter}
+use Rattle.atomic_face.specs.Counter.{CounterState, counter_state, counter_words, counter_input, counter_inputs, counter_closing, counter_internal, for_some, is_counter}
 use Rattle.atomic_face.specs.Classes.{Bag, is_at}
 use Rattle.quantity.specs.Times.{IsDelay}
 use Rattle.run_model.specs.Waiting.{IsTimeFrom, NeverFalls}
@@ -133,7 +133,7 @@ pub queues-stay : StaysAState Queue
 queues-stay settings state t bag set time good h =
     let q = queue_state state in
     let begun = if is_at t (queue_next q) then queue_internal q else q in
-    closing-closed (first_time settings) t (queue_inputs begun bag) set time (inputs-open begun bag good (begun-open q (is_at t (queue_next q)) (opened state h)))
+    closing-closed (time_setting settings) t (queue_inputs begun bag) set time (inputs-open begun bag good (begun-open q (is_at t (queue_next q)) (opened state h)))
 
 -- ---- counter
 
@@ -172,7 +172,7 @@ counter_inputs-stay : (settings : List ℤ) (c : CounterState) (bag : Bag) → I
 counter_inputs-stay settings c [] set h = h
 counter_inputs-stay settings c (i ∷ is) set h = goes_on (counter_input settings c i) (counter_input-stays settings c i set h) (λ d. counter_inputs-stay settings d is set)
   where
-    goes_on : (o : Option CounterState) → IfSome o IsCounting → ((d : CounterState) → IsCounting d → IfSome (counter_inputs settings d is) IsCounting) → IfSome (or_none o (λ d. counter_inputs settings d is)) IsCounting
+    goes_on : (o : Option CounterState) → IfSome o IsCounting → ((d : CounterState) → IsCounting d → IfSome (counter_inputs settings d is) IsCounting) → IfSome (for_some o (λ d. counter_inputs settings d is)) IsCounting
     goes_on None k rest = tt
     goes_on (Some d) k rest = rest d k
 
@@ -257,9 +257,9 @@ cpus-stay settings state t bag set time good h =
     let ps = cpu_pairs state in
     let both = pairs-in 0 state h in
     let begun = started (is_at t (cpu_next ps)) both in
-    pairs-out 0 (cpu_moved (first_time settings) t ps bag)
-    (inputs-wait 0 (t + first_time settings) (if is_at t (cpu_next ps) then pairs_at false (cpu_next ps) ps else ps) bag (omega arith) begun.0)
-    (input-pairs (t + first_time settings) (if is_at t (cpu_next ps) then pairs_at false (cpu_next ps) ps else ps) bag (omega (arith, set, time)) good begun.1)
+    pairs-out 0 (cpu_moved (time_setting settings) t ps bag)
+    (inputs-wait 0 (t + time_setting settings) (if is_at t (cpu_next ps) then pairs_at false (cpu_next ps) ps else ps) bag (omega arith) begun.0)
+    (input-pairs (t + time_setting settings) (if is_at t (cpu_next ps) then pairs_at false (cpu_next ps) ps else ps) bag (omega (arith, set, time)) good begun.1)
   where
     started : (b : Bool) → NeverFalls 0 (cpu_pairs state) × All IsPair (cpu_pairs state) → NeverFalls 0 (if b then pairs_at false (cpu_next (cpu_pairs state)) (cpu_pairs state) else cpu_pairs state) × All IsPair (if b then pairs_at false (cpu_next (cpu_pairs state)) (cpu_pairs state) else cpu_pairs state)
     started true both =

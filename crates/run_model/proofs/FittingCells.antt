@@ -8,7 +8,7 @@ use Rattle.quantity.specs.declared.truth.Tri.TheVariants.{True, False, Undef}
 use Rattle.rule_tree.specs.declared.outcome.Answer.{Answer}
 use Rattle.rule_tree.specs.declared.outcome.RuleStop.{RuleStop}
 use Rattle.rule_tree.specs.Expression.{Expr, Rule}
-use Rattle.rule_tree.specs.Meaning.{Sight, number_in, truth_in, meaning}
+use Rattle.rule_tree.specs.Meaning.{Sight, number_answered, truth_in, meaning}
 use Rattle.rule_tree.specs.Chosen.{Given, Chosen, delay_of, unless_overflow, after, values_of, variables_after, with_delay, given, if_true, chosen}
 use Rattle.atomic_face.specs.Classes.{Bag}
 use Rattle.quantity.specs.declared.delay.DelayKind.{DelayKind}
@@ -43,8 +43,8 @@ any-ok (Err why) = tt
 variables-as-many : (xs : List (ℕ × Expr)) (s : Sight) (n : ℕ) → length s.variables ≡ n → IfOk (variables_after xs s) (λ vs. length vs ≡ n)
 variables-as-many [] s n h = h
 variables-as-many (x ∷ xs) s n h =
-    unless_overflow-has (λ vs. length vs ≡ n) (meaning x.1 s) (λ v. variables_after xs (record s { variables = set s.variables x.0 (number_in v) }))
-    (λ v. variables-as-many xs (record s { variables = set s.variables x.0 (number_in v) }) n (length-set s.variables x.0 (number_in v) ∙ h))
+    unless_overflow-has (λ vs. length vs ≡ n) (meaning x.1 s) (λ v. variables_after xs (record s { variables = set s.variables x.0 (number_answered v) }))
+    (λ v. variables-as-many xs (record s { variables = set s.variables x.0 (number_answered v) }) n (length-set s.variables x.0 (number_answered v) ∙ h))
 
 abbrev HasVariables : ℕ → Given → Type 0
 HasVariables n given = length given.variables ≡ n
@@ -57,7 +57,7 @@ given-has : (r : Rule) (s : Sight) (n : ℕ) → length s.variables ≡ n → If
 given-has r s n h =
     after-has (λ vs. ⊤) (HasVariables n) (values_of r.gives s) _ (any-ok (values_of r.gives s)) (λ vs t.
     unless_overflow-has (HasVariables n) (meaning r.delay s) _ (λ d.
-    with_delay-has n (number_in d) (delay_of (number_in d)) _ (λ ms.
+    with_delay-has n (number_answered d) (delay_of (number_answered d)) _ (λ ms.
     after-has (λ xs. length xs ≡ n) (HasVariables n) (variables_after r.sets s) _ (variables-as-many r.sets s n h) (λ xs k. k))))
 
 if_true-has : (n : ℕ) (t : Tri) (now later : Chosen) → IfOk now (HasVariables n) → IfOk later (HasVariables n) → IfOk (if_true t now later) (HasVariables n)

@@ -12,11 +12,11 @@ use Rattle.atomic_face.specs.declared.class.Class.TheVariants.{Queue, Generator,
 use Rattle.atomic_face.specs.declared.class.PortNo.{PortNo}
 use Rattle.atomic_face.specs.Words.{no_time, time_in, word_of, value_in, milliseconds}
 use Rattle.atomic_face.specs.Bags.{same_time}
-use Rattle.atomic_face.specs.Parameters.{first_time, setting}
+use Rattle.atomic_face.specs.Parameters.{time_setting, setting}
 use Rattle.atomic_face.specs.Queue.{QueueState, queue_state, queue_internal, queue_input, queue_inputs, queue_closing, queue_next, queue_moved, is_empty}
 use Rattle.atomic_face.specs.Generator.{GeneratorState, GeneratorSettings, generator_state, generator_settings, generator_words, generator_internal, is_none_left, one_less}
 use Rattle.atomic_face.specs.Cpu.{cpu_pairs, cpu_words, cpu_next, cpu_put, cpu_inputs, cpu_moved, pairs_at}
-use Rattle.atomic_face.specs.Counter.{CounterState, counter_state, counter_words, counter_input, counter_inputs, counter_closing, counter_internal, or_none}
+use Rattle.atomic_face.specs.Counter.{CounterState, counter_state, counter_words, counter_input, counter_inputs, counter_closing, counter_internal, for_some}
 use Rattle.atomic_face.specs.StateTable.{TableSettings, TableState, Take, table_settings, table_state, entered, due_after, hold_of, taken, takes, table_input, table_internal}
 use Rattle.atomic_face.specs.Classes.{Bag, is_at, next_of, moved_state, initial_state}
 use Rattle.run_model.specs.Waiting.{IsNotBefore, IsTimeFrom, NeverFalls, BoxWaitsFrom}
@@ -65,9 +65,9 @@ queue-waits : (settings state : List ℤ) (t : ℕ) (bag : Bag) → BoxWaitsFrom
 queue-waits settings state t bag h =
     let q = queue_state state in
     let from : QueueWaits t q = queue_next-from t q.phase (time_in q.due) (q.phase == 1) refl h in
-    let r = queue_moved (first_time settings) t q bag in
+    let r = queue_moved (time_setting settings) t q bag in
     queue_next-waits t r.phase (time_in r.due) (r.phase == 1) refl
-    (queue_closing-waits t (first_time settings) (queue_inputs (if is_at t (queue_next q) then queue_internal q else q) bag)
+    (queue_closing-waits t (time_setting settings) (queue_inputs (if is_at t (queue_next q) then queue_internal q else q) bag)
     (queue_inputs-wait t (if is_at t (queue_next q) then queue_internal q else q) bag (queue_start-waits t q (is_at t (queue_next q)) from)))
 
 -- ---- generator
@@ -135,8 +135,8 @@ inputs-wait low at ps (i ∷ is) le h = inputs-wait low at (cpu_put at i.1 ps) i
 cpu-waits : (settings state : List ℤ) (t : ℕ) (bag : Bag) → BoxWaitsFrom t Cpu state → IfSome (moved_state Cpu settings state t bag) (BoxWaitsFrom t Cpu)
 cpu-waits settings state t bag h =
     let ps = cpu_pairs state in
-    subst (NeverFalls t) (sym (cpu_pairs-cpu_words (cpu_moved (first_time settings) t ps bag)))
-    (inputs-wait t (t + first_time settings) (if is_at t (cpu_next ps) then pairs_at false (cpu_next ps) ps else ps) bag (omega arith) (start (is_at t (cpu_next ps))))
+    subst (NeverFalls t) (sym (cpu_pairs-cpu_words (cpu_moved (time_setting settings) t ps bag)))
+    (inputs-wait t (t + time_setting settings) (if is_at t (cpu_next ps) then pairs_at false (cpu_next ps) ps else ps) bag (omega arith) (start (is_at t (cpu_next ps))))
   where
     start : (b : Bool) → NeverFalls t (if b then pairs_at false (cpu_next (cpu_pairs state)) (cpu_pairs state) else cpu_pairs state)
     start true = filter-waits t (λ (p : ℤ × ℤ). beq false (same_time (cpu_next (cpu_pairs state)) (time_in p.0))) (cpu_pairs state) h
@@ -162,7 +162,7 @@ counter_inputs-wait : (settings : List ℤ) (t : ℕ) (c : CounterState) (bag : 
 counter_inputs-wait settings t c [] h = h
 counter_inputs-wait settings t c (i ∷ is) h = goes_on (counter_input settings c i) (counter_input-waits settings t c i h) (λ d. counter_inputs-wait settings t d is)
   where
-    goes_on : (o : Option CounterState) → IfSome o (CounterWaits t) → ((d : CounterState) → CounterWaits t d → IfSome (counter_inputs settings d is) (CounterWaits t)) → IfSome (or_none o (λ d. counter_inputs settings d is)) (CounterWaits t)
+    goes_on : (o : Option CounterState) → IfSome o (CounterWaits t) → ((d : CounterState) → CounterWaits t d → IfSome (counter_inputs settings d is) (CounterWaits t)) → IfSome (for_some o (λ d. counter_inputs settings d is)) (CounterWaits t)
     goes_on None k rest = tt
     goes_on (Some d) k rest = rest d k
 

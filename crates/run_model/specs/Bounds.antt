@@ -1,6 +1,7 @@
 -- The values of a run are bounded, and its times are small: so each record has a line of a log.
 use Rattle.std.specs.Prelude.{◌≡◌, ℕ, ◌≤◌, false, List, length, ℤ, IfSome, ⊤}
 use Rattle.std.specs.List.{All}
+use Rattle.quantity.specs.declared.bounds.TheConstants.{MAX_CELLS}
 use Rattle.quantity.specs.Times.{IsDelay, IsTime}
 use Rattle.quantity.specs.declared.value.Value.{Value}
 use Rattle.quantity.specs.Arithmetic.{IsBounded}
@@ -10,7 +11,7 @@ use Rattle.cell_grid.specs.Space.{cell_count}
 use Rattle.atomic_face.specs.declared.class.Class.{Class}
 use Rattle.atomic_face.specs.declared.class.Class.TheVariants.{Queue, Generator, Cpu, Counter, Table}
 use Rattle.atomic_face.specs.Words.{time_in, value_in, milliseconds}
-use Rattle.atomic_face.specs.Parameters.{first_time, setting}
+use Rattle.atomic_face.specs.Parameters.{time_setting, setting}
 use Rattle.atomic_face.specs.Queue.{queue_state}
 use Rattle.atomic_face.specs.Generator.{generator_settings, generator_state}
 use Rattle.atomic_face.specs.Cpu.{cpu_pairs}
@@ -60,7 +61,7 @@ pub record IsBoundedGroup (g : Group) : Type 0 where
   pub rules : All (All IsBoundedRule) g.rule_sets
   pub default_delay : IsDelay g.default_delay
   pub offsets : length g.offsets ≤ 128
-  pub size : cell_count g.space ≤ 1048576
+  pub size : cell_count g.space ≤ MAX_CELLS
 
 -- a word that stands for a bounded value
 abbrev pub IsValueWord : ℤ → Type 0
@@ -73,12 +74,12 @@ IsBoundedHold h =
 
 -- the times and values of a box
 abbrev pub AreBoundedSettings : Class → List ℤ → Type 0
-AreBoundedSettings Queue settings = IsDelay (first_time settings)
+AreBoundedSettings Queue settings = IsDelay (time_setting settings)
 AreBoundedSettings Generator settings =
     IfSome (time_in (generator_settings settings).start) IsTime
     × IsDelay (milliseconds (generator_settings settings).period)
     × IsValueWord (generator_settings settings).value
-AreBoundedSettings Cpu settings = IsDelay (first_time settings)
+AreBoundedSettings Cpu settings = IsDelay (time_setting settings)
 AreBoundedSettings Counter settings =
     IsDelay (milliseconds (setting settings 0)) × IsValueWord (setting settings 1)
 AreBoundedSettings Table settings = All IsBoundedHold (table_settings settings).holds

@@ -13,6 +13,3 @@ pub use heap::HeapQueue;
 pub use moves::{Move, Reply, replay};
 pub use queue::TimeQueue;
 pub use sorted::SortedQueue;
-
-#[cfg(test)]
-mod tests;

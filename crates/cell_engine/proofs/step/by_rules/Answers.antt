@@ -7,7 +7,6 @@ use Rattle.rule_tree.specs.declared.outcome.RuleStop.{RuleStop}
 use Rattle.rule_tree.specs.Chosen.{chosen}
 use Rattle.rule_tree.specs.Meaning.{Sight}
 use Rattle.rule_eval.specs.Evaluated.{Evaluates}
-use Rattle.rule_eval.specs.Room.{Room}
 use Rattle.rule_eval.specs.Seen.{sight_of}
 use Rattle.rule_eval.specs.declared.given.Given.{Given}
 use Rattle.cell_grid.specs.Space.{cell_count}
@@ -16,7 +15,6 @@ use Rattle.cell_engine.specs.Layout.{Layout}
 use Rattle.cell_engine.specs.Cells.{Computes}
 use Rattle.cell_engine.specs.Step.{ruled, sees, at_port}
 use Rattle.cell_engine.proofs.Looking.{is_view, shows}
-use Rattle.cell_engine.proofs.Moving.{ready_still, kept_long}
 use Rattle.cell_engine.proofs.Takes.{rules_finish, rules_stop}
 use Rattle.cell_engine.proofs.step.by_rules.Goals as goal
 

@@ -1,4 +1,5 @@
-use Rattle.std.proofs.Common.{◌∙◌, List, ℕ, ap, sym, subst}
+use Rattle.std.proofs.Common.{◌∙◌, Bool, List, ℕ, ap, sym, subst}
+use Rattle.leaf_set.specs.Members.{is_in}
 use Rattle.sparse_cycle.specs.Collect.{Collected, CanCollect, collect_each}
 use Rattle.cycle_steps.specs.Gathering.{Collects}
 use Rattle.cycle_steps.specs.Watching.{watches_any}
@@ -25,11 +26,9 @@ returns-clause-woken g c =
     λ k. only-these (g.W.Watched.count c.args.watched.now) (g.S.LeafSet.members c.args.woken.now) (g.S.LeafSet.members c.wake.new.woken) (watches_any watches c.deref.result.now) c.requires.calm c.in_ok-wake.ensures.woken k
     ∙ ap (λ ls. watches_any watches ls k) (c.deref.ensures.value ∙ made.givers_is)
 
+pub wake-requires-clause-same : goal.wake-requires-clause-same
+wake-requires-clause-same g c = c.requires.at_rest ∙ sym c.requires.calm
+
 pub returns-clause-touched : goal.returns-clause-touched
-returns-clause-touched g c =
-    let states = g.G.Leaves.states c.args.givers.now in
-    let watches = g.W.Watched.watches c.args.watched.now in
-    let made = subst (λ (made : Collected). Collects c.args.t made c.collect.new.y.items c.collect.new.n.items c.collect.new.givers.items (g.G.Leaves.states c.collect.new.leaves))
-    (ap (λ ls. collect_each c.args.t ls states) c.requires.due ∙ c.leaves_give_one_after_another.ensures.at_once c.args.t states) c.in_ok-collect.ensures.collected in
-    λ k. only-these (g.W.Watched.count c.args.watched.now) (g.S.LeafSet.members c.args.touched.now) (g.S.LeafSet.members c.wake.new.touched) (watches_any watches c.deref.result.now) c.requires.at_rest c.in_ok-wake.ensures.touched k
-    ∙ ap (λ ls. watches_any watches ls k) (c.deref.ensures.value ∙ made.givers_is)
+returns-clause-touched g c = λ k.
+    ap (λ (at : List Bool). is_in at k) c.in_ok-wake.ensures.same ∙ returns-clause-woken g c k

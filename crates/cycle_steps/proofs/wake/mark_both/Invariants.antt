@@ -5,8 +5,7 @@ use Rattle.cycle_steps.proofs.wake.mark_both.Given as goal
 
 abbrev pub invariant-loop-leaf : goal.invariant-loop-leaf
 invariant-loop-leaf g l = record {
-  woken_long : length (g.S.LeafSet.members l.woken) ≡ length (g.S.LeafSet.members l.fn.woken);
-  touched_long : length (g.S.LeafSet.members l.touched) ≡ length (g.S.LeafSet.members l.fn.touched);
-  woken : (k : ℕ) → (is_in (g.S.LeafSet.members l.fn.woken) k || is_among l.leaves k) ≡ (is_in (g.S.LeafSet.members l.woken) k || is_among (drop l.leaf-index l.leaves) k);
-  touched : (k : ℕ) → (is_in (g.S.LeafSet.members l.fn.touched) k || is_among l.leaves k) ≡ (is_in (g.S.LeafSet.members l.touched) k || is_among (drop l.leaf-index l.leaves) k);
+  long : length (g.S.LeafSet.members l.woken) ≡ length (g.S.LeafSet.members l.fn.woken);
+  marked : (k : ℕ) → (is_in (g.S.LeafSet.members l.fn.woken) k || is_among l.leaves k) ≡ (is_in (g.S.LeafSet.members l.woken) k || is_among (drop l.leaf-index l.leaves) k);
+  same : g.S.LeafSet.members l.touched ≡ g.S.LeafSet.members l.woken;
 }

@@ -11,10 +11,8 @@ loop-leaf-preserved g c =
     let givers = c.args.givers.now in
     let at = g.S.LeafSet.members in
     record {
-      woken_long = c.mark_both.ensures.long ∙ c.loop-leaf.invariant.woken_long;
-      touched_long = c.mark_both.ensures.touched_long ∙ c.loop-leaf.invariant.touched_long;
+      long = c.mark_both.ensures.long ∙ c.loop-leaf.invariant.long;
       woken = λ k. woken-more watches givers c.loop-leaf.leaf-index (is_in (at c.args.woken.now) k || watches_any watches givers k) (at c.loop-leaf.woken) (at c.mark_both.new.woken) c.watchers_of.new.into.items k c.loop-leaf-test.true (c.loop-leaf.invariant.woken k) (c.in_ok-watchers_of.ensures.watch k)
-          (c.mark_both.ensures.woken k ∙ ap (λ ls. is_in (at c.loop-leaf.woken) k || is_among ls k) c.deref.ensures.value);
-      touched = λ k. woken-more watches givers c.loop-leaf.leaf-index (is_in (at c.args.touched.now) k || watches_any watches givers k) (at c.loop-leaf.touched) (at c.mark_both.new.touched) c.watchers_of.new.into.items k c.loop-leaf-test.true (c.loop-leaf.invariant.touched k) (c.in_ok-watchers_of.ensures.watch k)
-          (c.mark_both.ensures.touched k ∙ ap (λ ls. is_in (at c.loop-leaf.touched) k || is_among ls k) c.deref.ensures.value);
+          (c.mark_both.ensures.marked k ∙ ap (λ ls. is_in (at c.loop-leaf.woken) k || is_among ls k) c.deref.ensures.value);
+      same = c.mark_both.ensures.same;
     }

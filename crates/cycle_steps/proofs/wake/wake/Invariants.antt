@@ -5,8 +5,7 @@ use Rattle.cycle_steps.proofs.wake.wake.Given as goal
 
 abbrev pub invariant-loop-leaf : goal.invariant-loop-leaf
 invariant-loop-leaf g l = record {
-  woken_long : length (g.S.LeafSet.members l.woken) ≡ length (g.S.LeafSet.members l.fn.woken);
-  touched_long : length (g.S.LeafSet.members l.touched) ≡ length (g.S.LeafSet.members l.fn.touched);
+  long : length (g.S.LeafSet.members l.woken) ≡ length (g.S.LeafSet.members l.fn.woken);
   woken : (k : ℕ) → (is_in (g.S.LeafSet.members l.fn.woken) k || watches_any (g.W.Watched.watches l.watched) l.givers k) ≡ (is_in (g.S.LeafSet.members l.woken) k || watches_any (g.W.Watched.watches l.watched) (drop l.leaf-index l.givers) k);
-  touched : (k : ℕ) → (is_in (g.S.LeafSet.members l.fn.touched) k || watches_any (g.W.Watched.watches l.watched) l.givers k) ≡ (is_in (g.S.LeafSet.members l.touched) k || watches_any (g.W.Watched.watches l.watched) (drop l.leaf-index l.givers) k);
+  same : g.S.LeafSet.members l.touched ≡ g.S.LeafSet.members l.woken;
 }

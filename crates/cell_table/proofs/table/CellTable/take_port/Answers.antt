@@ -1,4 +1,4 @@
-use Rattle.std.proofs.Common.{◌+◌, ◌*◌, ◌<◌, ◌∙◌, get_or, ap, sym, arith}
+use Rattle.std.proofs.Common.{◌+◌, ◌*◌, ◌<◌, ◌∙◌, get_or, length, ap, sym, arith}
 use Rattle.quantity.specs.declared.value.Value.TheVariants.{Undefined}
 use Rattle.quantity.specs.Arithmetic.{same_value}
 use Rattle.cell_table.proofs.Kept.{row, few, width_seen, take_written, took_nothing}
@@ -10,6 +10,10 @@ overflow_mul-port c = omega (arith, few c.self.inside c.args.self.now c.self.vie
 pub overflow_add-port : goal.overflow_add-port
 overflow_add-port c = omega (arith, few c.self.inside c.args.self.now c.self.view_is c.self.invariant c.args.i c.requires.cell, width_seen c.self.inside c.args.self.now c.self.view_is, c.requires.port)
 
+pub value_in-requires : goal.value_in-requires
+value_in-requires c =
+    omega (arith, row c.self.inside c.args.self.now c.self.view_is c.self.invariant c.args.i c.requires.cell, c.self.invariant.computed, ap length c.deref.ensures.value, width_seen c.self.inside c.args.self.now c.self.view_is, c.requires.port)
+
 pub put-requires : goal.put-requires
 put-requires c = omega (arith, row c.self.inside c.args.self.now c.self.view_is c.self.invariant c.args.i c.requires.cell, c.self.invariant.lists, width_seen c.self.inside c.args.self.now c.self.view_is, c.requires.port)
 
@@ -19,13 +23,13 @@ index_mut-requires c = omega (arith, row c.self.inside c.args.self.now c.self.vi
 pub returns-then-is_same-clause-ok : goal.returns-then-is_same-clause-ok
 returns-then-is_same-clause-ok c =
     let inside : c.args.p < c.self.inside.width = omega (arith, width_seen c.self.inside c.args.self.now c.self.view_is, c.requires.port) in
-    let read = c.value_at.ensures ∙ ap (λ xs. get_or xs (c.args.i * c.self.inside.width + c.args.p) Undefined) c.deref.ensures.value in
+    let read = c.value_in.ensures ∙ ap (λ xs. get_or xs (c.args.i * c.self.inside.width + c.args.p) Undefined) c.deref.ensures.value in
     let same = sym (c.is_same.ensures ∙ ap (same_value c.args.value) read) in
     took_nothing c.self.inside c.args.self.now c.self.view_is c.self.invariant c.args.i c.requires.cell c.args.p c.args.at c.args.kind c.args.value inside (same ∙ c.if-is_same.true)
 
 pub returns-clause-ok : goal.returns-clause-ok
 returns-clause-ok c =
     let inside : c.args.p < c.self.inside.width = omega (arith, width_seen c.self.inside c.args.self.now c.self.view_is, c.requires.port) in
-    let read = c.value_at.ensures ∙ ap (λ xs. get_or xs (c.args.i * c.self.inside.width + c.args.p) Undefined) c.deref.ensures.value in
+    let read = c.value_in.ensures ∙ ap (λ xs. get_or xs (c.args.i * c.self.inside.width + c.args.p) Undefined) c.deref.ensures.value in
     let same = sym (c.is_same.ensures ∙ ap (same_value c.args.value) read) in
     take_written c.self.inside c.args.self.now c.self.view_is c.self.invariant c.args.i c.requires.cell c.args.p c.args.at c.args.kind c.args.value c.put.new.delays.lists inside (same ∙ c.if-is_same.false) c.in_ok-put.ensures.ok

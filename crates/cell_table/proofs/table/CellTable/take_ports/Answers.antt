@@ -1,4 +1,4 @@
-use Rattle.std.proofs.Common.{◌≤◌, ◌∙◌, ℕ, Option, length, ap, sym, arith}
+use Rattle.std.proofs.Common.{◌≤◌, ℕ, Option, length, ap, arith}
 use Rattle.quantity.specs.declared.value.Value.{Value}
 use Rattle.rule_tree.specs.Ports.{taken_at, taken_by_port}
 use Rattle.cell_table.specs.Table.{changed_port, changed_ports}

@@ -25,14 +25,13 @@ put_watchers-requires c =
       inside = here.inside;
       short = omega (arith, here.short, c.self.invariant.0);
       room = here.room;
-      empty = c.requires.empty;
     }
 
 pub returns-in-None-clause-watch : goal.returns-in-None-clause-watch
 returns-in-None-clause-watch c = λ k.
     let seats = c.self.inside.seats in
     let lt : c.args.leaf < length seats.items = omega (arith, c.if-len-at.false, c.len.ensures, seats.ok.0) in
-    ap (λ (ls : List ℕ). is_among ls k) c.requires.empty
+    ap (λ (ls : List ℕ). is_among ls k) c.clear-in-None.ensures.items
     ∙ sym (none-watch seats.items c.self.inside.blocks.items c.self.invariant.1 c.args.leaf c.index.result.now lt c.index.ensures c.in-None.is k)
     ∙ ap (λ (w : Watching). watches_by w k c.args.leaf) c.self.view_is
 
