@@ -3,7 +3,7 @@ use Rattle.std.proofs.Common.{◌≡◌, ℕ, Bool, true, false, cond, ◌++◌,
 use Rattle.quantity.specs.Bytes.{Bytes}
 use Rattle.rule_tree.specs.declared.outcome.RuleStop.{RuleStop}
 use Rattle.rule_tree.specs.declared.outcome.RuleStop.TheVariants.{NoTrueRule, Overflow, BadDelay}
-use Rattle.room_edge.specs.Outside.{Folder}
+use Rattle.room_edge.specs.Outside.{Files}
 use Rattle.atomic_face.specs.declared.class.Class.{Class}
 use Rattle.model_tree.specs.Tree.{Word, Tree, ins_of}
 use Rattle.run_model.specs.Run.{Event, Cycle, Verdict, done, too_many, stop, Run}
@@ -36,7 +36,7 @@ asked_is form (Some a) go h = h a
 missing_is : (name : Word) (inputs : List Word) → IsAnswer (missing name inputs)
 missing_is name inputs = complaint_is 3 (codes "missing: " ++ name) inputs (λ e. omega arith, λ e. omega arith, λ e. omega arith)
 
-file_is : (files : Folder) (name : Word) (inputs : List Word) (go : Bytes → List Word → Answer) → ((b : Bytes) (i : List Word) → IsAnswer (go b i)) → IsAnswer (with_file files name inputs go)
+file_is : (files : Files) (name : Word) (inputs : List Word) (go : Bytes → List Word → Answer) → ((b : Bytes) (i : List Word) → IsAnswer (go b i)) → IsAnswer (with_file files name inputs go)
 file_is files name inputs go h = by (files name)
   where
     by : (o : Option Bytes) → IsAnswer (elim o as (λ x. Answer) [ None ↦ missing name (inputs ++ name ∷ []) | Some bytes ↦ go bytes (inputs ++ name ∷ []) ])
@@ -47,7 +47,7 @@ unless_is : {A E : Type 0} (status : ℕ) (text : E → Bytes) (inputs : List Wo
 unless_is status text inputs (Ok x) go own h = h x
 unless_is status text inputs (Err e) go own h = complaint_is status (text e) inputs own
 
-source_is : (s : Source) (files : Folder) (go : Bytes → List Word → Answer) → ((b : Bytes) (i : List Word) → IsAnswer (go b i)) → IsAnswer (with_source s files go)
+source_is : (s : Source) (files : Files) (go : Bytes → List Word → Answer) → ((b : Bytes) (i : List Word) → IsAnswer (go b i)) → IsAnswer (with_source s files go)
 source_is (file name) files go h = file_is files name [] go h
 source_is (made size) files go h = h (made_text size) []
 
@@ -79,21 +79,21 @@ run_is a tree events from inputs r =
 
 -- ---- both programs
 
-events_is : (a : Asked) (files : Folder) (tree : Tree) (inputs : List Word) (go : List Event → List Word → Answer) → ((es : List Event) (i : List Word) → IsAnswer (go es i)) → IsAnswer (with_events a files tree inputs go)
+events_is : (a : Asked) (files : Files) (tree : Tree) (inputs : List Word) (go : List Event → List Word → Answer) → ((es : List Event) (i : List Word) → IsAnswer (go es i)) → IsAnswer (with_events a files tree inputs go)
 events_is a files tree inputs go h = by a.events
   where
     by : (o : Option Word) → IsAnswer (elim o as (λ x. Answer) [ None ↦ go [] inputs | Some name ↦ with_file files name inputs (λ bytes looked. unless_refused 7 events_refused looked (events_of bytes (ins_of tree)) (λ events. go events looked)) ])
     by None = h [] inputs
     by (Some name) = file_is files name inputs _ (λ bytes looked. unless_is 7 events_refused looked (events_of bytes (ins_of tree)) (λ events. go events looked) (λ e. omega arith, λ e. omega arith, λ e. omega arith) (λ es. h es looked))
 
-state_is : (a : Asked) (files : Folder) (tree : Tree) (inputs : List Word) (go : Option Saved → List Word → Answer) → ((s : Option Saved) (i : List Word) → IsAnswer (go s i)) → IsAnswer (with_state a files tree inputs go)
+state_is : (a : Asked) (files : Files) (tree : Tree) (inputs : List Word) (go : Option Saved → List Word → Answer) → ((s : Option Saved) (i : List Word) → IsAnswer (go s i)) → IsAnswer (with_state a files tree inputs go)
 state_is a files tree inputs go h = by a.state
   where
     by : (o : Option Word) → IsAnswer (elim o as (λ x. Answer) [ None ↦ go None inputs | Some name ↦ with_file files name inputs (λ bytes looked. unless_refused 14 state_refused looked (state_of bytes tree a.end) (λ saved. go (Some saved) looked)) ])
     by None = h None inputs
     by (Some name) = file_is files name inputs _ (λ bytes looked. unless_is 14 state_refused looked (state_of bytes tree a.end) (λ saved. go (Some saved) looked) (λ e. omega arith, λ e. omega arith, λ e. omega arith) (λ s. h (Some s) looked))
 
-cdpp_is : (words : List Word) (files : Folder) (classes : List Class) → IsAnswer (answer words files classes)
+cdpp_is : (words : List Word) (files : Files) (classes : List Class) → IsAnswer (answer words files classes)
 unfolding answer_by
 cdpp_is words files classes =
     asked_is usage (asked words) _ (λ a.
@@ -118,7 +118,7 @@ drawn_is a log inputs = by_length (nat_lt 268435456 (length log)) (drawn a.pictu
     by_length false (Err line) = refused line
     by_length false (Ok frames) = shown frames
 
-drawlog_is : (words : List Word) (files : Folder) → IsAnswer (drawing_answer words files)
+drawlog_is : (words : List Word) (files : Files) → IsAnswer (drawing_answer words files)
 unfolding drawing_answer
 drawlog_is words files = asked_is drawing_usage (asked_drawing words) _ (λ a. file_is files a.log [] _ (drawn_is a))
 

@@ -17,7 +17,7 @@ use Rattle.atomic_face.specs.declared.class.Class.TheVariants.{Queue, Generator,
 use Rattle.atomic_face.specs.declared.params.Param.{Param}
 use Rattle.atomic_face.specs.Words as W
 use Rattle.atomic_face.specs.Words.{word_of, milliseconds}
-use Rattle.atomic_face.specs.TableSettings.{any_word, HoldWords, hold_of, hold_of_words, hold_in, holds_of, hold_words, with_key, value_or, word_in, number_in, take_in, states_of, settings_with}
+use Rattle.atomic_face.specs.TableSettings.{any_word, HoldWords, hold_of, hold_of_words, hold_in, holds_of, hold_words, with_key, value_or, word_in, number_of_name, take_in, states_of, settings_with}
 use Rattle.atomic_face.specs.StateTable.{holds_in, same_word, table_settings}
 use Rattle.atomic_face.specs.Parameters.{Parameter, parameter, time_word, period_word, positive, value_word, setting_of}
 use Rattle.atomic_face.specs.Settings.{settings_of}
@@ -123,7 +123,7 @@ words_are names (a ∷ []) h e = absurd (none_some e)
 words_are names (a ∷ b ∷ []) h e = absurd (none_some e)
 words_are names (a ∷ b ∷ c ∷ []) h e = absurd (none_some e)
 words_are names (a ∷ b ∷ c ∷ d ∷ []) h e =
-    hold_is (number_in names a) (all_there (timed (time_in b) ∷ value_or (codes "last") c ∷ word_in names d ∷ [])) h
+    hold_is (number_of_name names a) (all_there (timed (time_in b) ∷ value_or (codes "last") c ∷ word_in names d ∷ [])) h
     (λ l f. three_are (timed (time_in b)) (value_or (codes "last") c) (word_in names d) l (λ t g. (time_word_is b t g).0) (last_or_value c) f) e
 words_are names (a ∷ b ∷ c ∷ d ∷ x ∷ xs) h e = absurd (none_some e)
 

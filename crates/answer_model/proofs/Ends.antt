@@ -9,7 +9,7 @@ use Rattle.text_forms.specs.Rows.{line_log}
 use Rattle.quantity.specs.Bytes.{Bytes}
 use Rattle.answer_model.specs.Asked.{Asked, file, asked, usage, asked_by, command_of}
 use Rattle.answer_model.specs.AskedRows.{words, plain}
-use Rattle.answer_model.specs.Answer.{Files, Answer}
+use Rattle.answer_model.specs.Answer.{MadeFiles, Answer}
 use Rattle.answer_model.specs.Cdpp.{answer, run_on, answer_by}
 use Rattle.answer_model.specs.WholeFiles.{folder, boxes, model, just_model, shows}
 use Rattle.model_text.specs.Models.{line_model}
@@ -43,14 +43,14 @@ not_same : (m n : ℕ) → m < 225 → n ≡ 225 → m ≡ n → ⊥
 not_same m n p q e = omega arith
 
 -- files with this log alone
-abbrev log_of : Bytes → Files
+abbrev log_of : Bytes → MadeFiles
 log_of part = (codes "log.txt", part) ∷ []
 
 not_whole : (part : Bytes) → length part < 225 → ¬ Contains (log_of part) (codes "log.txt", line_log)
 not_whole part short (zero, lt, e) = not_same (length part) (length line_log) short refl (ap bytes_in e)
 not_whole part short (suc k, lt, e) = absurd (omega arith)
 
-abbrev no_files : Files
+abbrev no_files : MadeFiles
 no_files = []
 
 none_is_whole : ¬ Contains no_files (codes "log.txt", line_log)

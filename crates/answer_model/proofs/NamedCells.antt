@@ -21,7 +21,7 @@ use Rattle.model_text.specs.Accepted.{ReadsSoundModels}
 use Rattle.text_forms.specs.declared.letter.Letter.TheVariants.{Y}
 use Rattle.text_forms.specs.LogLine.{given}
 use Rattle.text_forms.specs.Lines.{leaf_name}
-use Rattle.text_forms.specs.Frames.{Shown, shown_by, shown_at, shown_of, cell_of}
+use Rattle.text_forms.specs.Frames.{ShownCell, shown_by, shown_at, shown_of, cell_of}
 use Rattle.answer_model.specs.RunFiles.{group_at}
 use Rattle.answer_model.specs.AcceptedRuns.{GroupsAreNamed}
 use Rattle.model_text.proofs.Keys.{same_bytes}
@@ -144,7 +144,7 @@ IsOther name l = bytes_eq (leaf_name l).name name ≡ false
 other_shows : (s : Space) (name : Word) (f k : ℕ) (l : Leaf) → IsOther name l → (nat_le f k && nat_lt k (f + cell_count s)) ≡ false → Shows s name f k l
 other_shows s name f k l other outside time port w v =
     ap (λ b. cond b (shown_at time v (cell_of s (leaf_name l).at)) (Some [])) other
-    ∙ sym (ap (λ b. let o : Option (List Shown) = Some (option_to_list (cond b (Some (record { time = time; cell = k - f; value = v })) None)) in o) outside)
+    ∙ sym (ap (λ b. let o : Option (List ShownCell) = Some (option_to_list (cond b (Some (record { time = time; cell = k - f; value = v })) None)) in o) outside)
 
 others_before : (s : Space) (name : Word) (f a : ℕ) (ls : List Leaf) → AllByRecursion (IsOther name) ls → a + length ls ≤ f → AllShow s name f a ls
 others_before s name f a [] h le = tt
@@ -171,8 +171,8 @@ cell_shows : (g : Group) (name : Word) (f c : ℕ) → bytes_eq g.name name ≡ 
 cell_shows g name f c same below time port w v =
     ap (λ b. cond b (shown_at time v (cell_of g.space (take (dims_of g.space) (coordinates (place_of g.space c))))) (Some [])) same
     ∙ ap (shown_at time v) (cell_back g.space c below)
-    ∙ ap (λ n. let o : Option (List Shown) = Some (record { time = time; cell = n; value = v } ∷ []) in o) (back f c)
-    ∙ sym (ap (λ b. let o : Option (List Shown) = Some (option_to_list (cond b (Some (record { time = time; cell = (f + c) - f; value = v })) None)) in o) (inside (cell_count g.space) below))
+    ∙ ap (λ n. let o : Option (List ShownCell) = Some (record { time = time; cell = n; value = v } ∷ []) in o) (back f c)
+    ∙ sym (ap (λ b. let o : Option (List ShownCell) = Some (option_to_list (cond b (Some (record { time = time; cell = (f + c) - f; value = v })) None)) in o) (inside (cell_count g.space) below))
   where
     back : (f c : ℕ) → c ≡ (f + c) - f
     back f c = omega arith

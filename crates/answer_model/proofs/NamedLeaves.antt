@@ -33,8 +33,8 @@ use Rattle.model_tree.specs.Pull.{class_ports, port_of_cell, distinct}
 use Rattle.model_text.specs.declared.kind.Kind.{Kind}
 use Rattle.model_text.specs.declared.kind.Kind.TheVariants.{BadValue, ComponentCycle}
 use Rattle.model_text.specs.Refusals.{Refusal, refusal}
-use Rattle.model_text.specs.Keyed.{section_named, Item, items_of, texts_of, least}
-use Rattle.model_text.specs.Walk.{top, is_item, is_atomic, is_group, name_of, class_of, children_of, section_of, below, Step, at_section, at_item, section_in, walk_from, walk_at, walk, reached, atomics, item_refused, section_refused, first_step_refused}
+use Rattle.model_text.specs.Keyed.{section_named, Item, items_of, texts_of, least_refusal}
+use Rattle.model_text.specs.Walk.{top, is_item, is_atomic, is_group, item_name, class_of, children_of, section_of, below, Step, at_section, at_item, section_in, walk_from, walk_at, walk, reached, atomics, item_refused, section_refused, first_step_refused}
 use Rattle.model_text.specs.Forms.{is_word, are_words, are_ports, ends_of}
 use Rattle.model_text.specs.Keys.{group_forms, forms, is_off, off_form, missing, double_space, again, section_keys, repeated, of_group, of_section, of_atomic}
 use Rattle.model_text.specs.Spaces.{space_of}
@@ -220,17 +220,17 @@ group_ports_named s h g k =
 
 abbrev IsRightStep : Step → Type 0
 IsRightStep (at_section line deep s) = of_section s ≡ []
-IsRightStep (at_item around i) = (is_item i ≡ true) × (is_among around (name_of i) ≡ false)
+IsRightStep (at_item around i) = (is_item i ≡ true) × (is_among around (item_name i) ≡ false)
 
 if_none : {A : Type 0} (b : Bool) (x : A) (o : Option A) → cond b (Some x) o ≡ None → (b ≡ false) × (o ≡ None)
 if_none true x o e = absurd (some_none e)
 if_none false x o e = (refl, e)
 
-item_right : (ss : List Section) (before : List Item) (around : List Bytes) (i : Item) → item_refused ss before around i ≡ None → (is_item i ≡ true) × (is_among around (name_of i) ≡ false)
+item_right : (ss : List Section) (before : List Item) (around : List Bytes) (i : Item) → item_refused ss before around i ≡ None → (is_item i ≡ true) × (is_among around (item_name i) ≡ false)
 item_right ss before around i e =
     let form = if_none (not (is_item i)) BadValue _ e in
-    let cycle = if_none (bytes_eq (name_of i) top || is_among around (name_of i)) ComponentCycle _ form.1 in
-    (not_off (is_item i) form.0, (both_false (bytes_eq (name_of i) top) (is_among around (name_of i)) cycle.0).1)
+    let cycle = if_none (bytes_eq (item_name i) top || is_among around (item_name i)) ComponentCycle _ form.1 in
+    (not_off (is_item i) form.0, (both_false (bytes_eq (item_name i) top) (is_among around (item_name i)) cycle.0).1)
 
 mapped_none : (line : ℕ) (o : Option Kind) → option_map (refusal line) o ≡ None → o ≡ None
 mapped_none line None e = refl
@@ -245,7 +245,7 @@ steps_right ss before (at_item around i ∷ steps) e k =
     let p = both_none (option_map (refusal i.line) (item_refused ss before around i)) (first_step_refused ss (before ++ i ∷ []) steps) e in
     (item_right ss before around i (mapped_none i.line (item_refused ss before around i) p.0), steps_right ss (before ++ i ∷ []) steps p.1 k)
 
-least_none : (rs : List Refusal) → least rs ≡ None → rs ≡ []
+least_none : (rs : List Refusal) → least_refusal rs ≡ None → rs ≡ []
 least_none [] e = refl
 least_none (r ∷ rs) e = absurd (some_none e)
 
@@ -279,7 +279,7 @@ trees_named : (ts : List Tree) → AllByRecursion Named ts → AllNamed (trees t
 trees_named [] h = tt
 trees_named (t ∷ ts) h = (h.0, trees_named ts h.1)
 
-atomic_named : (ss : List Section) (i : Item) (o : Option Class) → is_name (name_of i) ≡ true → AllByRecursion Named (atomic_of ss i o)
+atomic_named : (ss : List Section) (i : Item) (o : Option Class) → is_name (item_name i) ≡ true → AllByRecursion Named (atomic_of ss i o)
 atomic_named ss i None h = tt
 atomic_named ss i (Some class) h = (h, tt)
 
@@ -292,14 +292,14 @@ steps_behind n ss around i o = elim o [ None ↦ [] | Some t ↦ walk_from n ss 
 abbrev trees_behind : ℕ → Files → List Section → Item → Option Section → List Tree
 trees_behind n files ss i o = elim o [ None ↦ atomic_of ss i (class_of_item i) | Some t ↦ component_of n files ss t ]
 
-item_named : (n : ℕ) (files : Files) (ss : List Section) → AllByRecursion EntriesFold ss → Walks n files ss → (around : List Bytes) (i : Item) → (is_item i ≡ true) × (is_among around (name_of i) ≡ false)
+item_named : (n : ℕ) (files : Files) (ss : List Section) → AllByRecursion EntriesFold ss → Walks n files ss → (around : List Bytes) (i : Item) → (is_item i ≡ true) × (is_among around (item_name i) ≡ false)
     → AllByRecursion IsRightStep (steps_behind n ss around i (below ss around i)) → AllByRecursion Named (trees_behind n files ss i (section_of ss i))
 item_named n files ss folds walks around i h k = go (section_of ss i) refl
   where
-    name : is_name (name_of i) ≡ true
-    name = (and_parts (is_name (name_of i)) (not (is_atomic i) || is_name (class_of i)) h.0).0
+    name : is_name (item_name i) ≡ true
+    name = (and_parts (is_name (item_name i)) (not (is_atomic i) || is_name (class_of i)) h.0).0
 
-    bare : (t : Section) (b : Bool) → cond b None (section_named ss (name_of i)) ≡ Some t → section_named ss (name_of i) ≡ Some t
+    bare : (t : Section) (b : Bool) → cond b None (section_named ss (item_name i)) ≡ Some t → section_named ss (item_name i) ≡ Some t
     bare t true e = absurd (none_some e)
     bare t false e = e
 
@@ -308,7 +308,7 @@ item_named n files ss folds walks around i h k = go (section_of ss i) refl
     go (Some t) e =
         let found = bare t (is_atomic i) e in
         let there : below ss around i ≡ Some t = ap (λ b. cond b None (section_of ss i)) h.1 ∙ e in
-        walks around i.line t (subst (λ w. is_name w ≡ true) (sym (find_is (name_of i) ss t found)) name) (found_holds EntriesFold (λ (s : Section). bytes_eq s.name (name_of i)) ss t folds found)
+        walks around i.line t (subst (λ w. is_name w ≡ true) (sym (find_is (item_name i) ss t found)) name) (found_holds EntriesFold (λ (s : Section). bytes_eq s.name (item_name i)) ss t folds found)
         (subst (λ o. AllByRecursion IsRightStep (steps_behind n ss around i o)) there k)
 
 split_right : (xs ys : List Step) → AllByRecursion IsRightStep (xs ++ ys) → AllByRecursion IsRightStep xs × AllByRecursion IsRightStep ys

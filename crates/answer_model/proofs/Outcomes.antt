@@ -5,13 +5,13 @@ use Rattle.std.proofs.lemmas.List.{append-nil}
 use Rattle.room_edge.specs.Faults.{Rose}
 use Rattle.room_edge.specs.Outside.{Outside, streams}
 use Rattle.room_edge.proofs.Adding.{streams-nil}
-use Rattle.answer_model.specs.Answer.{Files, Answer, names}
+use Rattle.answer_model.specs.Answer.{MadeFiles, Answer, names}
 use Rattle.answer_model.specs.Headline.{is_free, puts_all, BeginFiles, Writes, WritesPart, WritesNothing}
 use Rattle.answer_model.specs.Outcome.{Did, HasMore, Outcome, Ending, as_answered, reading_failed, writing_failed, complaining_failed, memory_failed, IsBegun, IsOwn, Complains, FollowsAnswer, IsComplete, IsExact, OutcomeLaws}
 
 -- ---- beginnings
 
-all_begun : (files : Files) → BeginFiles files files
+all_begun : (files : MadeFiles) → BeginFiles files files
 all_begun [] = tt
 all_begun (f ∷ fs) = (refl, ([], sym (append-nil f.1)), all_begun fs)
 
@@ -28,7 +28,7 @@ writes a old new did more m s c =
     record {
       status = refl;
       made = more.made ∙ ap (puts_all old.made) m;
-      created = more.created ∙ ap (λ (fs : Files). old.created ++ names fs) m;
+      created = more.created ∙ ap (λ (fs : MadeFiles). old.created ++ names fs) m;
       shown = more.shown ∙ ap (streams old.shown) s;
       complained = more.complained ∙ ap (streams old.complained) c;
     }
@@ -41,7 +41,7 @@ writes_nothing : (old new : Outside) (did : Did) → HasMore did old new → did
 writes_nothing old new did more m s =
     record {
       made = more.made ∙ ap (puts_all old.made) m;
-      created = more.created ∙ ap (λ (fs : Files). old.created ++ names fs) m ∙ append-nil old.created;
+      created = more.created ∙ ap (λ (fs : MadeFiles). old.created ++ names fs) m ∙ append-nil old.created;
       shown = more.shown ∙ ap (streams old.shown) s ∙ streams-nil old.shown;
     }
 

@@ -10,7 +10,7 @@ use Rattle.quantity.specs.Bytes.{Bytes}
 use Rattle.model_tree.specs.Tree.{Word}
 use Rattle.room_edge.specs.Faults.{ReadFaultCounted, WriteFaultCounted, KeepsReadFaults, KeepsWriteFaults}
 use Rattle.room_edge.specs.Outside.{Outside, OnlyInput, OnlyMade}
-use Rattle.answer_model.specs.Answer.{Files, Answer, read_fault_line, write_fault_line}
+use Rattle.answer_model.specs.Answer.{MadeFiles, Answer, read_fault_line, write_fault_line}
 use Rattle.answer_model.specs.Headline.{Begins}
 use Rattle.answer_model.specs.Outcome.{Did, IsBegun, Lacks, a_file, Outcome}
 use Rattle.answer_model.specs.Steps.{is_made, grown}
@@ -98,12 +98,12 @@ was_unmade a did old mid made created only keeps = λ start way.
     }
 
 -- a file is among those made
-pub made_there : (files : Files) (name : Word) (bytes : Bytes) → Contains {X = Word × Bytes} files (name, bytes) → is_made name files ≡ true
+pub made_there : (files : MadeFiles) (name : Word) (bytes : Bytes) → Contains {X = Word × Bytes} files (name, bytes) → is_made name files ≡ true
 made_there files name bytes (k, lt, is) =
     let here : bytes_eq name name ≡ true = (bytes_eq-Decides name name).1 refl in
     list_any_at (λ (f : Word × Bytes). bytes_eq f.0 name) files k (name, bytes) lt (ap (λ (f : Word × Bytes). bytes_eq f.0 name) is ∙ here)
 
-pub not_made : (files : Files) (name : Word) (bytes : Bytes) → is_made name files ≡ false → Contains {X = Word × Bytes} files (name, bytes) → ⊥
+pub not_made : (files : MadeFiles) (name : Word) (bytes : Bytes) → is_made name files ≡ false → Contains {X = Word × Bytes} files (name, bytes) → ⊥
 not_made files name bytes off has = let on = made_there files name bytes has in cc
 
 -- a file that is to be made and isn't yet lacks its bytes
@@ -111,9 +111,9 @@ pub lacks_unmade : (a : Answer) (did : Did) (name : Word) (bytes : Bytes) → Co
 lacks_unmade a did name bytes wanted off = a_file {bytes = bytes} wanted (not_made did.made name bytes off)
 
 -- a file that was made, and of which only a part was written, lacks the rest
-pub lacks_rest : (a : Answer) (did : Did) (before after : Files) (name : Word) (part bytes : Bytes) → Contains {X = Word × Bytes} a.made (name, bytes) → did.made ≡ before ++ (name, part) ∷ after → is_made name before ≡ false → is_made name after ≡ false → part ≢ bytes → Lacks a did name
+pub lacks_rest : (a : Answer) (did : Did) (before after : MadeFiles) (name : Word) (part bytes : Bytes) → Contains {X = Word × Bytes} a.made (name, bytes) → did.made ≡ before ++ (name, part) ∷ after → is_made name before ≡ false → is_made name after ≡ false → part ≢ bytes → Lacks a did name
 lacks_rest a did before after name part bytes wanted made off_before off_after short =
-    a_file {bytes = bytes} wanted (λ has. none (Contains-append_cases before ((name, part) ∷ after) (name, bytes) (subst (λ (fs : Files). Contains {X = Word × Bytes} fs (name, bytes)) made has)))
+    a_file {bytes = bytes} wanted (λ has. none (Contains-append_cases before ((name, part) ∷ after) (name, bytes) (subst (λ (fs : MadeFiles). Contains {X = Word × Bytes} fs (name, bytes)) made has)))
   where
     single : Contains {X = Word × Bytes} ((name, part) ∷ []) (name, bytes) → ⊥
     single (zero, lt, is) = short (ap (λ (f : Word × Bytes). f.1) is)
@@ -128,7 +128,7 @@ lacks_rest a did before after name part bytes wanted made off_before off_after s
     none (inr h) = rest (Contains-append_cases ((name, part) ∷ []) after (name, bytes) h)
 
 -- the last file of a name has the bytes more
-pub grown_at : (before after : Files) (name : Word) (part bytes : Bytes) → is_made name after ≡ false → grown name bytes (before ++ (name, part) ∷ after) ≡ before ++ (name, part ++ bytes) ∷ after
+pub grown_at : (before after : MadeFiles) (name : Word) (part bytes : Bytes) → is_made name after ≡ false → grown name bytes (before ++ (name, part) ∷ after) ≡ before ++ (name, part ++ bytes) ∷ after
 grown_at [] after name part bytes off = by (is_made name after) (bytes_eq name name) off ((bytes_eq-Decides name name).1 refl)
   where
     by : (later here : Bool) → later ≡ false → here ≡ true

@@ -7,16 +7,16 @@ use Rattle.std.proofs.lemmas.List.{append-nil, append_assoc, map-append}
 use Rattle.std.proofs.lemmas.Slice.Eq.{bytes_eq-Decides}
 use Rattle.model_tree.specs.Tree.{Word}
 use Rattle.quantity.specs.Bytes.{Bytes}
-use Rattle.room_edge.specs.Outside.{Folder, Outside, puts, adds, streams}
+use Rattle.room_edge.specs.Outside.{Files, Outside, puts, adds, streams}
 use Rattle.room_edge.proofs.Adding.{adds-puts, streams-nil, streams-streams}
-use Rattle.answer_model.specs.Answer.{Files, names}
+use Rattle.answer_model.specs.Answer.{MadeFiles, names}
 use Rattle.answer_model.specs.Headline.{puts_all}
 use Rattle.answer_model.specs.Outcome.{Did, HasMore}
 use Rattle.answer_model.specs.Steps.{is_made, grown, did_nothing, and_tried, and_created, and_appended, and_showed, and_complained, Tried, Read, Created, Appended, Showed, Complained, StepsAdd}
 
 -- ---- made files
 
-puts_all_push : (made : Option Folder) (fs : Files) (f : Word × Bytes) → puts (puts_all made fs) f.0 f.1 ≡ puts_all made (fs ++ f ∷ [])
+puts_all_push : (made : Option Files) (fs : MadeFiles) (f : Word × Bytes) → puts (puts_all made fs) f.0 f.1 ≡ puts_all made (fs ++ f ∷ [])
 puts_all_push made [] f = refl
 puts_all_push made (g ∷ gs) f = puts_all_push (puts made g.0 g.1) gs f
 
@@ -36,7 +36,7 @@ swapped true false bytes b old h = refl
 swapped false true bytes b old h = refl
 swapped false false bytes b old h = refl
 
-adds-puts_other : (made : Option Folder) (name bytes n b : List ℕ) → bytes_eq n name ≡ false → adds (puts made n b) name bytes ≡ puts (adds made name bytes) n b
+adds-puts_other : (made : Option Files) (name bytes n b : List ℕ) → bytes_eq n name ≡ false → adds (puts made n b) name bytes ≡ puts (adds made name bytes) n b
 unfolding adds puts
 adds-puts_other None name bytes n b h = refl
 adds-puts_other (Some folder) name bytes n b h = ap Some (λ i m. swapped (bytes_eq name m) (bytes_eq n m) bytes b (folder m) (not_both name n m h) i)
@@ -49,17 +49,17 @@ right_false : (a b : Bool) → (a || b) ≡ false → b ≡ false
 right_false true b e = cc
 right_false false b e = e
 
-adds-puts_all_other : (made : Option Folder) (fs : Files) (name bytes : List ℕ) → is_made name fs ≡ false → adds (puts_all made fs) name bytes ≡ puts_all (adds made name bytes) fs
+adds-puts_all_other : (made : Option Files) (fs : MadeFiles) (name bytes : List ℕ) → is_made name fs ≡ false → adds (puts_all made fs) name bytes ≡ puts_all (adds made name bytes) fs
 adds-puts_all_other made [] name bytes h = refl
 adds-puts_all_other made (f ∷ fs) name bytes h =
     adds-puts_all_other (puts made f.0 f.1) fs name bytes (right_false (bytes_eq f.0 name) (is_made name fs) h)
     ∙ ap (λ m. puts_all m fs) (adds-puts_other made name bytes f.0 f.1 (left_false (bytes_eq f.0 name) (is_made name fs) h))
 
-adds-puts_at : (made : Option Folder) (name bytes n b : List ℕ) → bytes_eq n name ≡ true → adds (puts made n b) name bytes ≡ puts made n (b ++ bytes)
+adds-puts_at : (made : Option Files) (name bytes n b : List ℕ) → bytes_eq n name ≡ true → adds (puts made n b) name bytes ≡ puts made n (b ++ bytes)
 adds-puts_at made name bytes n b h =
     ap (λ m. adds (puts made n b) m bytes) (sym ((bytes_eq-Decides n name).0 h)) ∙ adds-puts made n b bytes
 
-adds-puts_all : (made : Option Folder) (fs : Files) (name bytes : List ℕ) → is_made name fs ≡ true → adds (puts_all made fs) name bytes ≡ puts_all made (grown name bytes fs)
+adds-puts_all : (made : Option Files) (fs : MadeFiles) (name bytes : List ℕ) → is_made name fs ≡ true → adds (puts_all made fs) name bytes ≡ puts_all made (grown name bytes fs)
 adds-puts_all made [] name bytes h = cc
 adds-puts_all made (f ∷ fs) name bytes h =
     by (is_made name fs) (bytes_eq f.0 name) (adds-puts_all (puts made f.0 f.1) fs name bytes) (adds-puts_all_other (puts made f.0 f.1) fs name bytes) (adds-puts_at made name bytes f.0 f.1) h
@@ -76,12 +76,12 @@ adds-puts_all made (f ∷ fs) name bytes h =
 
 -- ---- names
 
-names_by : (later here : Bool) (f g : Word × Bytes) (fs gs : Files) → f.0 ≡ g.0 → names gs ≡ names fs → names (cond later (f ∷ gs) (cond here (g ∷ fs) (f ∷ fs))) ≡ f.0 ∷ names fs
+names_by : (later here : Bool) (f g : Word × Bytes) (fs gs : MadeFiles) → f.0 ≡ g.0 → names gs ≡ names fs → names (cond later (f ∷ gs) (cond here (g ∷ fs) (f ∷ fs))) ≡ f.0 ∷ names fs
 names_by true here f g fs gs e h = ap (λ xs. f.0 ∷ xs) h
 names_by false true f g fs gs e h = ap (λ n. n ∷ names fs) (sym e)
 names_by false false f g fs gs e h = refl
 
-grown_names : (name : Word) (bytes : Bytes) (fs : Files) → names (grown name bytes fs) ≡ names fs
+grown_names : (name : Word) (bytes : Bytes) (fs : MadeFiles) → names (grown name bytes fs) ≡ names fs
 grown_names name bytes [] = refl
 grown_names name bytes (f ∷ fs) =
     names_by (is_made name fs) (bytes_eq f.0 name) f (f.0, f.1 ++ bytes) fs (grown name bytes fs) refl (grown_names name bytes fs)

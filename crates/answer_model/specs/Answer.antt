@@ -3,20 +3,21 @@
 use Rattle.std.specs.Prelude.{ℕ, Option, Some, None, List, [], ◌∷◌, ◌++◌, map, codes, decimal, Result, Ok, Err}
 use Rattle.model_tree.specs.Tree.{Word}
 use Rattle.quantity.specs.Bytes.{Bytes}
-use Rattle.room_edge.specs.Outside.{Folder}
+use Rattle.room_edge.specs.Outside.{Files}
 use Rattle.text_forms.specs.Lines.{ended}
 
 -- made files with their bytes, in the order of their making
-abbrev pub Files : Type 0
-Files = List (Word × Bytes)
+abbrev pub MadeFiles : Type 0
+MadeFiles = List (Word × Bytes)
 
 -- the names of some files
-abbrev pub names : Files → List Word
+abbrev pub names : MadeFiles → List Word
 names files = map (λ (f : Word × Bytes). f.0) files
 
--- what a call leaves: the files it made, what it showed and complained of, its status, and the files that it looked for
+-- what a call leaves: the files it made, what it showed and complained of, its status, and the
+-- files that it looked for
 pub record Answer : Type 0 where
-  pub made : Files
+  pub made : MadeFiles
   pub shown : Bytes
   pub complained : Bytes
   pub status : ℕ
@@ -44,7 +45,7 @@ abbrev pub missing : Word → List Word → Answer
 missing name inputs = only_complains 3 (codes "missing: " ++ name) inputs
 
 -- goes on with the bytes of a file and the files looked for, or ends with the file missing
-abbrev pub with_file : Folder → Word → List Word → (Bytes → List Word → Answer) → Answer
+abbrev pub with_file : Files → Word → List Word → (Bytes → List Word → Answer) → Answer
 with_file files name inputs go =
     elim (files name)
     [ None ↦ missing name (inputs ++ name ∷ []) | Some bytes ↦ go bytes (inputs ++ name ∷ []) ]

@@ -2,7 +2,7 @@
 use Rattle.std.specs.Prelude.{◌≡◌, ℕ, Bool, true, ◌||◌, ◌==◌, List, []}
 use Rattle.atomic_face.specs.declared.class.Class.{Class}
 use Rattle.model_tree.specs.Tree.{Word}
-use Rattle.room_edge.specs.Outside.{Folder}
+use Rattle.room_edge.specs.Outside.{Files}
 use Rattle.answer_model.specs.Answer.{Answer}
 use Rattle.answer_model.specs.Cdpp.{answer}
 use Rattle.answer_model.specs.Drawlog.{drawing_answer}
@@ -23,6 +23,6 @@ pub record IsAnswer (a : Answer) : Type 0 where
 
 -- the answers of both programs keep to it
 pub record AllAreAnswers : Type 0 where
-  pub cdpp : (words : List Word) (files : Folder) (classes : List Class)
+  pub cdpp : (words : List Word) (files : Files) (classes : List Class)
       → IsAnswer (answer words files classes)
-  pub drawlog : (words : List Word) (files : Folder) → IsAnswer (drawing_answer words files)
+  pub drawlog : (words : List Word) (files : Files) → IsAnswer (drawing_answer words files)

@@ -13,6 +13,7 @@ use Rattle.quantity.specs.Bytes.{Bytes}
 use Rattle.quantity.specs.Digits.{number_between}
 use Rattle.quantity.specs.Times.{time_in}
 use Rattle.quantity.specs.Written.{for_some}
+use Rattle.rule_tree.specs.Scope.{differ}
 use Rattle.text_forms.specs.Letters.{letter_bytes}
 use Rattle.model_text.specs.Drawings.{Drawing}
 use Rattle.quantity.specs.Names.{is_name}
@@ -82,11 +83,6 @@ group_in text = if is_name (map lower text) then Some (map lower text) else None
 abbrev pub is_among : ℕ → List ℕ → Bool
 is_among c cs = list_any (λ d. d == c) cs
 
--- no number stands twice
-abbrev pub all_differ : List ℕ → Bool
-all_differ [] = true
-all_differ (c ∷ cs) = not (is_among c cs) && all_differ cs
-
 -- letters of the log's lines alone
 abbrev pub are_letters : List ℕ → Bool
 are_letters text = list_all (λ c. is_among c letter_bytes) text
@@ -94,7 +90,7 @@ are_letters text = list_all (λ c. is_among c letter_bytes) text
 -- different letters of the log's lines, at least one
 abbrev pub letters_in : Word → Option (List ℕ)
 letters_in text =
-    if are_letters text && all_differ text && nat_lt 0 (length text) then Some text else None
+    if are_letters text && differ text && nat_lt 0 (length text) then Some text else None
 
 -- a whole number between two bounds
 abbrev pub number : ℕ → ℕ → Word → Option ℕ
@@ -173,7 +169,8 @@ asked_in has rows =
     for_some (or_else 0 (number 0 5) (given has rows (codes "p"))) (λ decimals.
     for_some (or_else 0 (number 0 1048575) (given has rows (codes "f"))) (λ plane.
     for_some
-    (frames_in (given has rows (codes "d")) (given has rows (codes "g")) width decimals plane) (λ frames.
+    (frames_in (given has rows (codes "d")) (given has rows (codes "g")) width decimals plane)
+    (λ frames.
     for_some (if_given (number_between 10 0 2147483647) (given has rows (codes "T"))) (λ seed.
     if differ_all (named has rows) && may_save has rows
     then Some (record {

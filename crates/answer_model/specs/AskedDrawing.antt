@@ -6,6 +6,7 @@ use Rattle.clap.specs.Simple.{App, new_app, matches_of}
 use Rattle.cell_grid.specs.declared.grid.Border.TheVariants.{NoWrapped}
 use Rattle.cell_grid.specs.Space.{Space, plane_count, cell_count}
 use Rattle.model_tree.specs.Tree.{Word}
+use Rattle.quantity.specs.declared.bounds.TheConstants.{MAX_CELLS}
 use Rattle.quantity.specs.Bytes.{Bytes}
 use Rattle.quantity.specs.Written.{for_some}
 use Rattle.text_forms.specs.Frames.{Picture}
@@ -23,7 +24,8 @@ pub record AskedDrawing : Type 0 where
 -- a space with cells, and not too many
 abbrev pub space_if : Space → Option Space
 space_if s =
-    if nat_lt 0 s.rows && nat_lt 0 s.columns && nat_lt 0 (plane_count s) && nat_le (cell_count s) 1048576 then Some s else None
+    if nat_lt 0 s.rows && nat_lt 0 s.columns && nat_lt 0 (plane_count s)
+    && nat_le (cell_count s) MAX_CELLS then Some s else None
 
 -- two or three numbers that are sizes of a space
 abbrev pub space_of : List Word → Option Space
@@ -31,7 +33,8 @@ space_of (r ∷ c ∷ []) =
     for_some (number 1 9999999 r) (λ r. for_some (number 1 9999999 c) (λ c.
     space_if (record { rows = r; columns = c; planes = None; border = NoWrapped })))
 space_of (r ∷ c ∷ p ∷ []) =
-    for_some (number 1 9999999 r) (λ r. for_some (number 1 9999999 c) (λ c. for_some (number 1 9999999 p) (λ p.
+    for_some (number 1 9999999 r) (λ r.
+    for_some (number 1 9999999 c) (λ c. for_some (number 1 9999999 p) (λ p.
     space_if (record { rows = r; columns = c; planes = Some p; border = NoWrapped }))))
 space_of parts = None
 
@@ -53,7 +56,8 @@ drawing_in rows =
     else None))))))
 
 unfoldable pub asked_drawing : List Word → Option AskedDrawing
-asked_drawing words = if is_taken drawlog_app words then drawing_in (matches_of drawlog_app words) else None
+asked_drawing words =
+    if is_taken drawlog_app words then drawing_in (matches_of drawlog_app words) else None
 
 -- the usage line of drawlog
 abbrev pub drawing_usage : Bytes

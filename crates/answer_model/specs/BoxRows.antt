@@ -4,10 +4,10 @@ use Rattle.quantity.specs.Bytes.{Bytes}
 use Rattle.model_tree.specs.Tree.{Word}
 use Rattle.model_text.specs.Models.{queue_model, with_line}
 use Rattle.text_forms.specs.Rows.{queue_log}
-use Rattle.answer_model.specs.Answer.{Files, Answer}
+use Rattle.answer_model.specs.Answer.{MadeFiles, Answer}
 use Rattle.answer_model.specs.WholeFiles.{to, holding, model, model_and, just_model, log, shows, complains, y}
 
-abbrev pub output : Bytes → Files
+abbrev pub output : Bytes → MadeFiles
 output line = holding (codes "out.txt") (line ∷ []) ∷ []
 
 -- ---- a counter that overflows
@@ -33,7 +33,7 @@ lit event =
     to (codes "cdpp -m m.ma -t 00:00:00:100 -e e -o out.txt")
     (model_and lights (holding (codes "e") (event ∷ [])))
 
-abbrev pub two_lights : Bytes → Files
+abbrev pub two_lights : Bytes → MadeFiles
 two_lights second = holding (codes "out.txt") (codes "00:00:00:030 o 1.00000" ∷ second ∷ []) ∷ []
 
 abbrev pub model_and_events : List Word

@@ -2,7 +2,7 @@
 use Rattle.std.specs.Prelude.{ℕ, Option, Some, None, List, [], ◌++◌}
 use Rattle.std.specs.Option.{option_map}
 use Rattle.quantity.specs.Bytes.{Bytes}
-use Rattle.room_edge.specs.Outside.{Folder}
+use Rattle.room_edge.specs.Outside.{Files}
 use Rattle.atomic_face.specs.declared.class.Class.{Class}
 use Rattle.model_tree.specs.Tree.{Word, Tree, ins_of}
 use Rattle.run_model.specs.Run.{Event, RunState, Run, start, resumed, run_to}
@@ -30,7 +30,7 @@ run_on tree events end limit from = run_to tree end limit (begins tree events fr
 -- ---- the stages
 
 -- over the bytes of the model, from its file or made
-abbrev pub with_source : Source → Folder → (Bytes → List Word → Answer) → Answer
+abbrev pub with_source : Source → Files → (Bytes → List Word → Answer) → Answer
 with_source (file name) files go = with_file files name [] go
 with_source (made size) files go = go (made_text size) []
 
@@ -48,13 +48,13 @@ abbrev pub drawing_of : Option FramesFile → Option Drawing
 drawing_of f = option_map (λ (f : FramesFile). f.drawing) f
 
 -- over the tree of the model that is asked for
-abbrev pub with_model : Asked → Folder → List Class → (Tree → List Word → Answer) → Answer
+abbrev pub with_model : Asked → Files → List Class → (Tree → List Word → Answer) → Answer
 with_model a files classes go =
     with_source a.source files
     (λ bytes inputs. if_model (model_of bytes files classes (drawing_of a.frames)) inputs go)
 
 -- over the events that are asked for; none without a file
-abbrev pub with_events : Asked → Folder → Tree → List Word → (List Event → List Word → Answer)
+abbrev pub with_events : Asked → Files → Tree → List Word → (List Event → List Word → Answer)
     → Answer
 with_events a files tree inputs go =
     elim a.events [
@@ -66,7 +66,7 @@ with_events a files tree inputs go =
     ]
 
 -- over the state that the run goes on from, where one is asked for
-abbrev pub with_state : Asked → Folder → Tree → List Word → (Option Saved → List Word → Answer)
+abbrev pub with_state : Asked → Files → Tree → List Word → (Option Saved → List Word → Answer)
     → Answer
 with_state a files tree inputs go =
     elim a.state [
@@ -83,22 +83,22 @@ answer_from a tree events inputs from =
     answer_of_run a tree events from inputs (run_on tree events a.end a.limit from)
 
 -- once there is a model, and these files were looked for
-abbrev pub answer_with : Asked → Folder → Tree → List Word → Answer
+abbrev pub answer_with : Asked → Files → Tree → List Word → Answer
 answer_with a files tree inputs =
     with_events a files tree inputs
     (λ events inputs.
     with_state a files tree inputs (λ from inputs. answer_from a tree events inputs from))
 
 -- to what is asked for: model, events, state, run, of which the first that ends decides
-abbrev pub answer_to : Asked → Folder → List Class → Answer
+abbrev pub answer_to : Asked → Files → List Class → Answer
 answer_to a files classes =
     with_model a files classes (λ tree inputs. answer_with a files tree inputs)
 
 -- to the words of a command whose options have these letters
-unfoldable pub answer_by : List ℕ → List Word → Folder → List Class → Answer
+unfoldable pub answer_by : List ℕ → List Word → Files → List Class → Answer
 answer_by has words files classes =
     if_asked (usage_of has) (asked_by has words) (λ a. answer_to a files classes)
 
 -- the answer of the program, with the options that it has by now
-abbrev pub answer : List Word → Folder → List Class → Answer
+abbrev pub answer : List Word → Files → List Class → Answer
 answer words files classes = answer_by built_letters words files classes

@@ -1,7 +1,8 @@
 -- What the drawing program answers to words and files.
 use Rattle.std.specs.Prelude.{ℕ, nat_lt, List, [], ◌++◌, length, if◌then◌else◌, codes, decimal, Ok, Err}
+use Rattle.quantity.specs.declared.bounds.TheConstants.{MAX_LOG_BYTES}
 use Rattle.quantity.specs.Bytes.{Bytes}
-use Rattle.room_edge.specs.Outside.{Folder}
+use Rattle.room_edge.specs.Outside.{Files}
 use Rattle.model_tree.specs.Tree.{Word}
 use Rattle.text_forms.specs.Frames.{drawn}
 use Rattle.answer_model.specs.AskedDrawing.{AskedDrawing, asked_drawing, drawing_usage}
@@ -12,13 +13,13 @@ log_refused line = codes "log refused: line " ++ decimal line
 
 abbrev pub drawn_answer : AskedDrawing → Bytes → List Word → Answer
 drawn_answer a log inputs =
-    if nat_lt 268435456 (length log) then only_complains 13 (log_refused 0) inputs
+    if nat_lt MAX_LOG_BYTES (length log) then only_complains 13 (log_refused 0) inputs
     else
     elim (drawn a.picture a.group log) [
       | Err line ↦ only_complains 13 (log_refused line) inputs
       | Ok frames ↦ only_shows frames inputs
     ]
 
-unfoldable pub drawing_answer : List Word → Folder → Answer
+unfoldable pub drawing_answer : List Word → Files → Answer
 drawing_answer words files =
     if_asked drawing_usage (asked_drawing words) (λ a. with_file files a.log [] (drawn_answer a))

@@ -4,7 +4,7 @@ use Rattle.quantity.specs.Bytes.{Bytes}
 use Rattle.model_tree.specs.Tree.{Word}
 use Rattle.room_edge.specs.Faults.{ReadFaultCounted, WriteFaultCounted, ComplaintFaultCounted, KeepsReadFaults, KeepsWriteFaults, KeepsComplaintFaults}
 use Rattle.room_edge.specs.Outside.{Outside}
-use Rattle.answer_model.specs.Answer.{Files, Answer, read_fault_line, write_fault_line}
+use Rattle.answer_model.specs.Answer.{MadeFiles, Answer, read_fault_line, write_fault_line}
 use Rattle.answer_model.specs.Headline.{Begins, Writes}
 use Rattle.answer_model.specs.Outcome.{Did, HasMore, FallsShort, IsBegun, IsLast, Lacks, Outcome}
 use Rattle.answer_model.specs.Steps.{is_made, did_nothing, and_tried, and_created, and_appended, and_showed, Tried, Created, Appended, Showed, Complained}
@@ -43,7 +43,7 @@ pub record IsOnWay (a : Answer) (did : Did) (old now : Outside) : Type 0 where
   pub complaints : KeepsComplaintFaults old now
 
 -- these names were looked for, and these files were made; nothing was shown or complained
-abbrev pub made_after : List Word → Files → Did
+abbrev pub made_after : List Word → MadeFiles → Did
 made_after inputs files = record { tried = inputs; made = files; shown = []; complained = [] }
 
 -- these names were looked for, and nothing else was done

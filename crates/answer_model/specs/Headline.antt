@@ -1,16 +1,16 @@
 -- What a call of a program changes outside, beside its answer.
 use Rattle.std.specs.Prelude.{◌≡◌, ℕ, Bool, ◌||◌, ◌==◌, Option, List, [], ◌∷◌, ◌++◌, ⊤}
-use Rattle.room_edge.specs.Outside.{Folder, Outside, puts, streams}
+use Rattle.room_edge.specs.Outside.{Files, Outside, puts, streams}
 use Rattle.quantity.specs.Bytes.{Bytes}
 use Rattle.model_tree.specs.Tree.{Word}
-use Rattle.answer_model.specs.Answer.{Files, names, Answer}
+use Rattle.answer_model.specs.Answer.{MadeFiles, names, Answer}
 
 -- the statuses that a fault or want of memory may give in the place of the answer's
 abbrev pub is_free : ℕ → Bool
 is_free status = (status == 4) || ((status == 5) || (status == 12))
 
 -- the made files, with these in their order: of two with one name the last counts
-abbrev pub puts_all : Option Folder → Files → Option Folder
+abbrev pub puts_all : Option Files → MadeFiles → Option Files
 puts_all made [] = made
 puts_all made (file ∷ files) = puts_all (puts made file.0 file.1) files
 
@@ -19,7 +19,7 @@ abbrev pub Begins : {A : Type 0} → List A → List A → Type 0
 Begins {A} part whole = (rest : List A) × (whole ≡ part ++ rest)
 
 -- the first files, each with its first bytes
-abbrev pub BeginFiles : Files → Files → Type 0
+abbrev pub BeginFiles : MadeFiles → MadeFiles → Type 0
 BeginFiles [] files = ⊤
 BeginFiles (part ∷ parts) [] = ⊥
 BeginFiles (part ∷ parts) (file ∷ files) =
@@ -35,7 +35,7 @@ pub record Writes (a : Answer) (old new : Outside) (given : ℕ) : Type 0 where
 
 -- what was made and shown is a beginning of the answer's
 pub record WritesPart (a : Answer) (old new : Outside) : Type 0 where
-  pub files : (parts : Files) × BeginFiles parts a.made × (new.made ≡ puts_all old.made parts)
+  pub files : (parts : MadeFiles) × BeginFiles parts a.made × (new.made ≡ puts_all old.made parts)
       × (new.created ≡ old.created ++ names parts)
   pub shown : (part : Bytes) × Begins part a.shown × (new.shown ≡ streams old.shown part)
 

@@ -7,13 +7,13 @@ use Rattle.model_tree.specs.Tree.{Word}
 use Rattle.quantity.specs.Bytes.{Bytes}
 use Rattle.room_edge.specs.Faults.{Rose}
 use Rattle.room_edge.specs.Outside.{Outside, streams}
-use Rattle.answer_model.specs.Answer.{Files, names, Answer, read_fault_line, write_fault_line}
+use Rattle.answer_model.specs.Answer.{MadeFiles, names, Answer, read_fault_line, write_fault_line}
 use Rattle.answer_model.specs.Headline.{is_free, puts_all, Begins, BeginFiles, Writes, WritesPart, TriesPart, WritesNothing}
 
 -- what a call did so far
 pub record Did : Type 0 where
   pub tried : List Word
-  pub made : Files
+  pub made : MadeFiles
   pub shown : Bytes
   pub complained : Bytes
 

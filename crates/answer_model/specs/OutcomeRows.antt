@@ -5,7 +5,7 @@ use Rattle.quantity.specs.Bytes.{Bytes}
 use Rattle.room_edge.specs.Outside.{Outside}
 use Rattle.text_forms.specs.Rows.{line_log}
 use Rattle.answer_model.specs.AskedRows.{words}
-use Rattle.answer_model.specs.Answer.{Files, names}
+use Rattle.answer_model.specs.Answer.{MadeFiles, names}
 use Rattle.answer_model.specs.WholeFiles.{folder, boxes, model}
 use Rattle.model_text.specs.Models.{line_model}
 use Rattle.answer_model.specs.Headline.{puts_all}
@@ -28,7 +28,7 @@ before =
       opened = true;
     }
 
-abbrev pub with_log : Files → Bytes → Bytes → Outside
+abbrev pub with_log : MadeFiles → Bytes → Bytes → Outside
 with_log made shown complained =
     record before {
       made = puts_all before.made made;
@@ -39,7 +39,7 @@ with_log made shown complained =
     }
 
 -- the log with so many of its first bytes
-abbrev pub start_of_log : ℕ → Files
+abbrev pub start_of_log : ℕ → MadeFiles
 start_of_log n = (codes "log.txt", take n line_log) ∷ []
 
 -- the log holds so many of its first bytes, and one line says that it lacks some

@@ -3,7 +3,7 @@ use Rattle.std.specs.Prelude.{◌≡◌, List, [], ◌∷◌, ◌++◌, take, co
 use Rattle.quantity.specs.Bytes.{Bytes}
 use Rattle.model_text.specs.Models.{line_model, cell_model, with_line}
 use Rattle.text_forms.specs.Rows.{lines, line_log}
-use Rattle.answer_model.specs.Answer.{Files}
+use Rattle.answer_model.specs.Answer.{MadeFiles}
 use Rattle.answer_model.specs.WholeFiles.{to, model, model_and, just_model, log, shows, complains, y}
 use Rattle.answer_model.specs.CellRows.{left, right, third, solid, solid_values}
 
@@ -14,16 +14,16 @@ abbrev pub of_line : Bytes → Bytes → Bytes → Bytes → List Bytes
 of_line time a b c = y time left a ∷ y time right b ∷ y time third c ∷ []
 
 -- the ring of three cells with this rule alone
-abbrev pub ruled : Bytes → Files
+abbrev pub ruled : Bytes → MadeFiles
 ruled rule = model (take 13 line_model ++ rule ∷ [])
 
 -- the first bytes of the ring's model
-abbrev pub cut_to : Bytes → Files
+abbrev pub cut_to : Bytes → MadeFiles
 cut_to bytes = (codes "m.ma", bytes) ∷ []
 
 -- ---- three cells in a row: its ends change at 10 and at 30, and the middle one counts them
 
-abbrev pub counting : Bytes → Files
+abbrev pub counting : Bytes → MadeFiles
 counting delay =
     model
     (codes "[top]" ∷ codes "components : line" ∷ codes "[line]" ∷ codes "type : cell"
@@ -43,7 +43,7 @@ asks_more = codes "cdpp -m m.ma -t 00:00:00:200 -l log.txt"
 
 -- ---- limits
 
-abbrev pub of_size : Bytes → Files
+abbrev pub of_size : Bytes → MadeFiles
 of_size dim =
     model (with_line 5 (codes "dim : " ++ dim) (cell_model [] (codes "rule : 0 100 { t }" ∷ [])))
 

@@ -13,11 +13,11 @@ use Rattle.text_forms.specs.Frames.{frames_of}
 use Rattle.text_forms.specs.StateText.{text_of_state}
 use Rattle.text_forms.specs.StateOf.{Saved}
 use Rattle.answer_model.specs.Asked.{Asked, FramesFile}
-use Rattle.answer_model.specs.Answer.{Files, Answer}
+use Rattle.answer_model.specs.Answer.{MadeFiles, Answer}
 use Rattle.answer_model.specs.RunEnd.{said}
 
 -- a file where one is asked for
-abbrev pub file_if : Option Word → Bytes → Files
+abbrev pub file_if : Option Word → Bytes → MadeFiles
 file_if None bytes = []
 file_if (Some name) bytes = (name, bytes) ∷ []
 
@@ -27,21 +27,25 @@ file_if (Some name) bytes = (name, bytes) ∷ []
 abbrev pub group_at : Word → List Leaf → Option (ℕ × Group)
 group_at name [] = None
 group_at name (atomic_leaf n class settings ∷ ls) = group_at name ls
-group_at name (cell_leaf g first cell ∷ ls) = if bytes_eq g.name name then Some (first, g) else group_at name ls
+group_at name (cell_leaf g first cell ∷ ls) =
+    if bytes_eq g.name name then Some (first, g) else group_at name ls
 
 -- the value that a leaf gave last at its port out; undefined for a box
 abbrev pub emitted_of : Option LeafState → Value
 emitted_of None = Undefined
 emitted_of (Some (box_state b)) = Undefined
-emitted_of (Some (cell_state c)) = elim (slice_get c.ports 0) [ None ↦ Undefined | Some p ↦ p.emitted ]
+emitted_of (Some (cell_state c)) =
+    elim (slice_get c.ports 0) [ None ↦ Undefined | Some p ↦ p.emitted ]
 
 -- what each cell of a group had emitted before the run
 abbrev pub emitted_before : Option Saved → ℕ × Group → ℕ → Value
 emitted_before None g cell = Undefined
-emitted_before (Some s) g cell = if nat_lt cell (cell_count g.1.space) then emitted_of (slice_get s.states (g.0 + cell)) else Undefined
+emitted_before (Some s) g cell =
+    if nat_lt cell (cell_count g.1.space) then emitted_of (slice_get s.states (g.0 + cell))
+    else Undefined
 
 -- the file of frames, where the model has the group
-abbrev pub frames_file : Tree → Option Saved → List Cycle → FramesFile → Files
+abbrev pub frames_file : Tree → Option Saved → List Cycle → FramesFile → MadeFiles
 frames_file tree from cycles f =
     elim (group_at f.drawing.group (leaves tree)) [
       | None ↦ []
@@ -49,7 +53,7 @@ frames_file tree from cycles f =
     ]
 
 -- the same, where one is asked for
-abbrev pub frames_if : Tree → Option Saved → List Cycle → Option FramesFile → Files
+abbrev pub frames_if : Tree → Option Saved → List Cycle → Option FramesFile → MadeFiles
 frames_if tree from cycles None = []
 frames_if tree from cycles (Some f) = frames_file tree from cycles f
 
@@ -60,9 +64,10 @@ abbrev pub saved_text : Asked → Tree → Run → Bytes
 saved_text a tree r = elim r.verdict [ done ↦ text_of_state tree a.end r.left.leaf_states | _ ↦ [] ]
 
 -- the files that a run makes: log, output, frames, state
-abbrev pub made_files : Asked → Tree → Option Saved → Run → Files
+abbrev pub made_files : Asked → Tree → Option Saved → Run → MadeFiles
 made_files a tree from r =
-    file_if a.log (log_bytes tree a.letters r.cycles) ++ file_if a.out (out_bytes tree r.cycles) ++ frames_if tree from r.cycles a.frames
+    file_if a.log (log_bytes tree a.letters r.cycles) ++ file_if a.out (out_bytes tree r.cycles)
+    ++ frames_if tree from r.cycles a.frames
     ++ file_if a.save (saved_text a tree r)
 
 -- what a run answers, from the start or from a saved state

@@ -4,12 +4,12 @@ use Rattle.quantity.specs.Bytes.{Bytes}
 use Rattle.model_text.specs.Models.{line_model, blinker, queue_model, port_model}
 use Rattle.text_forms.specs.Rows.{lines, line_log, queue_log, two_frames}
 use Rattle.text_forms.specs.SavedRows.{line_saved, saved, fourth}
-use Rattle.answer_model.specs.Answer.{Files, Answer}
+use Rattle.answer_model.specs.Answer.{MadeFiles, Answer}
 use Rattle.answer_model.specs.WholeFiles.{to, to_all, holding, model, model_and, just_model, log, shows, complains, y, x, s}
 use Rattle.answer_model.specs.PortRows.{blinker_log, blinker_frames}
 use Rattle.answer_model.specs.CellRows.{left, right, third, cell, out_of_order, taken_in_order, model_and_events, with_port_rules, two_events, events}
 
-abbrev pub with_state : List Bytes → Bytes → Files
+abbrev pub with_state : List Bytes → Bytes → MadeFiles
 with_state ls bytes = model ls ++ (codes "s.txt", bytes) ∷ []
 
 abbrev pub resumed : Bytes → Bytes → Answer
@@ -28,27 +28,27 @@ later_log =
 
 -- the logs of a run that is saved, as its second file, and of the run on from it, one after the
 -- other
-abbrev pub first_of : Files → Bytes
+abbrev pub first_of : MadeFiles → Bytes
 first_of [] = []
 first_of (f ∷ fs) = f.1
 
-abbrev pub second_of : Files → Bytes
+abbrev pub second_of : MadeFiles → Bytes
 second_of [] = []
 second_of (f ∷ fs) = first_of fs
 
-abbrev pub joined : Files → Bytes → Bytes → Bytes
+abbrev pub joined : MadeFiles → Bytes → Bytes → Bytes
 joined files first next =
     let made = (to_all first files).made
     in first_of made
     ++ first_of (to_all next (files ++ (codes "s.txt", second_of made) ∷ [])).made
 
-abbrev pub whole : Files → Bytes → Bytes
+abbrev pub whole : MadeFiles → Bytes → Bytes
 whole files text = first_of (to text files).made
 
-abbrev pub queue : Files
+abbrev pub queue : MadeFiles
 queue = model queue_model
 
-abbrev pub with_events : Files
+abbrev pub with_events : MadeFiles
 with_events = model port_model ++ out_of_order ∷ []
 
 abbrev pub events_log : Bytes
@@ -72,10 +72,10 @@ three_frames =
     ∷ [])
 
 -- a run that is served from this seed
-abbrev pub served_by : Bytes → Bytes → Files → Answer
+abbrev pub served_by : Bytes → Bytes → MadeFiles → Answer
 served_by seed text files = to_all (text ++ codes " -T " ++ seed) files
 
-abbrev pub three_events : Files
+abbrev pub three_events : MadeFiles
 three_events = model_and with_port_rules (events (two_events ++ codes "00:00:00:120 p 3" ∷ []))
 
 abbrev pub too_late : Answer
@@ -89,7 +89,7 @@ until_late = codes "cdpp -m m.ma -t 00:00:00:200 -e e -l log.txt"
 abbrev pub both_files : Bytes
 both_files = codes "cdpp -m m.ma -t 00:00:00:000 -l log.txt -o out.txt -L YXS"
 
-abbrev pub queue_files : Files
+abbrev pub queue_files : MadeFiles
 queue_files =
     (codes "log.txt", queue_log) ∷ holding (codes "out.txt") (codes "00:00:00:000 o 8.00000" ∷ [])
     ∷ []
@@ -97,7 +97,7 @@ queue_files =
 abbrev pub blinks : Bytes
 blinks = codes "cdpp -m m.ma -t 00:00:00:300 -l log.txt -d f.txt -g Life -w 2"
 
-abbrev pub blinker_files : Files
+abbrev pub blinker_files : MadeFiles
 blinker_files = log blinker_log ++ holding (codes "f.txt") blinker_frames ∷ []
 
 pub record RunsAreServed : Type 0 where

@@ -5,15 +5,15 @@ use Rattle.std.specs.Str.{bytes_eq}
 use Rattle.model_tree.specs.Tree.{Word}
 use Rattle.quantity.specs.Bytes.{Bytes}
 use Rattle.room_edge.specs.Outside.{Outside, OnlyInput, OnlyMade, OnlyShown, OnlyComplained, puts, adds, streams}
-use Rattle.answer_model.specs.Answer.{Files}
+use Rattle.answer_model.specs.Answer.{MadeFiles}
 use Rattle.answer_model.specs.Outcome.{Did, HasMore}
 
 -- a file of this name is among these
-abbrev pub is_made : Word → Files → Bool
+abbrev pub is_made : Word → MadeFiles → Bool
 is_made name files = list_any (λ (f : Word × Bytes). bytes_eq f.0 name) files
 
 -- the last file of this name has these bytes more
-abbrev pub grown : Word → Bytes → Files → Files
+abbrev pub grown : Word → Bytes → MadeFiles → MadeFiles
 grown name bytes [] = []
 grown name bytes (f ∷ fs) =
     if is_made name fs then f ∷ grown name bytes fs

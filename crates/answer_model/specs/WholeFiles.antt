@@ -5,18 +5,18 @@ use Rattle.std.specs.Option.{option_map}
 use Rattle.std.specs.Str.{bytes_eq}
 use Rattle.std.specs.Prelude.{codes}
 use Rattle.quantity.specs.Bytes.{Bytes}
-use Rattle.room_edge.specs.Outside.{Folder}
+use Rattle.room_edge.specs.Outside.{Files}
 use Rattle.atomic_face.specs.declared.class.Class.{Class}
 use Rattle.atomic_face.specs.declared.class.Class.TheVariants.{Queue, Generator, Cpu, Counter, Table}
 use Rattle.model_tree.specs.Tree.{Word}
 use Rattle.text_forms.specs.Rows.{lines}
 use Rattle.answer_model.specs.Asked.{all_letters}
 use Rattle.answer_model.specs.AskedRows.{words}
-use Rattle.answer_model.specs.Answer.{Files, Answer}
+use Rattle.answer_model.specs.Answer.{MadeFiles, Answer}
 use Rattle.answer_model.specs.Cdpp.{answer, answer_by}
 
 -- files by their names
-abbrev pub folder : Files → Folder
+abbrev pub folder : MadeFiles → Files
 folder files =
     λ name. option_map (λ (f : Word × Bytes). f.1)
     (find (λ (f : Word × Bytes). bytes_eq f.0 name) files)
@@ -25,36 +25,36 @@ folder files =
 abbrev pub boxes : List Class
 boxes = Queue ∷ Queue ∷ Generator ∷ Generator ∷ Cpu ∷ Cpu ∷ Counter ∷ Counter ∷ Table ∷ Table ∷ []
 
-abbrev pub to : Bytes → Files → Answer
+abbrev pub to : Bytes → MadeFiles → Answer
 to text files = answer (words text) (folder files) boxes
 
 -- what it answers with all options, also those that are still to come
-abbrev pub to_all : Bytes → Files → Answer
+abbrev pub to_all : Bytes → MadeFiles → Answer
 to_all text files = answer_by all_letters (words text) (folder files) boxes
 
 -- a file of these lines
 abbrev pub holding : Bytes → List Bytes → Word × Bytes
 holding name ls = (name, lines ls)
 
-abbrev pub model : List Bytes → Files
+abbrev pub model : List Bytes → MadeFiles
 model ls = holding (codes "m.ma") ls ∷ []
 
-abbrev pub model_and : List Bytes → Word × Bytes → Files
+abbrev pub model_and : List Bytes → Word × Bytes → MadeFiles
 model_and ls file = holding (codes "m.ma") ls ∷ file ∷ []
 
 abbrev pub just_model : List Word
 just_model = codes "m.ma" ∷ []
 
-abbrev pub log : List Bytes → Files
+abbrev pub log : List Bytes → MadeFiles
 log ls = holding (codes "log.txt") ls ∷ []
 
 -- one line is shown
-abbrev pub shows : Bytes → Files → List Word → Answer
+abbrev pub shows : Bytes → MadeFiles → List Word → Answer
 shows line made inputs =
     record { made = made; shown = lines (line ∷ []); complained = []; status = 0; inputs = inputs }
 
 -- one line is complained
-abbrev pub complains : ℕ → Bytes → Files → List Word → Answer
+abbrev pub complains : ℕ → Bytes → MadeFiles → List Word → Answer
 complains status line made inputs =
     record {
       made = made;

@@ -3,6 +3,7 @@ use Rattle.std.specs.Prelude.{◌≤◌, Option, Some, None, List, [], ◌∷◌
 use Rattle.std.specs.List.{filter_map}
 use Rattle.std.specs.Option.{option_map}
 use Rattle.std.specs.Borrow.{Bor}
+use Rattle.quantity.specs.declared.bounds.TheConstants.{MAX_DELAY}
 use Rattle.model_tree.specs.Tree.{Word}
 use Rattle.answer_model.specs.Asked as A
 use Rattle.answer_model.specs.Asked.{are_letters}
@@ -14,8 +15,8 @@ use Rattle.asked_words.specs.declared.asked.Asked.{Asked}
 use Rattle.asked_words.specs.declared.asked.AskedDrawing.{AskedDrawing}
 
 -- the text of a name, if there is one
-abbrev pub name_of : Option (Bor Word) → Option Word
-name_of name = option_map (λ (n : Bor Word). n.now) name
+abbrev pub text_of_name : Option (Bor Word) → Option Word
+text_of_name name = option_map (λ (n : Bor Word). n.now) name
 
 -- the model's source in code as in the definitions
 abbrev pub source_of : Source → A.Source
@@ -38,9 +39,9 @@ asked_of a =
     record {
       source = source_of a.source;
       end = a.end;
-      events = name_of a.events;
-      log = name_of a.log;
-      out = name_of a.out;
+      events = text_of_name a.events;
+      log = text_of_name a.log;
+      out = text_of_name a.out;
       frames = option_map frames_of a.frames;
       letters = a.letters.now;
       limit = a.limit;
@@ -78,12 +79,12 @@ given_names a b c = filter_map (λ (o : Option Word). o) (a ∷ b ∷ c ∷ [])
 -- the names of the files that are made
 abbrev pub made_names : Asked → List Word
 made_names a =
-    given_names (name_of a.log) (name_of a.out)
+    given_names (text_of_name a.log) (text_of_name a.out)
     (option_map (λ (f : FramesFile). f.name.now) a.frames)
 
 -- the end is a time, letters are those of the log, and no two made files have one name
 pub record IsInBounds (a : Asked) : Type 0 where
-  pub end_is : a.end ≤ 359999999
+  pub end_is : a.end ≤ MAX_DELAY
   pub size : IsOfSize a.source
   pub some : 1 ≤ a.limit
   pub few : a.limit ≤ 1000000

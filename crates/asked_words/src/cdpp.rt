@@ -6,7 +6,7 @@ ghost use Rattle.std.specs.String.{string_bytes};
 ghost use Rattle.clap.specs.Words.{rows_of, found_of};
 ghost use Rattle.answer_model.specs.Asked as A;
 ghost use Rattle.answer_model.specs.Asked.{built_letters};
-ghost use Rattle.asked_words.specs.Shown.{name_of, source_of, frames_of, asked_of, IsOfSize, CanBeShown, IsInBounds, given_names};
+ghost use Rattle.asked_words.specs.Shown.{text_of_name, source_of, frames_of, asked_of, IsOfSize, CanBeShown, IsInBounds, given_names};
 
 use crate::asked::{Asked, FramesFile, Source};
 use crate::command::cdpp_matches;
@@ -18,7 +18,8 @@ use std::alloc::Global;
 
 /// A model's file, or the size of a made one, and not both.
 fn source_in<'a>(model: Option<&'a str>, size: Option<&'a str>) -> Option<Source<'a>>
-    ensures source { option_map source_of result ≡ A.source_in (name_of model.entry) (name_of size.entry) }
+    ensures source { option_map source_of result
+        ≡ A.source_in (text_of_name model.entry) (text_of_name size.entry) }
     ensures size { IfSome result IsOfSize }
 {
     match (model, size) {
@@ -39,9 +40,11 @@ fn frames_in<'a>(
     requires width { looks.width ≤ 20 }
     requires decimals { looks.decimals ≤ 5 }
     ensures frames { IfOk result (λ f. option_map (option_map frames_of) f
-        ≡ A.frames_in (name_of name.entry) (name_of group.entry) looks.width looks.decimals looks.plane) }
+        ≡ A.frames_in (text_of_name name.entry)
+        (text_of_name group.entry) looks.width looks.decimals looks.plane) }
     ensures bounds { IfOk result (λ f. IfSome f (λ f. IfSome f CanBeShown)) }
-    ensures named { IfOk result (λ f. IfSome f (λ f. option_map (λ f. f.name.now) f ≡ name_of name.entry)) }
+    ensures named { IfOk result (λ f. IfSome f
+        (λ f. option_map (λ f. f.name.now) f ≡ text_of_name name.entry)) }
 {
     match (name, group) {
         (None, None) => Ok(Some(None)),
@@ -67,9 +70,12 @@ fn names_differ(
     out: Option<&str>,
     frames: Option<&str>,
 ) -> bool
-    ensures all { result ≡ A.differ_all (filter_map name_of (model.entry ∷ events.entry ∷ log.entry ∷ out.entry ∷ frames.entry ∷ [])) }
+    ensures all { result ≡ A.differ_all
+        (filter_map text_of_name (model.entry ∷ events.entry ∷ log.entry ∷ out.entry ∷ frames.entry
+        ∷ [])) }
     ensures made { IsTrue result → IsTrue (A.differ_all
-        (given_names (name_of log.entry) (name_of out.entry) (name_of frames.entry))) }
+        (given_names (text_of_name log.entry) (text_of_name out.entry)
+        (text_of_name frames.entry))) }
 {
     differ_all(&[model, events, log, out, frames])
 }
@@ -77,7 +83,8 @@ fn names_differ(
 /// What the matches ask for.
 #[tactic(auto, using(crate::proofs::Matched::value_is))]
 fn asked_in<'a>(alloc: Global, matches: &ArgMatches<'a>) -> Result<Option<Asked<'a>>, OutOfMemory>
-    ensures value { IfOk result (λ a. option_map asked_of a ≡ A.asked_in built_letters (rows_of (found_of matches.now))) }
+    ensures value { IfOk result (λ a. option_map asked_of a
+        ≡ A.asked_in built_letters (rows_of (found_of matches.now))) }
     ensures bounds { IfOk result (λ a. IfSome a IsInBounds) }
 {
     let model = matches.get_str("m");
@@ -120,7 +127,8 @@ fn asked_in<'a>(alloc: Global, matches: &ArgMatches<'a>) -> Result<Option<Asked<
 
 /// What the words ask for, of which the first is the program's name; None where they are refused.
 pub fn read_words<'a>(alloc: Global, words: &'a [String]) -> Result<Option<Asked<'a>>, OutOfMemory>
-    ensures value { IfOk result (λ a. option_map asked_of a ≡ A.asked (map string_bytes words.entry.now)) }
+    ensures value { IfOk result (λ a. option_map asked_of a
+        ≡ A.asked (map string_bytes words.entry.now)) }
     ensures bounds { IfOk result (λ a. IfSome a IsInBounds) }
 {
     let Some(matches) = cdpp_matches(alloc, words)? else {

@@ -17,7 +17,9 @@ fn with_option<'a>(
     id: &'a str,
     letter: char,
 ) -> Result<Command<'a>, AllocError>
-    ensures { IfOk result (λ c. app_of c ≡ with_rule (app_of command.entry) (record (new_rule id.entry.now) { short = Some letter })) }
+    ensures { IfOk result (λ c. app_of c
+        ≡ with_rule (app_of command.entry)
+        (record (new_rule id.entry.now) { short = Some letter })) }
 {
     command.arg(Arg::new(alloc, id).short(letter))
 }
@@ -58,8 +60,10 @@ pub(crate) fn cdpp_matches<'a>(
     alloc: Global,
     words: &'a [String],
 ) -> Result<Option<ArgMatches<'a>>, OutOfMemory>
-    ensures taken { IfOk result (λ m. is_some m ≡ is_taken cdpp_app (map string_bytes words.entry.now)) }
-    ensures rows { IfOk result (λ m. IfSome m (λ m. rows_of (found_of m) ≡ matches_of cdpp_app (map string_bytes words.entry.now))) }
+    ensures taken { IfOk result (λ m. is_some m
+        ≡ is_taken cdpp_app (map string_bytes words.entry.now)) }
+    ensures rows { IfOk result (λ m. IfSome m
+        (λ m. rows_of (found_of m) ≡ matches_of cdpp_app (map string_bytes words.entry.now))) }
 {
     let command = cdpp_command(alloc)?;
     match command.try_get_matches_from(words) {
@@ -76,8 +80,10 @@ pub(crate) fn drawlog_matches<'a>(
     alloc: Global,
     words: &'a [String],
 ) -> Result<Option<ArgMatches<'a>>, OutOfMemory>
-    ensures taken { IfOk result (λ m. is_some m ≡ is_taken drawlog_app (map string_bytes words.entry.now)) }
-    ensures rows { IfOk result (λ m. IfSome m (λ m. rows_of (found_of m) ≡ matches_of drawlog_app (map string_bytes words.entry.now))) }
+    ensures taken { IfOk result (λ m. is_some m
+        ≡ is_taken drawlog_app (map string_bytes words.entry.now)) }
+    ensures rows { IfOk result (λ m. IfSome m
+        (λ m. rows_of (found_of m) ≡ matches_of drawlog_app (map string_bytes words.entry.now))) }
 {
     let command = drawlog_command(alloc)?;
     match command.try_get_matches_from(words) {

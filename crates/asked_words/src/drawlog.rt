@@ -20,7 +20,8 @@ use std::alloc::{AllocError, Global};
 
 /// The pieces of a text between its commas.
 fn pieces<'a>(alloc: Global, text: &'a str) -> Result<Vec<&'a str>, AllocError>
-    ensures { IfOk result (λ parts. map (λ p. p.now) parts.items ≡ slice_split (λ c. c == 44) text.now) }
+    ensures { IfOk result (λ parts. map (λ p. p.now) parts.items
+        ≡ slice_split (λ c. c == 44) text.now) }
 {
     text.split(',').collect(alloc)
 }
@@ -29,7 +30,8 @@ fn pieces<'a>(alloc: Global, text: &'a str) -> Result<Vec<&'a str>, AllocError>
 fn space_if(rows: u32, columns: u32, planes: Option<u32>) -> Option<Grid>
     requires rows { 0 < rows }
     requires columns { 0 < columns }
-    ensures { result ≡ D.space_if (record { rows = rows; columns = columns; planes = planes; border = NoWrapped }) }
+    ensures { result ≡ D.space_if
+        (record { rows = rows; columns = columns; planes = planes; border = NoWrapped }) }
 {
     Grid::new(rows, columns, planes, Border::NoWrapped)
 }
@@ -66,7 +68,8 @@ fn space_in(alloc: Global, text: &str) -> Result<Option<Grid>, OutOfMemory>
 fn drawn_so<'a>(log: &'a str, group: Name, space: Grid, looks: &Looks) -> Option<AskedDrawing<'a>>
     requires width { looks.now.width ≤ 255 }
     requires decimals { looks.now.decimals ≤ 255 }
-    ensures { option_map drawing_of result ≡ drawing_with log.entry.now group space (looks_of looks.now) }
+    ensures { option_map drawing_of result
+        ≡ drawing_with log.entry.now group space (looks_of looks.now) }
 {
     if looks.plane < space.planes() {
         Some(AskedDrawing {
@@ -88,7 +91,8 @@ fn drawing_in<'a>(
     alloc: Global,
     matches: &ArgMatches<'a>,
 ) -> Result<Option<AskedDrawing<'a>>, OutOfMemory>
-    ensures { IfOk result (λ a. option_map drawing_of a ≡ D.drawing_in (rows_of (found_of matches.now))) }
+    ensures { IfOk result (λ a. option_map drawing_of a
+        ≡ D.drawing_in (rows_of (found_of matches.now))) }
 {
     let Some(log) = matches.get_str("l") else {
         return Ok(None);
@@ -116,7 +120,8 @@ pub fn read_drawing_words<'a>(
     alloc: Global,
     words: &'a [String],
 ) -> Result<Option<AskedDrawing<'a>>, OutOfMemory>
-    ensures { IfOk result (λ a. option_map drawing_of a ≡ D.asked_drawing (map string_bytes words.entry.now)) }
+    ensures { IfOk result (λ a. option_map drawing_of a
+        ≡ D.asked_drawing (map string_bytes words.entry.now)) }
 {
     let Some(matches) = drawlog_matches(alloc, words)? else {
         return Ok(None);

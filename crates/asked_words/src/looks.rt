@@ -15,7 +15,8 @@ pub(crate) struct Looks {
     pub plane: u32,
 }
 
-/// How frames are to look: 3 places for a cell, no decimals, and plane 0 where nothing else is asked.
+/// How frames are to look: 3 places for a cell, no decimals, and plane 0 where nothing else is
+/// asked.
 #[tactic(auto, using(crate::proofs::Matched::value_is))]
 pub(crate) fn looks_in(matches: &ArgMatches<'_>) -> Option<Looks>
     ensures value { option_map looks_of result ≡ looks_asked (rows_of (found_of matches.now)) }

@@ -2,11 +2,13 @@
 ghost use Rattle.std.specs.Prelude.{◌≡◌, ◌≤◌, ◌++◌, ◌∷◌, [], IfOk, IfSome, IsTrue, map, codes};
 ghost use Rattle.std.specs.Str.{bytes_eq};
 ghost use Rattle.std.specs.List.{list_any, filter_map};
+ghost use Rattle.quantity.specs.declared.bounds.TheConstants.{MAX_DELAY};
 ghost use Rattle.quantity.specs.Times.{time_in};
-ghost use Rattle.answer_model.specs.Asked.{lower, group_in, is_among, all_differ, are_letters};
+ghost use Rattle.rule_tree.specs.Scope.{differ};
+ghost use Rattle.answer_model.specs.Asked.{lower, group_in, is_among, are_letters};
 ghost use Rattle.answer_model.specs.Asked.{letters_in, number, or_else, needed, differ_all};
 ghost use Rattle.text_forms.specs.Letters.{letter_bytes};
-ghost use Rattle.asked_words.specs.Shown.{name_of};
+ghost use Rattle.asked_words.specs.Shown.{text_of_name};
 
 use quantity::digits::whole_number;
 use quantity::{Name, NameRefusal, OutOfMemory, Time};
@@ -29,7 +31,7 @@ pub(crate) fn number_or(default: u32, low: u32, high: u32, text: Option<&str>) -
     requires high { high ≤ 9999999 }
     requires default { default ≤ high }
     requires low { low ≤ default }
-    ensures value { result ≡ or_else default (number low high) (name_of text.entry) }
+    ensures value { result ≡ or_else default (number low high) (text_of_name text.entry) }
     ensures least { IfSome result (λ n. low ≤ n) }
     ensures most { IfSome result (λ n. n ≤ high) }
 {
@@ -41,8 +43,8 @@ pub(crate) fn number_or(default: u32, low: u32, high: u32, text: Option<&str>) -
 
 /// The last instant of a run, as it is written.
 pub(crate) fn end_in(text: Option<&str>) -> Option<Time>
-    ensures value { result ≡ needed time_in (name_of text.entry) }
-    ensures bounded { IfSome result (λ t. t ≤ 359999999) }
+    ensures value { result ≡ needed time_in (text_of_name text.entry) }
+    ensures bounded { IfSome result (λ t. t ≤ MAX_DELAY) }
 {
     Time::parse(text?.as_bytes())
 }
@@ -60,7 +62,7 @@ fn is_among(c: u8, cs: &[u8]) -> bool
 }
 
 fn all_differ(cs: &[u8]) -> bool
-    ensures { result ≡ all_differ cs.now }
+    ensures { result ≡ differ cs.now }
 {
     match cs {
         [] => true,
@@ -76,7 +78,7 @@ fn are_letters(cs: &[u8]) -> bool
 
 /// Different letters of the log's lines, at least one; Y where none are given.
 pub(crate) fn letters_or_y<'a>(text: Option<&'a str>) -> Option<&'a str>
-    ensures value { name_of result ≡ or_else (codes "Y") letters_in (name_of text.entry) }
+    ensures value { text_of_name result ≡ or_else (codes "Y") letters_in (text_of_name text.entry) }
     ensures letters { IfSome result (λ t. IsTrue (are_letters t.now)) }
 {
     let Some(text) = text else {
@@ -121,7 +123,7 @@ pub(crate) fn group_in(alloc: Global, text: &str) -> Result<Option<Name>, OutOfM
 }
 
 fn is_named_among(name: &str, others: &[Option<&str>]) -> bool
-    ensures { result ≡ list_any (bytes_eq name.now) (filter_map name_of others.now) }
+    ensures { result ≡ list_any (bytes_eq name.now) (filter_map text_of_name others.now) }
 {
     match others {
         [] => false,
@@ -132,7 +134,7 @@ fn is_named_among(name: &str, others: &[Option<&str>]) -> bool
 
 /// Whether the names that are given differ.
 pub(crate) fn differ_all(names: &[Option<&str>]) -> bool
-    ensures { result ≡ differ_all (filter_map name_of names.now) }
+    ensures { result ≡ differ_all (filter_map text_of_name names.now) }
 {
     match names {
         [] => true,

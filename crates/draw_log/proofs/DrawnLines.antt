@@ -8,7 +8,7 @@ use Rattle.quantity.specs.Bytes.{Bytes, is_byte}
 use Rattle.quantity.specs.declared.value.Value.TheVariants.{Undefined}
 use Rattle.cell_grid.specs.Space.{cell_count}
 use Rattle.model_tree.specs.Tree.{Word}
-use Rattle.text_forms.specs.Frames.{Picture, Shown, and_shown, only_end, lines_from, drawn_lines, drawn, frames}
+use Rattle.text_forms.specs.Frames.{Picture, ShownCell, and_shown, only_end, lines_from, drawn_lines, drawn, frames}
 use Rattle.frame_draw.specs.Drawing.{frame_of}
 use Rattle.frame_draw.specs.Turns.{drawn_in_turn, text_before, with_shown, DrawsAllFrames}
 use Rattle.draw_log.specs.Seen.{Seen, seen}
@@ -46,15 +46,15 @@ some_part (c ∷ cs) = by (some_part cs) (is_end c)
 
 -- ---- what is shown is taken
 
-taken_all : (d : SoFar) (here more : List Shown) → d.text ++ drawn_in_turn d.drawing (here ++ more) ≡ (with_all here d).text ++ drawn_in_turn (with_all here d).drawing more
+taken_all : (d : SoFar) (here more : List ShownCell) → d.text ++ drawn_in_turn d.drawing (here ++ more) ≡ (with_all here d).text ++ drawn_in_turn (with_all here d).drawing more
 taken_all d [] more = refl
 taken_all d (s ∷ ss) more = sym (append_assoc d.text (text_before s.time d.drawing) (drawn_in_turn (with_shown s d.drawing) (ss ++ more))) ∙ taken_all (with_taken s d) ss more
 
-text_taken : (line : ℕ) (d : SoFar) (here : List Shown) (r : Result (List Shown) ℕ) → text_with d (and_shown line (Some here) r) ≡ text_with (with_all here d) r
+text_taken : (line : ℕ) (d : SoFar) (here : List ShownCell) (r : Result (List ShownCell) ℕ) → text_with d (and_shown line (Some here) r) ≡ text_with (with_all here d) r
 text_taken line d here (Err n) = refl
 text_taken line d here (Ok more) = ap (λ (text : Bytes). Ok text) (taken_all d here more)
 
-pub picture_kept : (here : List Shown) (d : SoFar) → (with_all here d).drawing.picture ≡ d.drawing.picture
+pub picture_kept : (here : List ShownCell) (d : SoFar) → (with_all here d).drawing.picture ≡ d.drawing.picture
 picture_kept [] d = refl
 picture_kept (s ∷ ss) d = picture_kept ss (with_taken s d)
 
@@ -104,7 +104,7 @@ none_known (suc n) (suc cell) = none_known n cell
 pub drawn_whole : DrawsAllFrames → (p : Picture) (group : Word) (log : Bytes) → drawn_from group 1 0 (nothing_drawn p) (slice_split is_end log) ≡ drawn p group log
 drawn_whole all p group log = by (lines_from p.space group 1 0 (slice_split is_end log)) (shown_from p.space group 1 0 (slice_split is_end log))
   where
-    by : (r : Result (List Shown) ℕ) → ((shown : List Shown) → r ≡ Ok shown → IsShownFrom p.space 0 shown) → text_with (nothing_drawn p) r ≡ drawn_lines p r
+    by : (r : Result (List ShownCell) ℕ) → ((shown : List ShownCell) → r ≡ Ok shown → IsShownFrom p.space 0 shown) → text_with (nothing_drawn p) r ≡ drawn_lines p r
     by (Err line) from = refl
     by (Ok shown) from =
         let is = from shown refl in
@@ -112,5 +112,5 @@ drawn_whole all p group log = by (lines_from p.space group 1 0 (slice_split is_e
         let values = replicate n Undefined in
         let size = length-replicate n Undefined in
         ap (λ (text : Bytes). Ok text)
-        (all p values shown size (subst (λ (k : ℕ). AllByRecursion (λ (x : Shown). x.cell < k) shown) (sym size) is.inside) is.never_fall
+        (all p values shown size (subst (λ (k : ℕ). AllByRecursion (λ (x : ShownCell). x.cell < k) shown) (sym size) is.inside) is.never_fall
         ∙ (λ i. frames p (λ cell. none_known n cell i) shown))

@@ -13,7 +13,8 @@ IsDrawn drawing (Ok text) = drawing ≡ Ok text.items
 IsDrawn drawing (Err (LogRefused line)) = drawing ≡ Err line
 IsDrawn drawing (Err Memory) = ⊤
 
--- all is read, and the frame of the last instant is what is left to draw; or the line that is refused
+-- all is read, and the frame of the last instant is what is left to draw; or the line that is
+-- refused
 abbrev pub IsReadTo : {T : Type 0} → Result Bytes ℕ → SoFar → Result T DrawRefusal → Type 0
 IsReadTo drawing d (Ok _) = drawing ≡ Ok (d.text ++ frame_of d.drawing)
 IsReadTo drawing d (Err (LogRefused line)) = drawing ≡ Err line

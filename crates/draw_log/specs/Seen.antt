@@ -7,23 +7,23 @@ use Rattle.quantity.specs.declared.value.Value.{Value}
 use Rattle.cell_grid.specs.Space.{Space}
 use Rattle.model_tree.specs.Tree.{Word}
 use Rattle.text_forms.specs.LogLine.{LeafName, LogLine, read_line}
-use Rattle.text_forms.specs.Frames.{Shown, cell_of, line_time, not_before, shown_at, shown_of}
+use Rattle.text_forms.specs.Frames.{ShownCell, cell_of, line_time, not_before, shown_at, shown_of}
 use Rattle.draw_log.specs.declared.line.CellValue.{CellValue}
 use Rattle.draw_log.specs.declared.line.SeenLine.{SeenLine}
 
 -- a line that is not refused: its time, and what it shows
 pub record Seen : Type 0 where
   pub time : ℕ
-  pub shown : List Shown
+  pub shown : List ShownCell
 
 -- values that are seen at a time
-abbrev pub seen_at : ℕ → List Shown → Seen
+abbrev pub seen_at : ℕ → List ShownCell → Seen
 seen_at time shown = record { time = time; shown = shown }
 
 -- ---- of values of the program
 
 -- what a cell gave at an instant, if one did
-abbrev pub listed : ℕ → Option CellValue → List Shown
+abbrev pub listed : ℕ → Option CellValue → List ShownCell
 listed time None = []
 listed time (Some g) = record { time = time; cell = g.cell; value = g.value } ∷ []
 
@@ -34,8 +34,9 @@ seen_as l = seen_at l.time (listed l.time l.given)
 -- ---- of texts
 
 -- what a leaf shows that gave this value at its port `out`
-abbrev pub shows : Space → Word → ℕ → LeafName → Value → Option (List Shown)
-shows s group time leaf v = if bytes_eq leaf.name group then shown_at time v (cell_of s leaf.at) else Some []
+abbrev pub shows : Space → Word → ℕ → LeafName → Value → Option (List ShownCell)
+shows s group time leaf v =
+    if bytes_eq leaf.name group then shown_at time v (cell_of s leaf.at) else Some []
 
 -- what a line shows of a group
 abbrev pub seen_line : Space → Word → Option LogLine → Option Seen

@@ -15,10 +15,10 @@ use quantity::{Name, Time};
 use source_text::cut::part_before;
 use std::alloc::Global;
 
-/// The frames of a plane of a group of this name and space, drawn from a log: each value in `width` places,
-/// 1 to 20, with at most 5 decimals. LogRefused is the first line that is off the form of a log's lines, is
-/// before the time of the line above it, or gives a value of the group at coordinates of no cell of the
-/// space, and the last one where it has no line end.
+/// The frames of a plane of a group of this name and space, drawn from a log: each value in `width`
+/// places, 1 to 20, with at most 5 decimals. LogRefused is the first line that is off the form of a
+/// log's lines, is before the time of the line above it, or gives a value of the group at
+/// coordinates of no cell of the space, and the last one where it has no line end.
 pub fn draw_log(
     alloc: Global,
     log: &[u8],
@@ -52,7 +52,8 @@ fn take_lines(
 ) -> Result<(), DrawRefusal>
     requires space { frames.old.drawing.picture.space ≡ grid.now }
     requires short { length log.now < 2 ^ 32 }
-    ensures { IsReadTo (drawn_from group.now 1 0 frames.old (slice_split (λ c. c == 10) log.now)) frames.new result }
+    ensures { IsReadTo (drawn_from group.now 1 0 frames.old
+        (slice_split (λ c. c == 10) log.now)) frames.new result }
 {
     let mut before = first_time();
     let mut lines = 0;

@@ -13,8 +13,8 @@ use quantity::{OutOfMemory, Time};
 use std::alloc::Global;
 use std::marker::Model;
 
-/// The text of the frames that are drawn, and what is shown behind them. It is seen as that text and the
-/// frames that are being drawn.
+/// The text of the frames that are drawn, and what is shown behind them. It is seen as that text
+/// and the frames that are being drawn.
 #[derive(Drop)]
 pub(crate) struct LogFrames {
     text: Vec<u8>,

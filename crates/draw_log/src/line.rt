@@ -4,13 +4,13 @@ ghost use Rattle.std.specs.Option.{option_map};
 ghost use Rattle.rule_tree.specs.Meaning.{coordinates};
 ghost use Rattle.cell_grid.specs.Space.{cell_count};
 ghost use Rattle.text_forms.specs.Frames as frames;
-ghost use Rattle.record_text.specs.LeafRead.{name_of};
-ghost use Rattle.record_text.specs.LineRead.{line_of};
+ghost use Rattle.line_read.specs.LeafRead.{named_leaf};
+ghost use Rattle.line_read.specs.LineRead.{line_of};
 ghost use Rattle.draw_log.specs.Seen.{listed, seen, seen_as, seen_line, shows};
 
 use cell_grid::Grid;
+use line_read::{LeafName, LogLine, read_line};
 use quantity::{Name, Place, Time, Value};
-use record_text::{LeafName, LogLine, read_line};
 
 /// A cell of the group, and the value that it gave.
 #[derive(Clone, Copy)]
@@ -26,9 +26,9 @@ pub(crate) struct SeenLine {
     pub(crate) given: Option<CellValue>,
 }
 
-/// What a line shows of a group of this name and space. None where the line is refused: it is off the form
-/// of a log's lines, it is before the time of the line above it, or it is a Y line of the group with
-/// coordinates of no cell of the space.
+/// What a line shows of a group of this name and space. None where the line is refused: it is off
+/// the form of a log's lines, it is before the time of the line above it, or it is a Y line of the
+/// group with coordinates of no cell of the space.
 pub(crate) fn see_line(text: &[u8], before: Time, grid: &Grid, group: &Name) -> Option<SeenLine>
     ensures value { option_map seen_as result ≡ seen grid.now group.now before text.now }
     ensures inside { IfSome result (λ line. IfSome line.given (λ g. g.cell < cell_count grid.now)) }
@@ -68,7 +68,8 @@ fn time_of(line: &LogLine<'_>) -> Time
 /// What a cell of the group gave in a line, if one did; None where the line is refused.
 fn given_in(line: &LogLine<'_>, grid: &Grid, group: &Name) -> Option<Option<CellValue>>
     ensures value { let line = line_of line.now in
-        option_map (listed (frames.line_time line)) result ≡ frames.shown_of grid.now group.now line }
+        option_map (listed (frames.line_time line)) result
+        ≡ frames.shown_of grid.now group.now line }
     ensures inside { IfSome result (λ given. IfSome given (λ g. g.cell < cell_count grid.now)) }
 {
     match line {
@@ -84,7 +85,8 @@ fn given_by(
     grid: &Grid,
     group: &Name,
 ) -> Option<Option<CellValue>>
-    ensures value { (time : ℕ) → let shown = shows grid.now group.now time (name_of leaf.now) value in
+    ensures value { (time : ℕ) → let shown = shows grid.now group.now time
+        (named_leaf leaf.now) value in
         option_map (listed time) result ≡ shown }
     ensures inside { IfSome result (λ given. IfSome given (λ g. g.cell < cell_count grid.now)) }
 {
@@ -97,7 +99,7 @@ fn given_by(
 
 /// The cell of a leaf, where there are as many coordinates as the space has, and they lie in it.
 fn cell_of(leaf: &LeafName<'_>, grid: &Grid) -> Option<u32>
-    ensures value { result ≡ frames.cell_of grid.now (name_of leaf.now).at }
+    ensures value { result ≡ frames.cell_of grid.now (named_leaf leaf.now).at }
     ensures inside { IfSome result (λ cell. cell < cell_count grid.now) }
 {
     match leaf.dims {

@@ -5,7 +5,7 @@ use Rattle.std.specs.List.{AllByRecursion, filter, filter_map, flat_map, last_or
 use Rattle.std.proofs.lemmas.Bool.Decides.{nat_tests}
 use Rattle.quantity.specs.declared.value.Value.{Value}
 use Rattle.quantity.specs.declared.value.Value.TheVariants.{Undefined}
-use Rattle.text_forms.specs.Frames.{Picture, Shown, instants, value_until, value_at, frames, frame_text}
+use Rattle.text_forms.specs.Frames.{Picture, ShownCell, instants, value_until, value_at, frames, frame_text}
 use Rattle.frame_draw.specs.Drawing.{value_of}
 use Rattle.frame_draw.specs.Instants.{values_after, IsShownAt, OneFrame}
 
@@ -17,7 +17,7 @@ last_from x (y ∷ ys) d = some_last y ys d x
     some_last y [] d e = refl
     some_last y (z ∷ zs) d e = some_last z zs d e
 
-kept_size : (values : List Value) (cell n t : ℕ) (v : Value) (ss : List Shown) → AllByRecursion (IsShownAt (length values) t) ss → AllByRecursion (IsShownAt (length (set values cell v)) t) ss
+kept_size : (values : List Value) (cell n t : ℕ) (v : Value) (ss : List ShownCell) → AllByRecursion (IsShownAt (length values) t) ss → AllByRecursion (IsShownAt (length (set values cell v)) t) ss
 kept_size values cell n t v ss h = subst (λ (k : ℕ). AllByRecursion (IsShownAt k t) ss) (sym (length-set values cell v)) h
 
 same_cell : (a b : ℕ) → (a == b) ≡ true → a ≡ b
@@ -29,7 +29,7 @@ other_cell a b e f = grind (arith, nat_tests)
 no_later : (s t : ℕ) → s ≡ t → nat_le s t ≡ true
 no_later s t e = grind (arith, nat_tests)
 
-shown_value : (values : List Value) (t cell : ℕ) (s : Shown) → IsShownAt (length values) t s → (more : List Value) (b : Bool) → (s.cell == cell) ≡ b → unwrap_or (last_or None (cons_option (value_until t cell s) more)) (value_of values cell) ≡ unwrap_or (last_or None more) (value_of (set values s.cell s.value) cell)
+shown_value : (values : List Value) (t cell : ℕ) (s : ShownCell) → IsShownAt (length values) t s → (more : List Value) (b : Bool) → (s.cell == cell) ≡ b → unwrap_or (last_or None (cons_option (value_until t cell s) more)) (value_of values cell) ≡ unwrap_or (last_or None more) (value_of (set values s.cell s.value) cell)
 shown_value values t cell s h more true e =
     let here = ap (λ b. b && (s.cell == cell)) (no_later s.time t h.0) ∙ e in
     let lt = h.1 in
@@ -41,7 +41,7 @@ shown_value values t cell s h more false e =
     ap (λ b. unwrap_or (last_or None (cons_option (cond b (Some s.value) None) more)) (value_of values cell)) here
     ∙ ap (unwrap_or (last_or None more)) (sym (get_or-set_other values s.cell cell s.value Undefined (other_cell s.cell cell e)))
 
-values_are : (values : List Value) (t cell : ℕ) (ss : List Shown) → AllByRecursion (IsShownAt (length values) t) ss → value_at (value_of values) ss t cell ≡ value_of (values_after values ss) cell
+values_are : (values : List Value) (t cell : ℕ) (ss : List ShownCell) → AllByRecursion (IsShownAt (length values) t) ss → value_at (value_of values) ss t cell ≡ value_of (values_after values ss) cell
 values_are values t cell [] h = refl
 values_are values t cell (s ∷ ss) h =
     shown_value values t cell s h.0 (filter_map (value_until t cell) ss) (s.cell == cell) refl
@@ -62,15 +62,15 @@ fewer t q (u ∷ us) h = by (fewer t q us h.1) (q u)
     by more true = (h.0, more)
     by more false = more
 
-all_at : (n t : ℕ) (ss : List Shown) → AllByRecursion (IsShownAt n t) ss → AllByRecursion (λ u. u ≡ t) (instants ss)
+all_at : (n t : ℕ) (ss : List ShownCell) → AllByRecursion (IsShownAt n t) ss → AllByRecursion (λ u. u ≡ t) (instants ss)
 all_at n t [] h = h
 all_at n t (s ∷ ss) h = (h.0.0, fewer t (λ u. not (u == s.time)) (instants ss) (all_at n t ss h.1))
 
-one_instant : (n t : ℕ) (s : Shown) (ss : List Shown) → AllByRecursion (IsShownAt n t) (s ∷ ss) → instants (s ∷ ss) ≡ t ∷ []
+one_instant : (n t : ℕ) (s : ShownCell) (ss : List ShownCell) → AllByRecursion (IsShownAt n t) (s ∷ ss) → instants (s ∷ ss) ≡ t ∷ []
 one_instant n t s ss h =
     ap (λ (u : ℕ). u ∷ filter (λ v. not (v == u)) (instants ss)) h.0.0 ∙ ap (λ (us : List ℕ). t ∷ us) (all_dropped t (instants ss) (all_at n t ss h.1))
 
-one_frame_is : (p : Picture) (values : List Value) (t : ℕ) (s : Shown) (ss : List Shown) → AllByRecursion (IsShownAt (length values) t) (s ∷ ss) → frames p (value_of values) (s ∷ ss) ≡ frame_text p t (value_of (values_after values (s ∷ ss)))
+one_frame_is : (p : Picture) (values : List Value) (t : ℕ) (s : ShownCell) (ss : List ShownCell) → AllByRecursion (IsShownAt (length values) t) (s ∷ ss) → frames p (value_of values) (s ∷ ss) ≡ frame_text p t (value_of (values_after values (s ∷ ss)))
 one_frame_is p values t s ss h =
     ap (flat_map (λ u. frame_text p u (value_at (value_of values) (s ∷ ss) u))) (one_instant (length values) t s ss h)
     ∙ append-nil (frame_text p t (value_at (value_of values) (s ∷ ss) t))

@@ -1,3 +1,4 @@
 pub mod Texts
 pub mod InstantLemmas
 pub mod TurnLemmas
+pub mod Numbers

@@ -25,7 +25,8 @@ blank p = record { picture = p; values = replicate (cell_count p.space) Undefine
 
 -- a cell has another value
 abbrev pub with_value : ℕ → Value → Drawing → Drawing
-with_value cell v d = record { picture = d.picture; values = slice_set d.values cell v; begun = d.begun }
+with_value cell v d =
+    record { picture = d.picture; values = slice_set d.values cell v; begun = d.begun }
 
 -- the instant that was begun
 abbrev pub with_instant : Option ℕ → Drawing → Drawing

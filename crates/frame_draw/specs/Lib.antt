@@ -3,3 +3,4 @@ pub mod Pictures
 pub mod Instants
 pub mod Turns
 pub mod Knowing
+pub mod RowNumbers

@@ -24,9 +24,13 @@ pub record IsPicture (p : Plane) (values : List Value) : Type 0 where
 abbrev pub time_line : ℕ → Bytes
 time_line t = ended (codes "Time: " ++ time_text t)
 
+-- the value of the cell of this number
+abbrev pub value_at : Plane → List Value → ℕ → Bytes
+value_at p values cell = value_text p.decimals p.width (value_of values cell)
+
 -- the value of a cell of the plane
 abbrev pub cell_text : Plane → List Value → ℕ → ℕ → Bytes
-cell_text p values row column = value_text p.decimals p.width (value_of values (number_of p.grid row column p.plane))
+cell_text p values row column = value_at p values (number_of p.grid row column p.plane)
 
 -- the first cells of a row
 abbrev pub cells_text : Plane → List Value → ℕ → ℕ → Bytes

@@ -11,8 +11,8 @@ use quantity::{OutOfMemory, Time, Value};
 use std::alloc::Global;
 use std::marker::Model;
 
-/// The values of the cells of a group, and the instant that was begun. A frame shows the values at the
-/// end of an instant.
+/// The values of the cells of a group, and the instant that was begun. A frame shows the values at
+/// the end of an instant.
 #[derive(Drop)]
 pub struct Frames {
     plane: Plane,
@@ -38,8 +38,8 @@ impl Model for Frames {
 }
 
 impl Frames {
-    /// Frames of a plane of a space, each value in `width` places, 1 to 20, with at most 5 decimals. No
-    /// value is known and no instant is begun.
+    /// Frames of a plane of a space, each value in `width` places, 1 to 20, with at most 5
+    /// decimals. No value is known and no instant is begun.
     pub fn new(
         alloc: Global,
         grid: &Grid,
@@ -78,8 +78,8 @@ impl Frames {
         self.values[cell as usize] = value;
     }
 
-    /// A cell gave this value at the instant `at`, which is the one that was begun, if any, and is begun
-    /// now. It takes no memory.
+    /// A cell gave this value at the instant `at`, which is the one that was begun, if any, and is
+    /// begun now. It takes no memory.
     pub fn take(&mut self, cell: u32, at: Time, value: Value)
         requires begun { ForSome self.old.begun (λ t. t ≡ at) }
         requires inside { cell < cell_count self.old.picture.space }
@@ -89,8 +89,8 @@ impl Frames {
         self.begun = Some(at);
     }
 
-    /// Appends the frame of the instant that was begun, if any, and ends that instant. Where memory is
-    /// refused, all stays as it was.
+    /// Appends the frame of the instant that was begun, if any, and ends that instant. Where memory
+    /// is refused, all stays as it was.
     pub fn finish(&mut self, into: &mut Vec<u8>) -> Result<(), OutOfMemory>
         ensures text { OnOk result (into.new.items ≡ into.old.items ++ frame_of self.old) }
         ensures ended { OnOk result (self.new ≡ with_instant None self.old) }

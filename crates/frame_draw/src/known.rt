@@ -1,5 +1,5 @@
-// The texts of two values, since most cells of a frame have one of a few. A refusal may leave more behind
-// what was there.
+// The texts of two values, since most cells of a frame have one of a few. A refusal may leave more
+// behind what was there.
 ghost use Rattle.std.specs.Prelude.{◌≡◌, ◌≤◌, ◌++◌, ℕ, None, length, take, true, IfSome, OnOk};
 ghost use Rattle.quantity.specs.ValueTexts.{value_text};
 ghost use Rattle.frame_draw.specs.Knowing.{IsKnown, AreKnown};
@@ -36,6 +36,7 @@ impl KnownTexts {
     }
 
     /// Appends the text of a value.
+    #[inline(always)]
     pub(crate) fn put_value(
         &mut self,
         value: &Value,
@@ -69,6 +70,8 @@ impl KnownTexts {
     }
 
     /// Appends the text of a value that isn't known, and knows it from now on, where there is room.
+    #[cold]
+    #[inline(never)]
     fn put_new(
         &mut self,
         value: &Value,

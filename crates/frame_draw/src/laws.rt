@@ -7,7 +7,8 @@ pub fn an_instant_is_one_frame()
     ensures { OneFrame }
 {}
 
-/// Where all that is shown is taken in turn, and a frame is drawn as each instant ends, all frames are drawn.
+/// Where all that is shown is taken in turn, and a frame is drawn as each instant ends, all frames
+/// are drawn.
 pub fn frames_are_drawn_in_turn()
     ensures { DrawsAllFrames }
 {}

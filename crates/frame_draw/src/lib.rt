@@ -10,6 +10,3 @@ mod plane;
 mod rows;
 
 pub use frames::Frames;
-
-#[cfg(test)]
-mod tests;

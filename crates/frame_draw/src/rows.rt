@@ -1,15 +1,23 @@
 // The rows of a frame. A refusal may leave more behind what was there.
-ghost use Rattle.std.specs.Prelude.{◌≡◌, ◌<◌, ◌++◌, length, take, OnOk};
-ghost use Rattle.cell_grid.specs.Space.{cell_count, number_of};
+ghost use Rattle.std.specs.Prelude.{◌≡◌, ◌<◌, ◌++◌, length, take, None, IfSome, OnOk};
+ghost use Rattle.cell_grid.specs.Space.{number_of, plane_count};
 ghost use Rattle.text_forms.specs.Frames.{row_text};
 ghost use Rattle.frame_draw.specs.Drawing.{value_of};
 ghost use Rattle.frame_draw.specs.Knowing.{AreKnown};
-ghost use Rattle.frame_draw.specs.Pictures.{cell_text, cells_text, picture_of, rows_text, IsPicture};
+ghost use Rattle.frame_draw.specs.Pictures.{cells_text, picture_of, rows_text, value_at, IsPicture};
+ghost use Rattle.frame_draw.specs.RowNumbers.{AreCellsOf};
 
 use crate::frame::put;
 use crate::known::KnownTexts;
 use crate::plane::Plane;
 use quantity::{OutOfMemory, Place, Value};
+
+/// The cells of a row: the number of the first, and how far it is from each to the next.
+#[derive(Clone, Copy)]
+pub(crate) struct RowCells {
+    first: usize,
+    step: usize,
+}
 
 /// Appends all rows.
 pub(crate) fn put_rows(
@@ -68,50 +76,65 @@ fn put_cells(
 {
     // A copy, which no write of a text can change.
     let drawn = *plane;
+    let Some(cells) = cells_of_row(&drawn, row) else {
+        return Ok(());
+    };
     for column in 0..drawn.grid.columns() {
-        put_cell(&drawn, values, row, column, texts, into)?;
+        let cell = cell_number(&drawn, values, row, &cells, column);
+        put_cell(&drawn, values, cell, texts, into)?;
     }
     Ok(())
 }
 
+/// Appends the value of a cell.
+#[inline(always)]
 fn put_cell(
     plane: &Plane,
     values: &[Value],
-    row: u32,
-    column: u32,
+    cell: usize,
     texts: &mut KnownTexts,
     into: &mut Vec<u8>,
 ) -> Result<(), OutOfMemory>
     requires picture { IsPicture plane.now values.now }
-    requires row { row < plane.now.grid.rows }
-    requires column { column < plane.now.grid.columns }
+    requires inside { cell < length values.now }
     requires known { AreKnown plane.now.decimals plane.now.width texts.old }
     ensures known { AreKnown plane.now.decimals plane.now.width texts.new }
     ensures ok { OnOk result (into.new.items ≡
-        into.old.items ++ cell_text plane.now values.now row column) }
+        into.old.items ++ value_at plane.now values.now cell) }
     ensures kept { take (length into.old.items) into.new.items ≡ into.old.items }
 {
-    let cell = cell_number(plane, values, row, column);
-    texts.put_value(&values[cell as usize], plane, into)?;
+    texts.put_value(&values[cell], plane, into)?;
     Ok(())
 }
 
-/// The number of the cell of the plane that stands there.
-#[inline(always)]
-fn cell_number(plane: &Plane, values: &[Value], row: u32, column: u32) -> u32
-    requires picture { IsPicture plane.now values.now }
+/// The cells of a row of the plane; None where it has none.
+fn cells_of_row(plane: &Plane, row: u32) -> Option<RowCells>
+    requires plane { plane.now.plane < plane_count plane.now.grid }
     requires row { row < plane.now.grid.rows }
-    requires column { column < plane.now.grid.columns }
-    ensures value { result ≡ number_of plane.now.grid row column plane.now.plane }
-    ensures inside { result < length values.now }
+    ensures some { IfSome result (AreCellsOf plane.now row) }
+    ensures none { result ≡ None → plane.now.grid.columns ≡ 0 }
 {
     let place = Place {
         row,
-        column,
+        column: 0,
         plane: plane.plane,
     };
-    match plane.grid.index(place) {
-        Some(cell) => cell,
-        None => unreachable!(),
-    }
+    let first = plane.grid.index(place)?;
+    Some(RowCells {
+        first: first as usize,
+        step: plane.grid.planes() as usize,
+    })
+}
+
+/// The number of the cell in a column of a row.
+#[inline(always)]
+fn cell_number(plane: &Plane, values: &[Value], row: u32, cells: &RowCells, column: u32) -> usize
+    requires picture { IsPicture plane.now values.now }
+    requires row { row < plane.now.grid.rows }
+    requires column { column < plane.now.grid.columns }
+    requires cells { AreCellsOf plane.now row cells.now }
+    ensures value { result ≡ number_of plane.now.grid row column plane.now.plane }
+    ensures inside { result < length values.now }
+{
+    cells.first + column as usize * cells.step
 }

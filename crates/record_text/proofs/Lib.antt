@@ -1,10 +1,4 @@
 pub mod Cycles
 pub mod Appended
-pub mod StrictLemmas
-pub mod StrictLeaves
-pub mod StrictLines
 pub mod NamedLeaves
 pub mod Starts
-pub mod UsualForms
-pub mod TwelveBytes
-pub mod FrontPieces

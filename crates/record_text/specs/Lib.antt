@@ -2,12 +2,5 @@ pub mod Held
 pub mod Chosen
 pub mod Named
 pub mod RecordTexts
-pub mod LeafRead
-pub mod LineRead
-pub mod PartsRead
-pub mod Strict
 pub mod CycleNames
 pub mod Begun
-pub mod UsualTimes
-pub mod Fronts
-pub mod LineExamples

@@ -1,5 +1,5 @@
-// The lines of values that leaves gave and that reached leaves. A refusal may leave more behind what
-// was there.
+// The lines of values that leaves gave and that reached leaves. A refusal may leave more behind
+// what was there.
 ghost use Rattle.std.specs.Prelude.{◌≡◌, ◌++◌, codes, length, take, OnOk};
 ghost use Rattle.std.specs.List.{All};
 ghost use Rattle.model_tree.specs.Tree.{leaves};
@@ -67,7 +67,8 @@ fn put_out_port(
     into: &mut Vec<u8>,
 ) -> Result<(), OutOfMemory>
     requires { HasPort model.now out_ports leaf port.0 }
-    ensures ok { OnOk result (Appends model.now leaf (λ l. name_at (out_ports l) port.0 ++ codes " / ")
+    ensures ok { OnOk result (Appends model.now leaf
+        (λ l. name_at (out_ports l) port.0 ++ codes " / ")
         into.old.items into.new.items) }
     ensures kept { take (length into.old.items) into.new.items ≡ into.old.items }
 {
@@ -127,7 +128,8 @@ fn put_in_port(
     into: &mut Vec<u8>,
 ) -> Result<(), OutOfMemory>
     requires { HasPort model.now in_ports leaf port.0 }
-    ensures ok { OnOk result (Appends model.now leaf (λ l. name_at (in_ports l) port.0 ++ codes " / ")
+    ensures ok { OnOk result (Appends model.now leaf
+        (λ l. name_at (in_ports l) port.0 ++ codes " / ")
         into.old.items into.new.items) }
     ensures kept { take (length into.old.items) into.new.items ≡ into.old.items }
 {

@@ -1,13 +1,7 @@
 // Calls that name the definitions.
-ghost use Rattle.record_text.specs.LineExamples.{LinesAsSaid};
 ghost use Rattle.record_text.specs.CycleNames.{CyclesNameLeaves};
 
 /// The records of a cycle of a run name leaves and ports of the model.
 pub fn cycles_name_leaves()
     ensures { CyclesNameLeaves }
-{}
-
-/// Lines of a cell of three dimensions, written and read back.
-pub fn lines_of_three_coordinates()
-    ensures { LinesAsSaid }
 {}

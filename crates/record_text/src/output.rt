@@ -24,7 +24,9 @@ pub(crate) fn put_outputs(
 }
 
 fn put_output(output: &OutRecord, names: &[Name], into: &mut Vec<u8>) -> Result<(), OutOfMemory>
-    ensures ok { OnOk result (into.new.items ≡ into.old.items ++ out_line names.now output.now.time (record { port = output.now.port; value = output.now.value })) }
+    ensures ok { OnOk result (into.new.items
+        ≡ into.old.items ++ out_line names.now output.now.time
+        (record { port = output.now.port; value = output.now.value })) }
     ensures kept { take (length into.old.items) into.new.items ≡ into.old.items }
 {
     output.time.text(into)?;

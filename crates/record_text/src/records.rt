@@ -47,8 +47,9 @@ pub struct OutRecord {
     pub value: Value,
 }
 
-/// The records of one cycle: values given at ports `out` and at further ports, values that reached a leaf,
-/// leaves that moved, and values at outputs of top. A caller keeps them, so that their room is used again.
+/// The records of one cycle: values given at ports `out` and at further ports, values that reached
+/// a leaf, leaves that moved, and values at outputs of top. A caller keeps them, so that their room
+/// is used again.
 #[derive(Drop)]
 pub struct Records {
     pub y: Vec<YRecord>,

@@ -10,7 +10,7 @@ use Rattle.quantity.specs.Bytes.{Bytes}
 use Rattle.model_tree.specs.Tree.{Word}
 use Rattle.room_edge.specs.Faults.{WriteFaultCounted, KeepsWriteFaults}
 use Rattle.room_edge.specs.Outside.{Outside, OnlyMade, adds}
-use Rattle.answer_model.specs.Answer.{Files}
+use Rattle.answer_model.specs.Answer.{MadeFiles}
 use Rattle.answer_model.specs.Headline.{Begins}
 use Rattle.answer_model.specs.RunFiles.{file_if}
 use Rattle.answer_model.specs.Steps.{is_made, grown}
@@ -65,7 +65,7 @@ not_after name (Some other) bytes d = ap (λ b. b || false) d
 both_off : (p q : Bool) → p ≡ false → q ≡ false → (p || q) ≡ false
 both_off p q a b = rw (a, b) refl
 
-pub not_both : (name : Word) (fs gs : Files) → is_made name fs ≡ false → is_made name gs ≡ false → is_made name (fs ++ gs) ≡ false
+pub not_both : (name : Word) (fs gs : MadeFiles) → is_made name fs ≡ false → is_made name gs ≡ false → is_made name (fs ++ gs) ≡ false
 not_both name fs gs a b = list_any-append (λ (f : Word × Bytes). bytes_eq f.0 name) fs gs ∙ both_off (is_made name fs) (is_made name gs) a b
 
 -- ---- one of the files grows
@@ -144,7 +144,7 @@ added n file name bytes old new apart is made created only_made keeps =
           let there = made_there (files n t) name (text_at t file) (has_file n.log n.out n.frames t file name is) in
           let grows = grown_file n.log n.out n.frames t file name bytes apart is in
           let texts = ap (files n) (sym (both_only t file bytes)) in
-          subst (λ (fs : Files). LeadsTo a (made_after inputs (files n t)) (made_after inputs fs) old new) (grows ∙ texts)
+          subst (λ (fs : MadeFiles). LeadsTo a (made_after inputs (files n t)) (made_after inputs fs) old new) (grows ∙ texts)
           (steps_lead.appending a (made_after inputs (files n t)) old new name bytes there (made, created, only_made) keeps);
       created = created;
       keeps = keeps;
@@ -156,7 +156,7 @@ none_added n file bytes now is =
     record {
       leads = λ t a inputs.
           let texts = ap (files n) (both_only t file bytes) ∙ none_same n.log n.out n.frames t file bytes is in
-          subst (λ (fs : Files). LeadsTo a (made_after inputs (files n t)) (made_after inputs fs) now now) (sym texts) (λ start way. way);
+          subst (λ (fs : MadeFiles). LeadsTo a (made_after inputs (files n t)) (made_after inputs fs) now now) (sym texts) (λ start way. way);
       created = refl;
       keeps = omega arith;
     }
@@ -169,7 +169,7 @@ pub adds_nothing : (n : Names) (now : Outside) → Adds n (only Frames []) now n
 adds_nothing n now =
     record {
       leads = λ t a inputs.
-          subst (λ (fs : Files). LeadsTo a (made_after inputs (files n t)) (made_after inputs fs) now now) (sym (ap (files n) (nothing t))) (λ start way. way);
+          subst (λ (fs : MadeFiles). LeadsTo a (made_after inputs (files n t)) (made_after inputs fs) now now) (sym (ap (files n) (nothing t))) (λ start way. way);
       created = refl;
       keeps = omega arith;
     }

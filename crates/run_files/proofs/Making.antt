@@ -1,4 +1,4 @@
--- Files that are made, and what follows where one could not be made or lacks bytes.
+-- MadeFiles that are made, and what follows where one could not be made or lacks bytes.
 use Rattle.std.proofs.Common.{◌≡◌, ◌≢◌, ℕ, false, Option, Some, None, List, [], ◌∷◌, ◌++◌, refl, sym, ap, ◌∙◌, subst, arith}
 use Rattle.std.specs.Prelude.{Contains, IsSome, IfSome, Result, Ok, Err}
 use Rattle.std.specs.Option.{option_to_list}
@@ -8,7 +8,7 @@ use Rattle.quantity.specs.Bytes.{Bytes}
 use Rattle.model_tree.specs.Tree.{Word}
 use Rattle.room_edge.specs.Faults.{WriteFaultCounted, KeepsWriteFaults}
 use Rattle.room_edge.specs.Outside.{Outside, OnlyMade, puts}
-use Rattle.answer_model.specs.Answer.{Files, Answer, write_fault_line}
+use Rattle.answer_model.specs.Answer.{MadeFiles, Answer, write_fault_line}
 use Rattle.answer_model.specs.Headline.{Begins, BeginFiles}
 use Rattle.answer_model.specs.Outcome.{Lacks}
 use Rattle.answer_model.specs.RunFiles.{file_if}
@@ -32,7 +32,7 @@ made_none name now is =
     record {
       leads = λ fs a inputs.
           let same : fs ++ file_if name [] ≡ fs = ap (λ n. fs ++ file_if n []) is ∙ append-nil fs in
-          subst (λ (gs : Files). LeadsTo a (made_after inputs fs) (made_after inputs gs) now now) (sym same) (λ start way. way);
+          subst (λ (gs : MadeFiles). LeadsTo a (made_after inputs fs) (made_after inputs gs) now now) (sym same) (λ start way. way);
       created = sym (ap (λ n. now.created ++ option_to_list n) is ∙ append-nil now.created);
       keeps = omega arith;
     }
@@ -119,7 +119,7 @@ all_created n old new m =
 
 -- ---- a beginning of the files of an answer
 
-begins_if : (o : Option Word) (part whole : Bytes) (parts wholes : Files) → Begins part whole → BeginFiles parts wholes → BeginFiles (file_if o part ++ parts) (file_if o whole ++ wholes)
+begins_if : (o : Option Word) (part whole : Bytes) (parts wholes : MadeFiles) → Begins part whole → BeginFiles parts wholes → BeginFiles (file_if o part ++ parts) (file_if o whole ++ wholes)
 begins_if None part whole parts wholes b rest = rest
 begins_if (Some name) part whole parts wholes b rest = (refl, b, rest)
 
@@ -133,7 +133,7 @@ in_groups (Some l) o f t = refl
 
 begins_files : (l o f : Option Word) (part whole : Texts) → BeginTexts part whole → BeginFiles (files (named l o f) part) (files (named l o f) whole)
 begins_files l o f part whole b =
-    subst (λ (fs : Files). BeginFiles fs (files (named l o f) whole)) (sym (in_groups l o f part))
+    subst (λ (fs : MadeFiles). BeginFiles fs (files (named l o f) whole)) (sym (in_groups l o f part))
     (subst (BeginFiles (file_if l part.log ++ (file_if o part.out ++ file_if f part.frames))) (sym (in_groups l o f whole))
     (begins_if l part.log whole.log (file_if o part.out ++ file_if f part.frames) (file_if o whole.out ++ file_if f whole.frames) b.log_begins
     (begins_if o part.out whole.out (file_if f part.frames) (file_if f whole.frames) b.out_begins (begins_last f part.frames whole.frames b.frames_begin))))
@@ -153,7 +153,7 @@ begins_before (Some l) (Some o) f Frames whole = (refl, none_begins whole.log, (
 -- ---- what lacks bytes
 
 wanted : (a : Answer) (l o f : Option Word) (whole : Texts) (file : Output) (name : Word) → a.made ≡ files (named l o f) whole → name_at (named l o f) file ≡ Some name → Contains {X = Word × Bytes} a.made (name, text_at whole file)
-wanted a l o f whole file name made is = subst (λ (fs : Files). Contains {X = Word × Bytes} fs (name, text_at whole file)) (sym made) (has_file l o f whole file name is)
+wanted a l o f whole file name made is = subst (λ (fs : MadeFiles). Contains {X = Word × Bytes} fs (name, text_at whole file)) (sym made) (has_file l o f whole file name is)
 
 lacks_file : (a : Answer) (l o f : Option Word) (inputs : List Word) (part whole : Texts) (file : Output) (name : Word) → a.made ≡ files (named l o f) whole → AreApart (named l o f) → name_at (named l o f) file ≡ Some name → text_at part file ≢ text_at whole file
     → Lacks a (made_after inputs (files (named l o f) part)) name

@@ -11,7 +11,7 @@ use Rattle.cell_grid.specs.Space.{Space, cell_count}
 use Rattle.model_tree.specs.Tree.{Tree}
 use Rattle.run_model.specs.Run.{PortRecord, Cycle}
 use Rattle.run_model.specs.Instants.{InstantsNeverFall}
-use Rattle.text_forms.specs.Frames.{Picture, Shown, shown_by, shown_in, frames, frames_of}
+use Rattle.text_forms.specs.Frames.{Picture, ShownCell, shown_by, shown_in, frames, frames_of}
 use Rattle.text_forms.proofs.Joins.{texts_join}
 use Rattle.frame_draw.specs.Drawing.{Drawing, blank, frame_of, value_of, with_instant}
 use Rattle.frame_draw.specs.Turns.{is_other, text_before, with_shown, drawn_in_turn, NeverFall}
@@ -23,17 +23,17 @@ use Rattle.run_files.specs.Showing.{Showing, with_drawing, with_taken, shown_of,
 -- ---- what cycles show
 
 -- times from this one on
-abbrev AreFrom : ℕ → List Shown → Type 0
-AreFrom t ss = AllByRecursion (λ (s : Shown). t ≤ s.time) ss
+abbrev AreFrom : ℕ → List ShownCell → Type 0
+AreFrom t ss = AllByRecursion (λ (s : ShownCell). t ≤ s.time) ss
 
-from-append : (t : ℕ) (xs ys : List Shown) → AreFrom t xs → AreFrom t ys → AreFrom t (xs ++ ys)
+from-append : (t : ℕ) (xs ys : List ShownCell) → AreFrom t xs → AreFrom t ys → AreFrom t (xs ++ ys)
 from-append t [] ys a b = b
 from-append t (x ∷ xs) ys a b = (a.0, from-append t xs ys a.1 b)
 
-abbrev AreAt : ℕ → List Shown → Type 0
-AreAt t ss = AllByRecursion (λ (s : Shown). s.time ≡ t) ss
+abbrev AreAt : ℕ → List ShownCell → Type 0
+AreAt t ss = AllByRecursion (λ (s : ShownCell). s.time ≡ t) ss
 
-from_at : (t u : ℕ) (ss : List Shown) → t ≤ u → AreAt u ss → AreFrom t ss
+from_at : (t u : ℕ) (ss : List ShownCell) → t ≤ u → AreAt u ss → AreFrom t ss
 from_at t u [] le h = tt
 from_at t u (s ∷ ss) le h = let e = h.0 in (omega (arith, le, e), from_at t u ss le h.1)
 
@@ -55,13 +55,13 @@ shown_from space first t (c ∷ cs) h =
     (from_at t c.time (filter_map (shown_by space first c.time) c.y) h.0 (cycle_at space first c.time c.y))
     (earlier t c.time (shown_in space first cs) h.0 (shown_from space first c.time cs h.1))
   where
-    earlier : (t u : ℕ) (ss : List Shown) → t ≤ u → AreFrom u ss → AreFrom t ss
+    earlier : (t u : ℕ) (ss : List ShownCell) → t ≤ u → AreFrom u ss → AreFrom t ss
     earlier t u [] le h = tt
     earlier t u (s ∷ ss) le h = let k = h.0 in (omega (arith, le, k), earlier t u ss le h.1)
 
 -- ---- an instant that is over
 
-over_now : (w : Drawing) (t : ℕ) (ss : List Shown) → (b : ℕ) → w.begun ≡ Some b → b < t → AreFrom t ss → drawn_in_turn w ss ≡ frame_of w ++ drawn_in_turn (with_instant None w) ss
+over_now : (w : Drawing) (t : ℕ) (ss : List ShownCell) → (b : ℕ) → w.begun ≡ Some b → b < t → AreFrom t ss → drawn_in_turn w ss ≡ frame_of w ++ drawn_in_turn (with_instant None w) ss
 over_now w t [] b is lt h = sym (append-nil (frame_of w))
 over_now w t (s ∷ ss) b is lt h =
     let other : is_other w.begun s.time ≡ true = ap (λ o. is_other o s.time) is ∙ late b t s.time lt h.0 in
@@ -70,7 +70,7 @@ over_now w t (s ∷ ss) b is lt h =
     late : (b t u : ℕ) → b < t → t ≤ u → not (b == u) ≡ true
     late b t u lt le = grind (arith, nat_tests)
 
-before_now : (w : Drawing) (t : ℕ) (ss : List Shown) (o : Option ℕ) → w.begun ≡ o → ForSome o (λ u. u ≤ t) → AreFrom t ss
+before_now : (w : Drawing) (t : ℕ) (ss : List ShownCell) (o : Option ℕ) → w.begun ≡ o → ForSome o (λ u. u ≤ t) → AreFrom t ss
     → drawn_in_turn w ss ≡ text_before t w ++ drawn_in_turn (if is_other w.begun t then with_instant None w else w) ss
 before_now w t ss None is begun h = sym (ap (λ o. (if is_other o t then frame_of w else []) ++ drawn_in_turn (if is_other o t then with_instant None w else w) ss) is)
 before_now w t ss (Some b) is begun h = by (b == t) refl
@@ -103,10 +103,10 @@ no_text t w h = by w.begun refl h
 
 -- the drawing, after records of an instant
 -- a value of a cell, as it is shown
-abbrev one_shown : ℕ → Showing → PortRecord → Shown
+abbrev one_shown : ℕ → Showing → PortRecord → ShownCell
 one_shown at w r = record { time = at; cell = r.leaf - w.first; value = r.value }
 
-took_turns : (at : ℕ) (rs : List PortRecord) (w : Showing) (later : List Shown) → BegunAt at w.drawing
+took_turns : (at : ℕ) (rs : List PortRecord) (w : Showing) (later : List ShownCell) → BegunAt at w.drawing
     → drawn_in_turn w.drawing (filter_map (shown_by w.drawing.picture.space w.first at) rs ++ later) ≡ drawn_in_turn (took at rs w).drawing later
 took_turns at [] w later h = refl
 took_turns at (r ∷ rs) w later h = by (nat_le w.first r.leaf && nat_lt r.leaf (w.first + cell_count w.drawing.picture.space)) (λ v k p f. took_turns at rs v later k)
@@ -152,7 +152,7 @@ took_place : (at : ℕ) (rs : List PortRecord) (w : Showing) → ((took at rs w)
 took_place at [] w = (refl, refl)
 took_place at (r ∷ rs) w = let k = took_place at rs (with_taken (shown_of w at r) w) in let p = one (shown_of w at r) in (k.0 ∙ p.0, k.1 ∙ p.1)
   where
-    one : (o : Option Shown) → ((with_taken o w).first ≡ w.first) × ((with_taken o w).drawing.picture ≡ w.drawing.picture)
+    one : (o : Option ShownCell) → ((with_taken o w).first ≡ w.first) × ((with_taken o w).drawing.picture ≡ w.drawing.picture)
     one None = (refl, refl)
     one (Some s) = (refl, refl)
 
@@ -202,12 +202,12 @@ begun_after (Some w) c = at_most (after_cycle c w).drawing.begun (took_begun c.y
     took_begun [] v h = h
     took_begun (r ∷ rs) v h = took_begun rs (with_taken (shown_of v c.time r) v) (one (shown_of v c.time r) refl)
       where
-        one : (o : Option Shown) → shown_of v c.time r ≡ o → BegunAt c.time (with_taken o v).drawing
+        one : (o : Option ShownCell) → shown_of v c.time r ≡ o → BegunAt c.time (with_taken o v).drawing
         one None e = h
         one (Some s) e = λ x q. let same : s.time ≡ x = cc in sym same ∙ at_time (nat_le v.first r.leaf && nat_lt r.leaf (v.first + cell_count v.drawing.picture.space)) e
           where
-            at_time : (b : Bool) → (if b then Some (let x : Shown = record { time = c.time; cell = r.leaf - v.first; value = r.value } in x) else None) ≡ Some s → s.time ≡ c.time
-            at_time true e = let same : (let x : Shown = record { time = c.time; cell = r.leaf - v.first; value = r.value } in x) ≡ s = cc in ap (λ (x : Shown). x.time) (sym same)
+            at_time : (b : Bool) → (if b then Some (let x : ShownCell = record { time = c.time; cell = r.leaf - v.first; value = r.value } in x) else None) ≡ Some s → s.time ≡ c.time
+            at_time true e = let same : (let x : ShownCell = record { time = c.time; cell = r.leaf - v.first; value = r.value } in x) ≡ s = cc in ap (λ (x : ShownCell). x.time) (sym same)
             at_time false e = absurd (cc)
 
 pub begun_next : (w : Option Showing) (c : Cycle) → IsBegunBy c.time (option_map (after_cycle c) w)
@@ -236,29 +236,29 @@ never_fall : (space : Space) (first low : ℕ) (cs : List Cycle) → InstantsNev
 never_fall space first low [] h = tt
 never_fall space first low (c ∷ cs) h = one low (filter_map (shown_by space first c.time) c.y) h.0 (cycle_at space first c.time c.y) (never_fall space first c.time cs h.1)
   where
-    lower : (t u : ℕ) (ss : List Shown) → t ≤ u → NeverFall u ss → NeverFall t ss
+    lower : (t u : ℕ) (ss : List ShownCell) → t ≤ u → NeverFall u ss → NeverFall t ss
     lower t u [] le k = tt
     lower t u (s ∷ ss) le k = let q = k.0 in (omega (arith, le, q), k.1)
 
-    one : (t : ℕ) (ss : List Shown) → t ≤ c.time → AreAt c.time ss → NeverFall c.time (shown_in space first cs) → NeverFall t (ss ++ shown_in space first cs)
+    one : (t : ℕ) (ss : List ShownCell) → t ≤ c.time → AreAt c.time ss → NeverFall c.time (shown_in space first cs) → NeverFall t (ss ++ shown_in space first cs)
     one t [] le k more = lower t c.time (shown_in space first cs) le more
     one t (s ∷ ss) le k more =
         let e = k.0 in
         (omega (arith, le, e), one s.time ss (omega (arith, e)) k.1 more)
 
-inside : (space : Space) (first n : ℕ) (cs : List Cycle) → n ≡ cell_count space → AllByRecursion (λ (s : Shown). s.cell < n) (shown_in space first cs)
+inside : (space : Space) (first n : ℕ) (cs : List Cycle) → n ≡ cell_count space → AllByRecursion (λ (s : ShownCell). s.cell < n) (shown_in space first cs)
 inside space first n [] is = tt
 inside space first n (c ∷ cs) is = among c.y (inside space first n cs is)
   where
     within : (a b m : ℕ) → (nat_le a b && nat_lt b (a + m)) ≡ true → b - a < m
     within a b m e = grind (arith, nat_tests)
 
-    among : (rs : List PortRecord) → AllByRecursion (λ (s : Shown). s.cell < n) (shown_in space first cs) → AllByRecursion (λ (s : Shown). s.cell < n) (filter_map (shown_by space first c.time) rs ++ shown_in space first cs)
+    among : (rs : List PortRecord) → AllByRecursion (λ (s : ShownCell). s.cell < n) (shown_in space first cs) → AllByRecursion (λ (s : ShownCell). s.cell < n) (filter_map (shown_by space first c.time) rs ++ shown_in space first cs)
     among [] more = more
     among (r ∷ rs) more = by (nat_le first r.leaf && nat_lt r.leaf (first + cell_count space)) refl (among rs more)
       where
-        by : (b : Bool) → (nat_le first r.leaf && nat_lt r.leaf (first + cell_count space)) ≡ b → AllByRecursion (λ (s : Shown). s.cell < n) (filter_map (shown_by space first c.time) rs ++ shown_in space first cs)
-            → AllByRecursion (λ (s : Shown). s.cell < n) (cons_option (if b then Some (record { time = c.time; cell = r.leaf - first; value = r.value }) else None) (filter_map (shown_by space first c.time) rs) ++ shown_in space first cs)
+        by : (b : Bool) → (nat_le first r.leaf && nat_lt r.leaf (first + cell_count space)) ≡ b → AllByRecursion (λ (s : ShownCell). s.cell < n) (filter_map (shown_by space first c.time) rs ++ shown_in space first cs)
+            → AllByRecursion (λ (s : ShownCell). s.cell < n) (cons_option (if b then Some (record { time = c.time; cell = r.leaf - first; value = r.value }) else None) (filter_map (shown_by space first c.time) rs) ++ shown_in space first cs)
         by true e more = (let lt = within first r.leaf (cell_count space) e in omega (arith, lt, is), more)
         by false e more = more
 

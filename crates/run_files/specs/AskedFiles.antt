@@ -8,9 +8,10 @@ use Rattle.run_files.specs.Texts.{Names}
 pub use Rattle.run_files.specs.Texts.{name_at}
 
 -- a name that may be left out
-abbrev pub name_of : Option (Bor Word) → Option Word
-name_of name = option_map (λ (n : Bor Word). n.now) name
+abbrev pub text_of_name : Option (Bor Word) → Option Word
+text_of_name name = option_map (λ (n : Bor Word). n.now) name
 
 -- the names of the files that are asked for
 abbrev pub names_of : Named → Names
-names_of n = record { log = name_of n.log; out = name_of n.out; frames = name_of n.frames }
+names_of n =
+    record { log = text_of_name n.log; out = text_of_name n.out; frames = text_of_name n.frames }

@@ -4,7 +4,8 @@ use Rattle.quantity.specs.Arithmetic.{same_value}
 use Rattle.rule_tree.specs.Meaning.{whole}
 use Rattle.run_model.specs.Run.{PortRecord, Cycle}
 
--- Y records, S records, and for each leaf whether the last value that it gave at its port `out` is 1
+-- Y records, S records, and for each leaf whether the last value that it gave at its port `out` is
+-- 1
 pub record Counts : Type 0 where
   pub y : ℕ
   pub s : ℕ

@@ -6,7 +6,7 @@ use Rattle.model_tree.specs.Tree.{Tree}
 use Rattle.run_model.specs.Run.{PortRecord, Cycle}
 use Rattle.record_text.specs.declared.records.YRecord.{YRecord}
 use Rattle.text_forms.specs.Lines.{log_bytes, out_bytes}
-use Rattle.text_forms.specs.Frames.{Picture, Shown, shown_by, shown_in}
+use Rattle.text_forms.specs.Frames.{Picture, ShownCell, shown_by, shown_in}
 use Rattle.frame_draw.specs.Drawing.{Drawing, blank, frame_of, with_instant}
 use Rattle.frame_draw.specs.Turns.{is_other, text_before, with_shown, drawn_in_turn}
 use Rattle.run_files.specs.Texts.{Texts}
@@ -25,12 +25,12 @@ abbrev pub showing_none : ℕ → Picture → Showing
 showing_none first p = record { first = first; drawing = blank p }
 
 -- what is shown is taken
-abbrev pub with_taken : Option Shown → Showing → Showing
+abbrev pub with_taken : Option ShownCell → Showing → Showing
 with_taken None w = w
 with_taken (Some s) w = with_drawing (with_shown s w.drawing) w
 
 -- what a record shows of the cells of the group
-abbrev pub shown_of : Showing → ℕ → PortRecord → Option Shown
+abbrev pub shown_of : Showing → ℕ → PortRecord → Option ShownCell
 shown_of w at r = shown_by w.drawing.picture.space w.first at r
 
 -- records of this instant are taken one after another

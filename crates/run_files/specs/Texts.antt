@@ -3,7 +3,7 @@ use Rattle.std.specs.Prelude.{◌≡◌, false, Option, Some, None, List, [], �
 use Rattle.std.specs.Str.{bytes_eq}
 use Rattle.quantity.specs.Bytes.{Bytes}
 use Rattle.model_tree.specs.Tree.{Word}
-use Rattle.answer_model.specs.Answer.{Files}
+use Rattle.answer_model.specs.Answer.{MadeFiles}
 use Rattle.answer_model.specs.Headline.{Begins}
 use Rattle.answer_model.specs.RunFiles.{file_if}
 use Rattle.run_files.specs.declared.outputs.Output.{Output}
@@ -49,11 +49,11 @@ text_at t Out = t.out
 text_at t Frames = t.frames
 
 -- the files in the order of their making
-abbrev pub files : Names → Texts → Files
+abbrev pub files : Names → Texts → MadeFiles
 files n t = file_if n.log t.log ++ file_if n.out t.out ++ file_if n.frames t.frames
 
 -- those that are made before this one, all empty
-abbrev pub made_before : Names → Output → Files
+abbrev pub made_before : Names → Output → MadeFiles
 made_before n Log = []
 made_before n Out = file_if n.log []
 made_before n Frames = file_if n.log [] ++ file_if n.out []

@@ -1,10 +1,11 @@
--- What writing comes to: all of the texts, or a beginning of them where a write failed or memory ran out.
+-- What writing comes to: all of the texts, or a beginning of them where a write failed or memory
+-- ran out.
 use Rattle.std.specs.Prelude.{◌≡◌, ◌≢◌, ℕ, Option, List, [], ◌++◌, ⊤, IsSome, IfSome, Result, Ok, Err}
 use Rattle.std.specs.Option.{option_to_list}
 use Rattle.model_tree.specs.Tree.{Word}
 use Rattle.room_edge.specs.Faults.{WriteFaultCounted, KeepsWriteFaults}
 use Rattle.room_edge.specs.Outside.{Outside}
-use Rattle.answer_model.specs.Answer.{Files, Answer, write_fault_line}
+use Rattle.answer_model.specs.Answer.{MadeFiles, Answer, write_fault_line}
 use Rattle.answer_model.specs.Endings.{Says, made_after, looked_for, LeadsTo}
 use Rattle.answer_model.specs.RunFiles.{file_if}
 use Rattle.run_files.specs.declared.outputs.Output.{Output}
@@ -48,14 +49,14 @@ Writes n whole old new (Err why) = Falls n why whole old new
 
 -- one file was made, where there is to be one
 pub record Makes (name : Option Word) (old new : Outside) : Type 0 where
-  pub leads : (fs : Files) (a : Answer) (inputs : List Word)
+  pub leads : (fs : MadeFiles) (a : Answer) (inputs : List Word)
       → LeadsTo a (made_after inputs fs) (made_after inputs (fs ++ file_if name [])) old new
   pub created : new.created ≡ old.created ++ option_to_list name
   pub keeps : KeepsWriteFaults old new
 
 -- no file was made
 pub record MakesNone (old new : Outside) : Type 0 where
-  pub leads : (fs : Files) (a : Answer) (inputs : List Word)
+  pub leads : (fs : MadeFiles) (a : Answer) (inputs : List Word)
       → LeadsTo a (made_after inputs fs) (made_after inputs fs) old new
   pub keeps : KeepsWriteFaults old new
 

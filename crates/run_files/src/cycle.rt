@@ -21,8 +21,8 @@ use quantity::{OutOfMemory, Time};
 use record_text::{Records, YRecord, log_bytes, out_bytes};
 use room_edge::Room;
 
-/// Adds what a cycle gave: the frame of the instant before, where this one begins another; the lines of the
-/// log; and the lines of the output. `piece` is room that each call uses again.
+/// Adds what a cycle gave: the frame of the instant before, where this one begins another; the
+/// lines of the log; and the lines of the output. `piece` is room that each call uses again.
 pub fn write_cycle<R: Room>(
     room: &mut R,
     named: &Named<'_>,
@@ -123,7 +123,8 @@ fn write_log<R: Room>(
     requires created { AreCreated (names_of named.now) (R.outside room.old).created }
     requires leaves { NamesLeaves model.now records.now }
     ensures texts { (c : Cycle) → Holds records.now c → OfTree model.now (λ tree.
-        Writes (names_of named.now) (only Log (forms.log_bytes tree (letters_of named.now.letters) (c ∷ [])))
+        Writes (names_of named.now)
+        (only Log (forms.log_bytes tree (letters_of named.now.letters) (c ∷ [])))
         (R.outside room.old) (R.outside room.new) result) }
     ensures created { (R.outside room.new).created ≡ (R.outside room.old).created }
 {

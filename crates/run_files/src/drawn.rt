@@ -12,8 +12,8 @@ use record_text::YRecord;
 use std::alloc::Global;
 use std::marker::Model;
 
-/// The frames of the group whose first cell has the leaf number `first`. It is seen as that number and the
-/// frames that are being drawn.
+/// The frames of the group whose first cell has the leaf number `first`. It is seen as that number
+/// and the frames that are being drawn.
 #[derive(Drop)]
 pub struct Drawn {
     first: u32,
@@ -94,8 +94,8 @@ impl Drawn {
         self.begun = Some(at);
     }
 
-    /// Appends the frame of the instant that was begun, if any, and ends that instant. Where memory is
-    /// refused, all stays as it was.
+    /// Appends the frame of the instant that was begun, if any, and ends that instant. Where memory
+    /// is refused, all stays as it was.
     pub(crate) fn finish(&mut self, into: &mut Vec<u8>) -> Result<(), OutOfMemory>
         ensures text { OnOk result (into.new.items ≡ into.old.items ++ frame_of self.old.drawing) }
         ensures ended { OnOk result (self.new ≡ ended self.old) }

@@ -66,8 +66,8 @@ fn group_named(model: &Model, name: &str) -> Option<GroupAt>
     None
 }
 
-/// Whether a leaf is a cell of the group of this name. A group is looked for by its number once, since its
-/// cells stand one after another.
+/// Whether a leaf is a cell of the group of this name. A group is looked for by its number once,
+/// since its cells stand one after another.
 fn look(model: &Model, leaf: u32, name: &str, passed: Option<u32>) -> Looked
     requires leaf { IsLeafOf model.now leaf }
     requires passed { IsPassed model.now name.now passed }

@@ -1,6 +1,6 @@
 // What is asked of a run's files and of its last line.
 ghost use Rattle.std.specs.Prelude.{◌≡◌};
-ghost use Rattle.run_files.specs.AskedFiles.{name_of, names_of, name_at};
+ghost use Rattle.run_files.specs.AskedFiles.{text_of_name, names_of, name_at};
 
 use quantity::Time;
 use record_text::Letters;
@@ -55,7 +55,7 @@ pub struct Named<'a> {
 impl<'a> Named<'a> {
     /// The name of one of the files, where there is to be one.
     pub fn name(&self, file: Output) -> Option<&'a str>
-        ensures { name_of result ≡ name_at (names_of self.now) file }
+        ensures { text_of_name result ≡ name_at (names_of self.now) file }
     {
         match file {
             Output::Log => self.log,

@@ -26,14 +26,14 @@ use Rattle.text_forms.specs.LogLine.{letter_of, LogLine, line_text}
 use Rattle.text_forms.specs.Letters.{letter_byte}
 use Rattle.text_forms.specs.Lines.{ended, cycle_lines, log_bytes, out_bytes}
 use Rattle.answer_model.specs.Asked.{Source, file, made, Asked, is_among, differ_all}
-use Rattle.answer_model.specs.Answer.{Files, Answer}
+use Rattle.answer_model.specs.Answer.{MadeFiles, Answer}
 use Rattle.answer_model.specs.Cdpp.{run_on}
 use Rattle.answer_model.specs.RunEnd.{Said, said, shows, complains, done_line, end_line, made_line, mark_text, many_line}
 use Rattle.answer_model.specs.RunFiles.{file_if, group_at, emitted_before, frames_if, saved_text, made_files}
 use Rattle.flat_run.specs.Standing.{Standing, tree_in}
 use Rattle.run_files.specs.declared.outputs.FramesFile.{FramesFile}
 use Rattle.run_files.specs.declared.outputs.Outputs.{Outputs}
-use Rattle.run_files.specs.AskedFiles.{name_of}
+use Rattle.run_files.specs.AskedFiles.{text_of_name}
 use Rattle.run_files.specs.Texts.{Names, Texts, files, Differ, AreApart}
 use Rattle.run_files.specs.Showing.{Showing, frames_left, left_texts, IsBegunBy}
 use Rattle.run_files.specs.Groups.{picture_of, begun_at, showing_at_start}
@@ -74,7 +74,7 @@ same_letters tree xs ys cycles same =
     (filter (λ l. same (letter_byte (letter_of l)) i) (flat_map (cycle_lines (leaves tree)) cycles))
 
 -- the file of frames of a group
-abbrev group_frames : FramesFile → List Cycle → Option (ℕ × Group) → Files
+abbrev group_frames : FramesFile → List Cycle → Option (ℕ × Group) → MadeFiles
 group_frames f cycles None = []
 group_frames f cycles (Some g) =
     (f.name.now, frames_of (record { space = g.1.space; plane = f.plane; width = f.width; decimals = f.decimals }) g.0 (emitted_before None g) cycles) ∷ []
@@ -82,7 +82,7 @@ group_frames f cycles (Some g) =
 either : (f : FramesFile) (cycles : List Cycle) → InstantsNeverFall 0 cycles → (g : Option (ℕ × Group))
     → group_frames f cycles g ≡ file_if (if is_some (begun_at f g) then Some f.name.now else None) (frames_left (begun_at f g) cycles)
 either f cycles falls None = refl
-either f cycles falls (Some g) = ap (λ (text : Bytes). let fs : Files = (f.name.now, text) ∷ [] in fs) (sym (all_frames (picture_of f g.1.space) g.0 cycles falls))
+either f cycles falls (Some g) = ap (λ (text : Bytes). let fs : MadeFiles = (f.name.now, text) ∷ [] in fs) (sym (all_frames (picture_of f g.1.space) g.0 cycles falls))
 
 found : (f : FramesFile) (tree : Tree) (cycles : List Cycle) (g : Option (ℕ × Group)) → elim g [ None ↦ [] | Some g ↦ (f.name.now, frames_of (record { space = g.1.space; plane = f.plane; width = f.width; decimals = f.decimals }) g.0 (emitted_before None g) cycles) ∷ [] ] ≡ group_frames f cycles g
 found f tree cycles None = refl
@@ -98,10 +98,10 @@ files_same : (a : Asked) (o : Outputs) (tree : Tree) (r : Run) → AreOutputsOf 
 files_same a o tree r are falls =
     let lines = out_bytes tree r.cycles in
     let log = file_if a.log (log_bytes tree a.letters r.cycles) in
-    let three : Files = log ++ file_if a.out lines ++ frames_if tree None r.cycles a.frames in
+    let three : MadeFiles = log ++ file_if a.out lines ++ frames_if tree None r.cycles a.frames in
     ap (λ save. three ++ file_if save (saved_text a tree r)) are.save ∙ append-nil three
     ∙ (λ i. file_if (are.log i) (same_letters tree a.letters (letters_of o.letters) r.cycles are.letters i) ++ file_if (are.out i) lines ++ frames_if tree None r.cycles (are.frames i))
-    ∙ ap (λ (fs : Files). file_if (name_of o.log) (log_bytes tree (letters_of o.letters) r.cycles) ++ file_if (name_of o.out) lines ++ fs) (frames_same o.frames tree r.cycles falls)
+    ∙ ap (λ (fs : MadeFiles). file_if (text_of_name o.log) (log_bytes tree (letters_of o.letters) r.cycles) ++ file_if (text_of_name o.out) lines ++ fs) (frames_same o.frames tree r.cycles falls)
 
 -- ---- the run
 
@@ -186,10 +186,10 @@ none_apart None = tt
 none_apart (Some w) = tt
 
 pub names_apart : (o : Outputs) (b : Bool) → IsTrue (differ_all (names_asked o)) → AreApart (names_with o b)
-names_apart o true h = apart_all (name_of o.log) (name_of o.out) (frames_name o.frames) h
+names_apart o true h = apart_all (text_of_name o.log) (text_of_name o.out) (frames_name o.frames) h
 names_apart o false h =
-    let k = apart_all (name_of o.log) (name_of o.out) (frames_name o.frames) h in
-    record { log_out = k.log_out; log_frames = none_apart (name_of o.log); out_frames = none_apart (name_of o.out) }
+    let k = apart_all (text_of_name o.log) (text_of_name o.out) (frames_name o.frames) h in
+    record { log_out = k.log_out; log_frames = none_apart (text_of_name o.log); out_frames = none_apart (text_of_name o.out) }
 
 -- ---- each further port has a value
 

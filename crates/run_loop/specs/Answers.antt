@@ -12,8 +12,8 @@ use Rattle.run_files.specs.declared.outputs.Outputs.{Outputs}
 use Rattle.run_files.specs.Groups.{CanShow}
 use Rattle.run_loop.specs.Asks.{names_asked}
 
--- a run of a sound model before its first cycle, to this end and with this limit; its frames can be drawn, and
--- the names of its files differ
+-- a run of a sound model before its first cycle, to this end and with this limit; its frames can be
+-- drawn, and the names of its files differ
 pub record MayRun (o : Outputs) (s : Standing) : Type 0 where
   pub starts : s.state ≡ start (tree_in s) s.state.events
   pub goes : s.stopped ≡ None
@@ -29,6 +29,7 @@ answer_to a s inputs =
     answer_of_run a (tree_in s) s.state.events None inputs
     (run_on (tree_in s) s.state.events a.end a.limit None)
 
--- the statuses that a run may end with: done, a write fault, a stop of a cell, too many cycles, want of memory
+-- the statuses that a run may end with: done, a write fault, a stop of a cell, too many cycles,
+-- want of memory
 abbrev pub run_statuses : List ℕ
 run_statuses = 0 ∷ 5 ∷ 8 ∷ 9 ∷ 10 ∷ 11 ∷ 12 ∷ []

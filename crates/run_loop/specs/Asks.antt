@@ -7,7 +7,7 @@ use Rattle.answer_model.specs.Asked as asked
 use Rattle.answer_model.specs.Asked.{Source, file, made, Asked, is_among, differ_all}
 use Rattle.run_files.specs.declared.outputs.FramesFile.{FramesFile}
 use Rattle.run_files.specs.declared.outputs.Outputs.{Outputs}
-use Rattle.run_files.specs.AskedFiles.{name_of}
+use Rattle.run_files.specs.AskedFiles.{text_of_name}
 
 -- the model is read of a file, or is made with this size
 abbrev pub IsSource : Option ℕ → Source → Type 0
@@ -30,8 +30,8 @@ frames_file_of f =
 pub record AreOutputsOf (a : Asked) (o : Outputs) : Type 0 where
   pub source : IsSource o.made a.source
   pub end : a.end ≡ o.end
-  pub log : a.log ≡ name_of o.log
-  pub out : a.out ≡ name_of o.out
+  pub log : a.log ≡ text_of_name o.log
+  pub out : a.out ≡ text_of_name o.out
   pub frames : a.frames ≡ option_map frames_file_of o.frames
   pub letters : (c : ℕ) → is_among c a.letters ≡ is_among c (letters_of o.letters)
   pub limit : a.limit ≡ o.limit
@@ -46,5 +46,5 @@ frames_name frames = option_map (λ (f : FramesFile). f.name.now) frames
 -- the names of the files that a run is asked to make
 abbrev pub names_asked : Outputs → List Word
 names_asked o =
-    option_to_list (name_of o.log) ++ option_to_list (name_of o.out)
+    option_to_list (text_of_name o.log) ++ option_to_list (text_of_name o.out)
     ++ option_to_list (frames_name o.frames)

@@ -4,7 +4,7 @@ use Rattle.std.specs.Option.{option_map, is_some}
 use Rattle.model_tree.specs.Tree.{Word, Tree, leaf_count}
 use Rattle.run_files.specs.declared.outputs.FramesFile.{FramesFile}
 use Rattle.run_files.specs.declared.outputs.Outputs.{Outputs}
-use Rattle.run_files.specs.AskedFiles.{name_of}
+use Rattle.run_files.specs.AskedFiles.{text_of_name}
 use Rattle.run_files.specs.Texts.{Names}
 use Rattle.run_files.specs.Groups.{showing_at_start}
 use Rattle.run_files.specs.Counts.{Counts, no_counts}
@@ -28,7 +28,7 @@ frames_with o has_frames = if has_frames then frames_name o.frames else None
 -- the names of the files, with frames where the model has the group
 abbrev pub names_with : Outputs → Bool → Names
 names_with o has_frames =
-    record { log = name_of o.log; out = name_of o.out; frames = frames_with o has_frames }
+    record { log = text_of_name o.log; out = text_of_name o.out; frames = frames_with o has_frames }
 
 -- the names of the files of a run of this model
 abbrev pub names_in : Outputs → Tree → Names

@@ -23,7 +23,8 @@ EndsWithin n s =
 abbrev pub HaveValues : Tree → Type 0
 HaveValues tree = (k : ℕ) (l : Leaf) → slice_get (leaves tree) k ≡ Some l → HasPortValues l
 
--- the cycles that are left name what there is, and their instants never fall, from those that are drawn on
+-- the cycles that are left name what there is, and their instants never fall, from those that are
+-- drawn on
 pub record AreFit (tree : Tree) (drawn : Option Showing) (cycles : List Cycle) : Type 0 where
   pub names : All (NamesItsParts tree) cycles
   pub from : ℕ

@@ -2,7 +2,7 @@
 ghost use Rattle.std.specs.Prelude.{◌≡◌, ◌<◌, ◌^◌, IfOk};
 ghost use Rattle.model_tree.specs.Leaves.{OfTree};
 ghost use Rattle.run_model.specs.Run.{most_cycles as most};
-ghost use Rattle.run_files.specs.AskedFiles.{name_of, names_of};
+ghost use Rattle.run_files.specs.AskedFiles.{text_of_name, names_of};
 ghost use Rattle.run_files.specs.Groups.{CanShowIn};
 ghost use Rattle.run_loop.specs.Begins.{BeginsWith, names_with, frames_with, counts_at_start};
 
@@ -64,7 +64,7 @@ pub(crate) fn named_of<'a>(outputs: &Outputs<'a>, has_frames: bool) -> Named<'a>
 
 /// The name of the file of frames.
 fn frames_named<'a>(outputs: &Outputs<'a>, has_frames: bool) -> Option<&'a str>
-    ensures { name_of result ≡ frames_with outputs.now has_frames }
+    ensures { text_of_name result ≡ frames_with outputs.now has_frames }
 {
     let Some(asked) = outputs.frames else {
         return None;

@@ -55,7 +55,8 @@ fn show_done<R: Room>(
     model: &Model,
     going: &Going,
 ) -> u8
-    ensures { OfTree model.now (λ tree. (cycles : List Cycle) → HasCounted outputs.now tree cycles going.now
+    ensures { OfTree model.now (λ tree. (cycles : List Cycle)
+        → HasCounted outputs.now tree cycles going.now
         → ShowsEnd (ended (done_text outputs.now.made outputs.now.end tree cycles)) 0
         (R.outside room.old) (R.outside room.new) result) }
 {
@@ -93,7 +94,8 @@ fn complain_stop<R: Room>(
     model: &Model,
     stop: Stop,
 ) -> u8
-    ensures { OfTree model.now (λ tree. (cycles : List Cycle) (v : Verdict) → IsVerdict (Stopped stop) v
+    ensures { OfTree model.now (λ tree. (cycles : List Cycle) (v : Verdict)
+        → IsVerdict (Stopped stop) v
         → TellsEnd outputs.now tree cycles v (R.outside room.old) (R.outside room.new) result) }
 {
     match stop {
@@ -120,7 +122,8 @@ fn complain_at<R: Room>(
     status: u8,
 ) -> u8
     ensures { OfTree model.now (λ tree.
-        Says (ended (stopped_at what.now tree leaf t)) status (R.outside room.old) (R.outside room.new) result) }
+        Says (ended (stopped_at what.now tree leaf t)) status (R.outside room.old)
+        (R.outside room.new) result) }
 {
     let Ok(line) = stopped_line(alloc, model, what, leaf, t) else {
         return NO_MEMORY;

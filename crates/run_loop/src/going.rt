@@ -18,8 +18,8 @@ use record_text::Records;
 use room_edge::Room;
 use run_files::{Counted, Drawn, Named, Unwritten, count, write_cycle};
 
-/// The frames that are drawn, what is counted for the last line, the number of cycles, and room that each cycle
-/// uses again: its records, and the piece that is written.
+/// The frames that are drawn, what is counted for the last line, the number of cycles, and room
+/// that each cycle uses again: its records, and the piece that is written.
 #[derive(Drop)]
 pub(crate) struct Going {
     pub(crate) drawn: Option<Drawn>,
@@ -41,8 +41,10 @@ pub(crate) fn write_next<R: Room>(
     requires created { AreCreated (names_of named.now) (R.outside room.old).created }
     requires leaves { NamesLeaves model.now going.old.records }
     requires few { going.old.cycles + 1 < 2 ^ 64 }
-    ensures texts { (c : Cycle) → Holds going.old.records c → c.time ≡ at → OfTree model.now (λ tree.
-        Writes (names_of named.now) (cycle_texts tree (letters_of named.now.letters) going.old.drawn c)
+    ensures texts { (c : Cycle) → Holds going.old.records c → c.time ≡ at
+        → OfTree model.now (λ tree.
+        Writes (names_of named.now)
+        (cycle_texts tree (letters_of named.now.letters) going.old.drawn c)
         (R.outside room.old) (R.outside room.new) result) }
     ensures drawn { OnOk result ((c : Cycle) → Holds going.old.records c → c.time ≡ at →
         going.new.drawn ≡ option_map (after_cycle c) going.old.drawn) }

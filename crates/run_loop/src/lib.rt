@@ -1,5 +1,5 @@
-//! All of the program after its inputs are read: the files are made, the run goes on cycle by cycle, and how it
-//! ended is told.
+//! All of the program after its inputs are read: the files are made, the run goes on cycle by
+//! cycle, and how it ended is told.
 #![tactic(auto)]
 
 mod begin;

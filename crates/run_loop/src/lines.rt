@@ -99,7 +99,8 @@ pub(crate) fn delay_line(
     delay: Value,
 ) -> Result<Vec<u8>, OutOfMemory>
     ensures { IfOk result (λ line. OfTree model.now (λ tree.
-        line.items ≡ ended (stopped_at (codes "bad delay") tree leaf t ++ codes ": " ++ text5 delay))) }
+        line.items ≡ ended (stopped_at (codes "bad delay") tree leaf t ++ codes ": "
+        ++ text5 delay))) }
 {
     let mut line = stopped_text(alloc, model, b"bad delay", leaf, t)?;
     line.extend_from_slice(b": ")?;

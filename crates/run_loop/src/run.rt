@@ -19,8 +19,8 @@ use run_files::{Named, Unwritten, write_last};
 use std::sync::ledger::Ledger;
 use time_queue::TimeQueue;
 
-/// Runs at most so many cycles, and writes each, and at the end the last frame. A cycle that is due after them is
-/// one too many.
+/// Runs at most so many cycles, and writes each, and at the end the last frame. A cycle that is due
+/// after them is one too many.
 pub(crate) fn run_all<R: Room, Q: TimeQueue, M: AtomicModel, L: Ledger>(
     room: &mut R,
     named: &Named<'_>,
@@ -36,7 +36,8 @@ pub(crate) fn run_all<R: Room, Q: TimeQueue, M: AtomicModel, L: Ledger>(
     requires values { HaveValues (tree_in run.old) }
     requires cycles { AreFit (tree_in run.old) going.old.drawn (run_of most run.old).cycles }
     requires whole { EndsWithin most run.old }
-    ensures runs { RunsWhole (names_of named.now) (tree_in run.old) (letters_of named.now.letters) (run_of most run.old)
+    ensures runs { RunsWhole (names_of named.now) (tree_in run.old) (letters_of named.now.letters)
+        (run_of most run.old)
         going.old going.new (R.outside room.old) (R.outside room.new) result }
     ensures keeps { Keeps run.old run.new }
     ensures visits { steps.new ≤ steps.old + visits (tree_in run.old) (run_of most run.old) }
@@ -62,7 +63,8 @@ fn run_cycles<R: Room, Q: TimeQueue, M: AtomicModel, L: Ledger>(
     requires values { HaveValues (tree_in run.old) }
     requires cycles { AreFit (tree_in run.old) going.old.drawn (run_of most run.old).cycles }
     requires whole { EndsWithin most run.old }
-    ensures runs { RunsTo (names_of named.now) (tree_in run.old) (letters_of named.now.letters) (run_of most run.old)
+    ensures runs { RunsTo (names_of named.now) (tree_in run.old) (letters_of named.now.letters)
+        (run_of most run.old)
         going.old going.new (R.outside room.old) (R.outside room.new) result }
     ensures keeps { Keeps run.old run.new }
     ensures visits { steps.new ≤ steps.old + visits (tree_in run.old) (run_of most run.old) }

@@ -34,8 +34,8 @@ use std::sync::ledger::Ledger;
 use time_queue::TimeQueue;
 use told_lines::status::NO_MEMORY;
 
-/// Makes the log, the output and the file of frames, runs a model to its end, and tells how that went: all of the
-/// program after its inputs are read. Answers what a process ends with.
+/// Makes the log, the output and the file of frames, runs a model to its end, and tells how that
+/// went: all of the program after its inputs are read. Answers what a process ends with.
 pub fn run_and_tell<R: Room, Q: TimeQueue, M: AtomicModel, L: Ledger>(
     alloc: Global,
     room: &mut R,
@@ -46,7 +46,8 @@ pub fn run_and_tell<R: Room, Q: TimeQueue, M: AtomicModel, L: Ledger>(
     requires { MayRun outputs.now run.old }
     // For all that is asked for whose outputs these are, with the files that were looked for.
     ensures ends { (a : Asked) (inputs : List Word) → AreOutputsOf a outputs.now →
-        EndsWith (answer_to a run.old inputs) (looked_for inputs) (R.outside room.old) (R.outside room.new) result }
+        EndsWith (answer_to a run.old inputs) (looked_for inputs) (R.outside room.old)
+        (R.outside room.new) result }
     ensures known { Contains run_statuses result }
     ensures write_fault { result ≡ 5 → WriteFaultCounted (R.outside room.old) (R.outside room.new) }
     // The visits that the reference run may cost.
@@ -86,8 +87,10 @@ fn run_created<R: Room, Q: TimeQueue, M: AtomicModel, L: Ledger>(
     ensures ends { let r = run_of (most outputs.now.end outputs.now.limit) run.old in
         let tree = tree_in run.old in
         let texts = left_texts tree (letters_of named.now.letters) going.old.drawn r.cycles in
-        (a : Answer) (inputs : List Word) → IsAnswerOf (names_of named.now) texts (said_by outputs.now tree r.cycles r.verdict) a →
-        EndsWith a (made_after inputs (files (names_of named.now) no_texts)) (R.outside room.old) (R.outside room.new) result }
+        (a : Answer) (inputs : List Word) → IsAnswerOf (names_of named.now) texts
+        (said_by outputs.now tree r.cycles r.verdict) a →
+        EndsWith a (made_after inputs (files (names_of named.now) no_texts)) (R.outside room.old)
+        (R.outside room.new) result }
     ensures known { Contains run_statuses result }
     ensures write_fault { result ≡ 5 → WriteFaultCounted (R.outside room.old) (R.outside room.new) }
     // The visits that the reference run may cost.

@@ -22,7 +22,7 @@ use Rattle.text_forms.specs.LogLine.{with_strokes}
 use Rattle.text_forms.specs.Lines.{ended, leaf_name, given_line, moved_line, out_port_name}
 use Rattle.text_forms.specs.Lines.{in_port_name}
 use Rattle.text_forms.specs.Lines.{lines_of_letter, cycle_lines, log_lines}
-use Rattle.text_forms.specs.Frames.{Shown, shown_of, shown_by, shown_in, is_drawn, line_time}
+use Rattle.text_forms.specs.Frames.{ShownCell, shown_of, shown_by, shown_in, is_drawn, line_time}
 use Rattle.text_forms.specs.Frames.{not_before}
 use Rattle.text_forms.specs.Frames.{and_shown, shown_at, cell_of, lines_from, drawn_lines}
 use Rattle.text_forms.specs.DrawnLines.{NamesCells, never_fall, have_leaves, DrawnFromCycles}
@@ -83,19 +83,19 @@ cut_lines (l ∷ ls) h =
 abbrev shows : Space → Word → LogLine → Bool
 shows s group l = is_some (shown_of s group l)
 
-abbrev shown_list : Space → Word → LogLine → List Shown
+abbrev shown_list : Space → Word → LogLine → List ShownCell
 shown_list s group l = unwrap_or (shown_of s group l) []
 
 abbrev times_rise : ℕ → List LogLine → Bool
 times_rise before [] = true
 times_rise before (l ∷ ls) = nat_le before (line_time l) && times_rise (line_time l) ls
 
-and_more : (n : ℕ) (o : Option (List Shown)) (rest : List Shown) → is_some o ≡ true
+and_more : (n : ℕ) (o : Option (List ShownCell)) (rest : List ShownCell) → is_some o ≡ true
     → and_shown n o (Ok rest) ≡ Ok (unwrap_or o [] ++ rest)
 and_more n None rest h = absurd cc
 and_more n (Some here) rest h = refl
 
-abbrev go_on : Space → Word → ℕ → List Bytes → Option LogLine → Result (List Shown) ℕ
+abbrev go_on : Space → Word → ℕ → List Bytes → Option LogLine → Result (List ShownCell) ℕ
 go_on s group n parts o =
     elim o [
       | None ↦ Err n
@@ -103,7 +103,7 @@ go_on s group n parts o =
           (lines_from s group (n + 1) (line_time l) parts)
     ]
 
-one_step : (s : Space) (group : Word) (n before : ℕ) (l : LogLine) (next : Bytes) (more : List Bytes) (rest : List Shown) → is_line l ≡ true → nat_le before (line_time l) ≡ true → shows s group l ≡ true → lines_from s group (n + 1) (line_time l) (next ∷ more) ≡ Ok rest → lines_from s group n before (line_text l ∷ next ∷ more) ≡ Ok (shown_list s group l ++ rest)
+one_step : (s : Space) (group : Word) (n before : ℕ) (l : LogLine) (next : Bytes) (more : List Bytes) (rest : List ShownCell) → is_line l ≡ true → nat_le before (line_time l) ≡ true → shows s group l ≡ true → lines_from s group (n + 1) (line_time l) (next ∷ more) ≡ Ok rest → lines_from s group n before (line_text l ∷ next ∷ more) ≡ Ok (shown_list s group l ++ rest)
 one_step s group n before l next more rest fits le shown e =
     ap (λ o. go_on s group n (next ∷ more) (not_before before o)) (line_read l fits)
     ∙ ap (λ b. go_on s group n (next ∷ more) (cond b (Some l) None)) le
@@ -245,7 +245,7 @@ cycle_times : (ls : List Leaf) (c : Cycle)
     → list_all (λ l. line_time l == c.time) (cycle_lines ls c) ≡ true
 cycle_times ls c = letters_pass _ (lines_of_letter ls c) (times_of ls c) all_letters
 
-is_shown : (s : Space) (group : Word) (l : LogLine) (xs : List Shown) → shown_of s group l ≡ Some xs
+is_shown : (s : Space) (group : Word) (l : LogLine) (xs : List ShownCell) → shown_of s group l ≡ Some xs
     → shows s group l ≡ true
 is_shown s group l xs e = ap is_some e
 
@@ -285,7 +285,7 @@ there (x ∷ xs) (suc k) h e = there xs k (below k (length xs) h) e
     below m n h = grind (arith, nat_tests)
 
 -- what a record's line shows
-abbrev shown_line : Space → Word → Option LogLine → List Shown
+abbrev shown_line : Space → Word → Option LogLine → List ShownCell
 shown_line s group None = []
 shown_line s group (Some l) = shown_list s group l
 

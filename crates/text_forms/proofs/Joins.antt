@@ -17,7 +17,7 @@ use Rattle.run_model.specs.Run.{Cycle, PortRecord}
 use Rattle.text_forms.specs.Letters.{has_letter}
 use Rattle.text_forms.specs.LogLine.{LogLine, letter_of, line_text}
 use Rattle.text_forms.specs.Lines.{ended, cycle_lines, out_line, log_bytes, out_bytes}
-use Rattle.text_forms.specs.Frames.{Shown, Picture, instants, value_until, value_at, frame_text}
+use Rattle.text_forms.specs.Frames.{ShownCell, Picture, instants, value_until, value_at, frame_text}
 use Rattle.text_forms.specs.Frames.{frames, shown_by, shown_in}
 use Rattle.text_forms.specs.TextsJoin.{FramesJoin, TextsJoin}
 use Rattle.quantity.proofs.DigitLemmas.{both}
@@ -53,10 +53,10 @@ abbrev is_after : ℕ → ℕ → Bool
 is_after time t = nat_lt time t
 
 -- a test of the times of all that was shown
-abbrev times_pass : (ℕ → Bool) → List Shown → Bool
-times_pass q ss = list_all (λ (s : Shown). q s.time) ss
+abbrev times_pass : (ℕ → Bool) → List ShownCell → Bool
+times_pass q ss = list_all (λ (s : ShownCell). q s.time) ss
 
-instants_pass : (q : ℕ → Bool) (ss : List Shown) → times_pass q ss ≡ true
+instants_pass : (q : ℕ → Bool) (ss : List ShownCell) → times_pass q ss ≡ true
     → list_all q (instants ss) ≡ true
 instants_pass q [] h = refl
 instants_pass q (s ∷ ss) h =
@@ -72,7 +72,7 @@ passes_as p q (x ∷ xs) so h =
 not_that : (time s t : ℕ) → nat_le s time ≡ true → nat_lt time t ≡ true → not (t == s) ≡ true
 not_that time s t h k = grind (arith, nat_tests)
 
-instants_join : (time : ℕ) (xs ys : List Shown) → times_pass (is_until time) xs ≡ true
+instants_join : (time : ℕ) (xs ys : List ShownCell) → times_pass (is_until time) xs ≡ true
     → times_pass (is_after time) ys ≡ true → instants (xs ++ ys) ≡ instants xs ++ instants ys
 instants_join time [] ys h k = refl
 instants_join time (x ∷ xs) ys h k =
@@ -87,13 +87,13 @@ instants_join time (x ∷ xs) ys h k =
 
 -- ---- the value of a cell
 
-later_hidden : (time t cell : ℕ) (s : Shown) → nat_le t time ≡ true → nat_lt time s.time ≡ true
+later_hidden : (time t cell : ℕ) (s : ShownCell) → nat_le t time ≡ true → nat_lt time s.time ≡ true
     → value_until t cell s ≡ None
 later_hidden time t cell s h k =
     let late : nat_le s.time t ≡ false = grind (arith, nat_tests) in
     ap (λ b. cond (b && (s.cell == cell)) (Some s.value) None) late
 
-all_hidden : (time t cell : ℕ) (ys : List Shown) → nat_le t time ≡ true
+all_hidden : (time t cell : ℕ) (ys : List ShownCell) → nat_le t time ≡ true
     → times_pass (is_after time) ys ≡ true → filter_map (value_until t cell) ys ≡ []
 all_hidden time t cell [] h k = refl
 all_hidden time t cell (y ∷ ys) h k =
@@ -101,13 +101,13 @@ all_hidden time t cell (y ∷ ys) h k =
     ap (λ o. cons_option o (filter_map (value_until t cell) ys)) (later_hidden time t cell y h m.0)
     ∙ all_hidden time t cell ys h m.1
 
-earlier_same : (time t cell : ℕ) (s : Shown) → nat_lt time t ≡ true → nat_le s.time time ≡ true
+earlier_same : (time t cell : ℕ) (s : ShownCell) → nat_lt time t ≡ true → nat_le s.time time ≡ true
     → value_until t cell s ≡ value_until time cell s
 earlier_same time t cell s h k =
     let same : nat_le s.time t ≡ nat_le s.time time = grind (arith, nat_tests) in
     ap (λ b. cond (b && (s.cell == cell)) (Some s.value) None) same
 
-all_same : (time t cell : ℕ) (xs : List Shown) → nat_lt time t ≡ true
+all_same : (time t cell : ℕ) (xs : List ShownCell) → nat_lt time t ≡ true
     → times_pass (is_until time) xs ≡ true
     → filter_map (value_until t cell) xs ≡ filter_map (value_until time cell) xs
 all_same time t cell [] h k = refl
@@ -131,7 +131,7 @@ last_or_else o (y ∷ ys) d = some_last (Some y) ys d (unwrap_or o d) y refl
     some_last o [] d e y is = ap (λ p. unwrap_or p d) is ∙ sym (ap (λ p. unwrap_or p e) is)
     some_last o (z ∷ zs) d e y is = some_last (Some z) zs d e z refl
 
-value_before : (start : ℕ → Value) (time t cell : ℕ) (xs ys : List Shown) → nat_le t time ≡ true
+value_before : (start : ℕ → Value) (time t cell : ℕ) (xs ys : List ShownCell) → nat_le t time ≡ true
     → times_pass (is_after time) ys ≡ true
     → value_at start (xs ++ ys) t cell ≡ value_at start xs t cell
 value_before start time t cell xs ys h k =
@@ -140,7 +140,7 @@ value_before start time t cell xs ys h k =
     ∙ ap (λ vs. filter_map (value_until t cell) xs ++ vs) (all_hidden time t cell ys h k)
     ∙ append-nil (filter_map (value_until t cell) xs))
 
-value_after : (start : ℕ → Value) (time t cell : ℕ) (xs ys : List Shown) → nat_lt time t ≡ true
+value_after : (start : ℕ → Value) (time t cell : ℕ) (xs ys : List ShownCell) → nat_lt time t ≡ true
     → times_pass (is_until time) xs ≡ true
     → value_at start (xs ++ ys) t cell ≡ value_at (value_at start xs time) ys t cell
 value_after start time t cell xs ys h k =
@@ -162,7 +162,7 @@ flat_map_same f g q (t ∷ ts) same h =
     ap (λ bs. bs ++ flat_map f ts) (same t k.0)
     ∙ ap (λ bs. g t ++ bs) (flat_map_same f g q ts same k.1)
 
-frames_shown : (p : Picture) (start : ℕ → Value) (time : ℕ) (xs ys : List Shown)
+frames_shown : (p : Picture) (start : ℕ → Value) (time : ℕ) (xs ys : List ShownCell)
     → times_pass (is_until time) xs ≡ true → times_pass (is_after time) ys ≡ true
     → frames p start (xs ++ ys) ≡ frames p start xs ++ frames p (value_at start xs time) ys
 frames_shown p start time xs ys h k =
@@ -188,7 +188,7 @@ shown_at_time q s first t (r ∷ rs) h =
     one (nat_le first r.leaf && nat_lt r.leaf (first + cell_count s))
     (shown_at_time q s first t rs h)
   where
-    rest : List Shown
+    rest : List ShownCell
     rest = filter_map (shown_by s first t) rs
 
     one : (b : Bool) → times_pass q rest ≡ true
@@ -205,7 +205,7 @@ shown_pass : (q : ℕ → Bool) (s : Space) (first : ℕ) (cs : List Cycle)
 shown_pass q s first [] h = refl
 shown_pass q s first (c ∷ cs) h =
     let k = both (q c.time) (list_all (λ (c : Cycle). q c.time) cs) h in
-    list_all-append (λ (s : Shown). q s.time) (filter_map (shown_by s first c.time) c.y)
+    list_all-append (λ (s : ShownCell). q s.time) (filter_map (shown_by s first c.time) c.y)
     (shown_in s first cs)
     ∙ and_true _ _ (shown_at_time q s first c.time c.y k.0) (shown_pass q s first cs k.1)
 

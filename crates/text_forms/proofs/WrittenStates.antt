@@ -11,7 +11,7 @@ use Rattle.std.proofs.lemmas.Fmt.{decimal_is_IsNumeral_wide}
 use Rattle.std.specs.Str.Parse.{digits_value}
 use Rattle.quantity.specs.declared.value.Value.{Value}
 use Rattle.quantity.specs.Bytes.{Bytes}
-use Rattle.quantity.specs.Written.{is_digit, number_at_most, number_in, for_some}
+use Rattle.quantity.specs.Written.{is_digit, number_at_most, number_up_to, for_some}
 use Rattle.quantity.specs.Times.{time_text, read_time}
 use Rattle.quantity.specs.ValueTexts.{text5, guessed_value, signed_in, positive, negative}
 use Rattle.model_tree.specs.Tree.{Tree, Leaf, atomic_leaf, cell_leaf, leaves}
@@ -40,7 +40,7 @@ some_digit ds h = grind (arith, nat_tests)
 decimal_some : (n : ℕ) → n < 10 ^ 64 → nat_lt 0 (length (decimal n)) ≡ true
 decimal_some n lt = some_digit (decimal n) (decimal_is_IsNumeral_wide n lt).0.0
 
-number_back : (most n : ℕ) → n ≤ most → n < 10 ^ 64 → number_in most (decimal n) ≡ Some n
+number_back : (most n : ℕ) → n ≤ most → n < 10 ^ 64 → number_up_to most (decimal n) ≡ Some n
 number_back most n le lt =
     ap (λ b. cond b (number_at_most most (digits_value 10 (decimal n))) None) (and_true _ _ (decimal_digits n lt) (decimal_some n lt))
     ∙ ap (number_at_most most) (decimal_is_IsNumeral_wide n lt).1 ∙ at_most most n le
@@ -48,9 +48,9 @@ number_back most n le lt =
 no_minus : (c : ℕ) → is_digit c ≡ true → (c == 45) ≡ false
 no_minus c e = grind (arith, nat_tests)
 
-signed_digits : (most : ℕ) (ds : Bytes) → list_all is_digit ds ≡ true → nat_lt 0 (length ds) ≡ true → signed_in most ds ≡ positive (number_in most ds)
+signed_digits : (most : ℕ) (ds : Bytes) → list_all is_digit ds ≡ true → nat_lt 0 (length ds) ≡ true → signed_in most ds ≡ positive (number_up_to most ds)
 signed_digits most [] h l = absurd cc
-signed_digits most (d ∷ ds) h l = ap (λ b. cond b (negative (number_in most ds)) (positive (number_in most (d ∷ ds)))) (no_minus d (both (is_digit d) (list_all is_digit ds) h).0)
+signed_digits most (d ∷ ds) h l = ap (λ b. cond b (negative (number_up_to most ds)) (positive (number_up_to most (d ∷ ds)))) (no_minus d (both (is_digit d) (list_all is_digit ds) h).0)
 
 word_back : (w : ℤ) → is_word w ≡ true → signed_in (10 ^ 17) (signed_decimal w) ≡ Some w
 word_back (pos n) h =
@@ -104,8 +104,8 @@ port_back p rest h =
     let c = both (is_value p.emitted) (is_value p.computed) b.0 in
     let n = count_small (length p.pairs) a.1 in
     let words = flat_map pair_words p.pairs ++ rest in
-    ap (λ o. for_some o (λ e. for_some (guessed_value (text5 p.computed)) (λ s. for_some (number_in (10 ^ 9) (decimal (length p.pairs))) (λ n. for_some (pairs_in n words) (λ (ps, rest). Some (record { emitted = e; computed = s; pairs = ps }, rest)))))) (value_back p.emitted c.0)
-    ∙ ap (λ o. for_some o (λ s. for_some (number_in (10 ^ 9) (decimal (length p.pairs))) (λ n. for_some (pairs_in n words) (λ (ps, rest). Some (record { emitted = p.emitted; computed = s; pairs = ps }, rest))))) (value_back p.computed c.1)
+    ap (λ o. for_some o (λ e. for_some (guessed_value (text5 p.computed)) (λ s. for_some (number_up_to (10 ^ 9) (decimal (length p.pairs))) (λ n. for_some (pairs_in n words) (λ (ps, rest). Some (record { emitted = e; computed = s; pairs = ps }, rest)))))) (value_back p.emitted c.0)
+    ∙ ap (λ o. for_some o (λ s. for_some (number_up_to (10 ^ 9) (decimal (length p.pairs))) (λ n. for_some (pairs_in n words) (λ (ps, rest). Some (record { emitted = p.emitted; computed = s; pairs = ps }, rest))))) (value_back p.computed c.1)
     ∙ ap (λ o. for_some o (λ n. for_some (pairs_in n words) (λ (ps, rest). Some (record { emitted = p.emitted; computed = p.computed; pairs = ps }, rest)))) (number_back (10 ^ 9) (length p.pairs) n.0 n.1)
     ∙ ap (λ o. for_some o (λ (ps, rest). Some (record { emitted = p.emitted; computed = p.computed; pairs = ps }, rest))) (pairs_back p.pairs rest b.1)
 

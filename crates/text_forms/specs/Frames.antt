@@ -19,7 +19,7 @@ use Rattle.text_forms.specs.LogLine.{LogLine, given, moved, read_line}
 use Rattle.text_forms.specs.Lines.{ended}
 
 -- a cell of the group gave this value at `out`
-pub record Shown : Type 0 where
+pub record ShownCell : Type 0 where
   pub time : ℕ
   pub cell : ℕ
   pub value : Value
@@ -34,16 +34,16 @@ pub record Picture : Type 0 where
 -- ---- frames
 
 -- each instant once
-abbrev pub instants : List Shown → List ℕ
+abbrev pub instants : List ShownCell → List ℕ
 instants [] = []
 instants (s ∷ ss) = s.time ∷ filter (λ t. not (t == s.time)) (instants ss)
 
 -- the value of a cell, where it was shown by this time
-abbrev pub value_until : ℕ → ℕ → Shown → Option Value
+abbrev pub value_until : ℕ → ℕ → ShownCell → Option Value
 value_until t cell s = if nat_le s.time t && (s.cell == cell) then Some s.value else None
 
 -- the last value of the cell up to the end of the instant, or else its value at the start
-abbrev pub value_at : (ℕ → Value) → List Shown → ℕ → ℕ → Value
+abbrev pub value_at : (ℕ → Value) → List ShownCell → ℕ → ℕ → Value
 value_at start shown t cell =
     unwrap_or (last_or None (filter_map (value_until t cell) shown)) (start cell)
 
@@ -67,20 +67,20 @@ frame_text p t value =
     ++ flat_map (row_text p value) (range_with_len 0 p.space.rows) ++ edge p ++ ended []
 
 -- a frame for each instant
-abbrev pub frames : Picture → (ℕ → Value) → List Shown → Bytes
+abbrev pub frames : Picture → (ℕ → Value) → List ShownCell → Bytes
 frames p start shown = flat_map (λ t. frame_text p t (value_at start shown t)) (instants shown)
 
 -- ---- of cycles: the group's first cell has this leaf number
 
 -- what a record shows of the cells of a group
-abbrev pub shown_by : Space → ℕ → ℕ → PortRecord → Option Shown
+abbrev pub shown_by : Space → ℕ → ℕ → PortRecord → Option ShownCell
 shown_by s first time r =
     if nat_le first r.leaf && nat_lt r.leaf (first + cell_count s)
     then Some (record { time = time; cell = r.leaf - first; value = r.value })
     else None
 
 -- what cycles show
-abbrev pub shown_in : Space → ℕ → List Cycle → List Shown
+abbrev pub shown_in : Space → ℕ → List Cycle → List ShownCell
 shown_in s first cycles = flat_map (λ (c : Cycle). filter_map (shown_by s first c.time) c.y) cycles
 
 -- the frames of cycles
@@ -98,7 +98,7 @@ cell_of s (i ∷ j ∷ k ∷ []) =
 cell_of s at = None
 
 -- what a line shows: nothing, a value of a cell, or it is refused
-abbrev pub shown_at : ℕ → Value → Option ℕ → Option (List Shown)
+abbrev pub shown_at : ℕ → Value → Option ℕ → Option (List ShownCell)
 shown_at time v None = None
 shown_at time v (Some cell) = Some (record { time = time; cell = cell; value = v } ∷ [])
 
@@ -108,7 +108,7 @@ is_drawn Y = true
 is_drawn letter = false
 
 -- what a line shows of a group
-abbrev pub shown_of : Space → Word → LogLine → Option (List Shown)
+abbrev pub shown_of : Space → Word → LogLine → Option (List ShownCell)
 shown_of s group (moved time leaf state next) = Some []
 shown_of s group (given letter time leaf port v) =
     if is_drawn letter && bytes_eq leaf.name group
@@ -126,18 +126,19 @@ not_before t None = None
 not_before t (Some l) = if nat_le t (line_time l) then Some l else None
 
 -- what a line shows, before what those behind it show
-abbrev pub and_shown : ℕ → Option (List Shown) → Result (List Shown) ℕ → Result (List Shown) ℕ
+abbrev pub and_shown : ℕ → Option (List ShownCell) → Result (List ShownCell) ℕ
+    → Result (List ShownCell) ℕ
 and_shown line None more = Err line
 and_shown line (Some here) (Err later) = Err later
 and_shown line (Some here) (Ok more) = Ok (here ++ more)
 
 -- nothing stands behind the last line end
-abbrev pub only_end : ℕ → Bytes → Result (List Shown) ℕ
+abbrev pub only_end : ℕ → Bytes → Result (List ShownCell) ℕ
 only_end line [] = Ok []
 only_end line (c ∷ cs) = Err line
 
 -- what the lines show, or the number of the first that is refused; the last part has no line end
-abbrev pub lines_from : Space → Word → ℕ → ℕ → List Bytes → Result (List Shown) ℕ
+abbrev pub lines_from : Space → Word → ℕ → ℕ → List Bytes → Result (List ShownCell) ℕ
 lines_from s group line before [] = Ok []
 lines_from s group line before (part ∷ []) = only_end line part
 lines_from s group line before (part ∷ next ∷ more) =
@@ -148,7 +149,7 @@ lines_from s group line before (part ∷ next ∷ more) =
     ]
 
 -- the frames of what is shown
-abbrev pub drawn_lines : Picture → Result (List Shown) ℕ → Result Bytes ℕ
+abbrev pub drawn_lines : Picture → Result (List ShownCell) ℕ → Result Bytes ℕ
 drawn_lines p (Err line) = Err line
 drawn_lines p (Ok shown) = Ok (frames p (λ cell. Undefined) shown)
 

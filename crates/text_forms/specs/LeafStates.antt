@@ -1,6 +1,7 @@
 -- Which states of a leaf may be saved at a time: its delay lists and its next time lie after it.
 use Rattle.std.specs.Prelude.{◌≡◌, ℕ, suc, ◌^◌, Bool, true, false, ◌&&◌, ◌==◌, nat_lt, nat_le, IsTrue, Option, Some, None, List, [], ◌∷◌, length, ℤ, unsigned_abs}
 use Rattle.std.specs.List.{list_all}
+use Rattle.quantity.specs.declared.bounds.TheConstants.{MAX_TIME}
 use Rattle.quantity.specs.declared.value.Value.{Value}
 use Rattle.atomic_face.specs.Classes.{next_of}
 use Rattle.model_tree.specs.Tree.{Tree, Leaf, atomic_leaf, cell_leaf, leaves}
@@ -13,7 +14,7 @@ use Rattle.text_forms.specs.Lines.{leaf_name}
 -- times rise, after this one
 abbrev pub rises : ℕ → List (ℕ × Value) → Bool
 rises before [] = true
-rises before (p ∷ ps) = nat_lt before p.0 && nat_le p.0 719999998 && rises p.0 ps
+rises before (p ∷ ps) = nat_lt before p.0 && nat_le p.0 MAX_TIME && rises p.0 ps
 
 -- its pairs are later than this time
 abbrev pub is_port_state : ℕ → PortState → Bool
@@ -29,14 +30,16 @@ abbrev pub is_leaf_state : ℕ → Leaf → LeafState → Bool
 is_leaf_state t (atomic_leaf name class settings) (box_state b) =
     is_box_state class settings b.state && is_later t (next_of class b.state)
 is_leaf_state t (cell_leaf g first cell) (cell_state c) =
-    list_all (is_port_state t) c.ports && (length c.ports == suc (length g.ports)) && (length c.variables == length g.variables)
+    list_all (is_port_state t) c.ports && (length c.ports == suc (length g.ports))
+    && (length c.variables == length g.variables)
 is_leaf_state t l s = false
 
 -- ---- and its numbers are in range
 
 -- each has a text
 abbrev pub has_values_in_range : PortState → Bool
-has_values_in_range p = is_value p.emitted && is_value p.computed && list_all (λ (q : ℕ × Value). is_value q.1) p.pairs
+has_values_in_range p =
+    is_value p.emitted && is_value p.computed && list_all (λ (q : ℕ × Value). is_value q.1) p.pairs
 
 -- at most 10^17
 abbrev pub is_word : ℤ → Bool
@@ -45,9 +48,12 @@ is_word w = nat_le (unsigned_abs w) (10 ^ 17)
 -- a state of this leaf, of its class and settings
 abbrev pub IsStateOf : ℕ → Leaf → LeafState → Type 0
 IsStateOf t (atomic_leaf name class settings) (box_state b) =
-    (b.kind ≡ class) × (b.settings ≡ settings) × IsTrue (is_leaf_state t (atomic_leaf name class settings) (box_state b)) × IsTrue (list_all is_word b.state)
+    (b.kind ≡ class) × (b.settings ≡ settings)
+    × IsTrue (is_leaf_state t (atomic_leaf name class settings) (box_state b))
+    × IsTrue (list_all is_word b.state)
 IsStateOf t (cell_leaf g first cell) (cell_state c) =
-    IsTrue (is_leaf_state t (cell_leaf g first cell) (cell_state c)) × IsTrue (list_all has_values_in_range c.ports) × IsTrue (list_all is_value c.variables)
+    IsTrue (is_leaf_state t (cell_leaf g first cell) (cell_state c))
+    × IsTrue (list_all has_values_in_range c.ports) × IsTrue (list_all is_value c.variables)
 IsStateOf t l s = ⊥
 
 -- the leaves have names that may be written

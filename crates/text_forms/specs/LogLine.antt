@@ -6,6 +6,7 @@ use Rattle.std.specs.Prelude.{codes}
 use Rattle.std.specs.List.{slice_split, list_all, filter, join_with_byte}
 use Rattle.std.specs.Str.{bytes_eq}
 use Rattle.std.specs.Str.Parse.{digits_value}
+use Rattle.quantity.specs.declared.bounds.TheConstants.{MAX_TIME}
 use Rattle.quantity.specs.declared.value.Value.{Value}
 use Rattle.quantity.specs.declared.value.Value.TheVariants.{Undefined, Num}
 use Rattle.quantity.specs.Bytes.{Bytes}
@@ -89,7 +90,7 @@ is_value (Num x) = nat_le (unsigned_abs x) (10 ^ 15)
 
 -- at most 199:59:59:998
 abbrev pub is_time : ℕ → Bool
-is_time t = nat_le t 719999998
+is_time t = nat_le t MAX_TIME
 
 -- whether lines of this letter say a value of the leaf: N of cells alone, and S of none
 abbrev pub is_letter : Letter → LeafName → Bool

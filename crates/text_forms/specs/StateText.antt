@@ -18,7 +18,8 @@ pair_words p = decimal p.0 ∷ text5 p.1 ∷ []
 
 -- the emitted and the computed value, the number of pairs, and each pair
 abbrev pub port_words : PortState → List Bytes
-port_words p = text5 p.emitted ∷ text5 p.computed ∷ decimal (length p.pairs) ∷ flat_map pair_words p.pairs
+port_words p =
+    text5 p.emitted ∷ text5 p.computed ∷ decimal (length p.pairs) ∷ flat_map pair_words p.pairs
 
 -- a cell's ports and variables, or the words of a box's state
 abbrev pub leaf_words : Leaf → LeafState → List Bytes
@@ -36,7 +37,8 @@ at_line t = codes "at " ++ time_text t
 
 -- the lines of all leaves
 abbrev pub leaf_lines : List Leaf → List LeafState → List Bytes
-leaf_lines ls states = map (λ (p : Leaf × LeafState). leaf_line p.0 p.1) (zip ls states) ++ codes "end" ∷ []
+leaf_lines ls states =
+    map (λ (p : Leaf × LeafState). leaf_line p.0 p.1) (zip ls states) ++ codes "end" ∷ []
 
 -- all lines
 abbrev pub state_lines : ℕ → List Leaf → List LeafState → List Bytes

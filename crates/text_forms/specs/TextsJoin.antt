@@ -12,10 +12,14 @@ abbrev pub FramesJoin : Type 0
 FramesJoin =
     (p : Picture) (first : ℕ) (start : ℕ → Value) (time : ℕ) (cs ds : List Cycle)
     → All (λ (c : Cycle). c.time ≤ time) cs → All (λ (c : Cycle). time < c.time) ds
-    → frames_of p first start (cs ++ ds) ≡ frames_of p first start cs ++ frames_of p first (value_at start (shown_in p.space first cs) time) ds
+    → frames_of p first start (cs ++ ds)
+    ≡ frames_of p first start cs ++ frames_of p first
+    (value_at start (shown_in p.space first cs) time) ds
 
 -- texts of cycles one after another are the texts of all
 pub record TextsJoin : Type 0 where
-  pub log : (tree : Tree) (letters : List ℕ) (cs ds : List Cycle) → log_bytes tree letters (cs ++ ds) ≡ log_bytes tree letters cs ++ log_bytes tree letters ds
-  pub out : (tree : Tree) (cs ds : List Cycle) → out_bytes tree (cs ++ ds) ≡ out_bytes tree cs ++ out_bytes tree ds
+  pub log : (tree : Tree) (letters : List ℕ) (cs ds : List Cycle)
+      → log_bytes tree letters (cs ++ ds) ≡ log_bytes tree letters cs ++ log_bytes tree letters ds
+  pub out : (tree : Tree) (cs ds : List Cycle)
+      → out_bytes tree (cs ++ ds) ≡ out_bytes tree cs ++ out_bytes tree ds
   pub frames : FramesJoin

@@ -6,8 +6,8 @@ use crate::status::{DONE, NO_MEMORY};
 use room_edge::{Room, WriteAll, show_all};
 use std::alloc::Global;
 
-/// Shows all of some bytes, with which the program ends: done; or the status of a write fault, of which
-/// a line tells; or that of want of memory.
+/// Shows all of some bytes, with which the program ends: done; or the status of a write fault, of
+/// which a line tells; or that of want of memory.
 pub fn show<R: Room>(alloc: Global, room: &mut R, bytes: &[u8]) -> u8
     ensures { ShowsEnd bytes.now 0 (R.outside room.old) (R.outside room.new) result }
 {

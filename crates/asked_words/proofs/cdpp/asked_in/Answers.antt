@@ -5,7 +5,7 @@ use Rattle.clap.specs.Words.{rows_of, found_of}
 use Rattle.quantity.specs.Times.{time_in}
 use Rattle.quantity.specs.Written.{for_some}
 use Rattle.answer_model.specs.Asked.{source_in, frames_in, needed, or_else, number, letters_in, differ_all, value_of}
-use Rattle.asked_words.specs.Shown.{name_of, source_of, frames_of}
+use Rattle.asked_words.specs.Shown.{text_of_name, source_of, frames_of}
 use Rattle.asked_words.specs.Looking.{looks_of}
 use Rattle.asked_words.proofs.Matched.{value_is}
 use Rattle.asked_words.proofs.Asking.{names_same, frames_same, asked_same, upto, unlooked, framed, unframed, differing, same_names}
@@ -18,7 +18,7 @@ returns-in_default-looks_in-clause-value c =
     let m = c.get_str-model.ensures ∙ value_is f (codes "m") in
     let g = c.get_str.ensures ∙ value_is f (codes "G") in
     let first = upto rows _ _ _ _
-    (sym (c.in-Some.ensures.source ∙ ap (λ o. source_in o (name_of c.get_str.result)) m ∙ ap (source_in _) g))
+    (sym (c.in-Some.ensures.source ∙ ap (λ o. source_in o (text_of_name c.get_str.result)) m ∙ ap (source_in _) g))
     (sym (c.in-Some-end_in.ensures.value ∙ ap (needed time_in) (c.get_str-2.ensures ∙ value_is f (codes "t"))))
     (sym (c.in-Some-letters_or_y.ensures.value ∙ ap (or_else (codes "Y") letters_in) (c.get_str-3.ensures ∙ value_is f (codes "L"))))
     (sym (c.in-Some-number_or.ensures.value ∙ ap (or_else 10000 (number 1 1000000)) (c.get_str-4.ensures ∙ value_is f (codes "c")))) in
@@ -31,7 +31,7 @@ returns-in_default-2-clause-value c =
     let m = c.get_str-model.ensures ∙ value_is f (codes "m") in
     let g = c.get_str.ensures ∙ value_is f (codes "G") in
     let first = upto rows _ _ _ _
-    (sym (c.in-Some.ensures.source ∙ ap (λ o. source_in o (name_of c.get_str.result)) m ∙ ap (source_in _) g))
+    (sym (c.in-Some.ensures.source ∙ ap (λ o. source_in o (text_of_name c.get_str.result)) m ∙ ap (source_in _) g))
     (sym (c.in-Some-end_in.ensures.value ∙ ap (needed time_in) (c.get_str-2.ensures ∙ value_is f (codes "t"))))
     (sym (c.in-Some-letters_or_y.ensures.value ∙ ap (or_else (codes "Y") letters_in) (c.get_str-3.ensures ∙ value_is f (codes "L"))))
     (sym (c.in-Some-number_or.ensures.value ∙ ap (or_else 10000 (number 1 1000000)) (c.get_str-4.ensures ∙ value_is f (codes "c")))) in
@@ -48,7 +48,7 @@ returns-then-not-names_differ-clause-value c =
     let m = c.get_str-model.ensures ∙ value_is f (codes "m") in
     let g = c.get_str.ensures ∙ value_is f (codes "G") in
     let first = upto rows _ _ _ _
-    (sym (c.in-Some.ensures.source ∙ ap (λ o. source_in o (name_of c.get_str.result)) m ∙ ap (source_in _) g))
+    (sym (c.in-Some.ensures.source ∙ ap (λ o. source_in o (text_of_name c.get_str.result)) m ∙ ap (source_in _) g))
     (sym (c.in-Some-end_in.ensures.value ∙ ap (needed time_in) (c.get_str-2.ensures ∙ value_is f (codes "t"))))
     (sym (c.in-Some-letters_or_y.ensures.value ∙ ap (or_else (codes "Y") letters_in) (c.get_str-3.ensures ∙ value_is f (codes "L"))))
     (sym (c.in-Some-number_or.ensures.value ∙ ap (or_else 10000 (number 1 1000000)) (c.get_str-4.ensures ∙ value_is f (codes "c")))) in
@@ -70,7 +70,7 @@ returns-clause-value c =
     let m = c.get_str-model.ensures ∙ value_is f (codes "m") in
     let g = c.get_str.ensures ∙ value_is f (codes "G") in
     let first = upto rows _ _ _ _
-    (sym (c.in-Some.ensures.source ∙ ap (λ o. source_in o (name_of c.get_str.result)) m ∙ ap (source_in _) g))
+    (sym (c.in-Some.ensures.source ∙ ap (λ o. source_in o (text_of_name c.get_str.result)) m ∙ ap (source_in _) g))
     (sym (c.in-Some-end_in.ensures.value ∙ ap (needed time_in) (c.get_str-2.ensures ∙ value_is f (codes "t"))))
     (sym (c.in-Some-letters_or_y.ensures.value ∙ ap (or_else (codes "Y") letters_in) (c.get_str-3.ensures ∙ value_is f (codes "L"))))
     (sym (c.in-Some-number_or.ensures.value ∙ ap (or_else 10000 (number 1 1000000)) (c.get_str-4.ensures ∙ value_is f (codes "c")))) in

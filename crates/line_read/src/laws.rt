@@ -1,0 +1,7 @@
+// Calls that name the definitions.
+ghost use Rattle.line_read.specs.LineExamples.{LinesAsSaid};
+
+/// Lines of a cell of three dimensions, written and read back.
+pub fn lines_of_three_coordinates()
+    ensures { LinesAsSaid }
+{}

@@ -1,5 +1,0 @@
-use Rattle.record_text.proofs.UsualForms.{coordinate_as_read}
-use Rattle.record_text.proofs.leaf_name.coordinate.Goals as goal
-
-pub returns-in-Some : goal.returns-in-Some
-returns-in-Some c = coordinate_as_read c.args.text.now c.in-Some.number c.in-Some.ensures.0 c.in-Some.ensures.1
