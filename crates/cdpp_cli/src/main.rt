@@ -1,4 +1,5 @@
-//! The program over the real folder, with a stock of 4096 boxes of each class: docs/COMMANDS.md has its words.
+//! The program over the real folder, with a stock of 4096 boxes of each class: docs/COMMANDS.md has
+//! its words.
 #![tactic(auto)]
 
 ghost use Rattle.std.specs.Prelude.{◌≡◌, ◌<◌, ◌^◌, length};
@@ -38,8 +39,8 @@ fn counted<L: Ledger>(
     cdpp(alloc, words, boxes, room, &mut steps)
 }
 
-/// The words of the command line. Where one of them is no text, the name of the program stands alone, so
-/// that the program refuses them as all others that it doesn't take.
+/// The words of the command line. Where one of them is no text, the name of the program stands
+/// alone, so that the program refuses them as all others that it doesn't take.
 fn words_of(rt: &(impl AllocGlobal + Env)) -> Result<Vec<String>, OutOfMemory> {
     let mut words: Vec<String> = Vec::new(rt.alloc());
     match env::args(rt) {

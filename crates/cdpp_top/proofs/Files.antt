@@ -17,7 +17,7 @@ use Rattle.event_list.specs.declared.refusal.EventRefusal.TheVariants as E
 use Rattle.event_list.specs.Events as list
 use Rattle.event_list.specs.Events.{event_at, file_refused, by_time, events_of}
 use Rattle.asked_words.specs.declared.asked.Asked as code
-use Rattle.asked_words.specs.Shown.{name_of, asked_of}
+use Rattle.asked_words.specs.Shown.{text_of_name, asked_of}
 use Rattle.answer_model.specs.Answer.{Answer, with_file, only_complains, unless_refused}
 use Rattle.answer_model.specs.Asked.{Asked}
 use Rattle.answer_model.specs.Cdpp.{with_events, with_state, answer_from, answer_with}
@@ -48,8 +48,8 @@ names_are : (x : code.Asked) (files : Files) (tree : Tree) (inputs : List Word) 
 names_are x files tree inputs None = refl
 names_are x files tree inputs (Some name) = bytes_are x files tree inputs name (files name)
 
-pub answer_is : (x : code.Asked) (files : Files) (tree : Tree) (inputs : List Word) → answer_with (asked_of x) files tree inputs ≡ with_those (asked_of x) files tree inputs (name_of x.events)
-answer_is x files tree inputs = names_are x files tree inputs (name_of x.events)
+pub answer_is : (x : code.Asked) (files : Files) (tree : Tree) (inputs : List Word) → answer_with (asked_of x) files tree inputs ≡ with_those (asked_of x) files tree inputs (text_of_name x.events)
+answer_is x files tree inputs = names_are x files tree inputs (text_of_name x.events)
 
 -- ---- the names looked for
 
@@ -71,7 +71,7 @@ those_begin a files tree inputs (Some name) = (name ∷ [], file_inputs a tree n
 
 -- the names looked for before are those that the answer begins with
 pub answer_begins : (x : code.Asked) (files : Files) (tree : Tree) (inputs : List Word) → Begins inputs (answer_with (asked_of x) files tree inputs).inputs
-answer_begins x files tree inputs = subst (λ (a : Answer). Begins inputs a.inputs) (sym (answer_is x files tree inputs)) (those_begin (asked_of x) files tree inputs (name_of x.events))
+answer_begins x files tree inputs = subst (λ (a : Answer). Begins inputs a.inputs) (sym (answer_is x files tree inputs)) (those_begin (asked_of x) files tree inputs (text_of_name x.events))
 
 -- ---- events that can't be read
 
@@ -95,13 +95,13 @@ events_stop a tree inputs E.Memory read old new s is (own, same) =
 
 -- ---- with a file of events, and without
 
-pub no_events : (x : code.Asked) (files : Files) (tree : Tree) (inputs : List Word) (events : List Event) (old new : Outside) (s : ℕ) → name_of x.events ≡ None → events ≡ []
+pub no_events : (x : code.Asked) (files : Files) (tree : Tree) (inputs : List Word) (events : List Event) (old new : Outside) (s : ℕ) → text_of_name x.events ≡ None → events ≡ []
     → EndsWith (answer_from (asked_of x) tree events inputs None) (looked_for inputs) old new s → EndsWith (answer_with (asked_of x) files tree inputs) (looked_for inputs) old new s
 no_events x files tree inputs events old new s is none ends =
     subst (λ (a : Answer). EndsWith a (looked_for inputs) old new s) (sym (answer_is x files tree inputs ∙ ap (with_those (asked_of x) files tree inputs) is))
     (subst (λ (es : List Event). EndsWith (answer_from (asked_of x) tree es inputs None) (looked_for inputs) old new s) none ends)
 
-pub some_events : (x : code.Asked) (files : Files) (tree : Tree) (inputs : List Word) (name : Word) (old new : Outside) (s : ℕ) → name_of x.events ≡ Some name
+pub some_events : (x : code.Asked) (files : Files) (tree : Tree) (inputs : List Word) (name : Word) (old new : Outside) (s : ℕ) → text_of_name x.events ≡ Some name
     → EndsWith (answer_by_file (asked_of x) tree name inputs (files name)) (looked_for inputs) old new s → EndsWith (answer_with (asked_of x) files tree inputs) (looked_for inputs) old new s
 some_events x files tree inputs name old new s is ends =
     subst (λ (a : Answer). EndsWith a (looked_for inputs) old new s) (sym (answer_is x files tree inputs ∙ ap (with_those (asked_of x) files tree inputs) is)) ends

@@ -27,7 +27,7 @@ use Rattle.answer_model.proofs.Outcomes.{none_begun}
 use Rattle.room_edge.specs.Outside.{Outside}
 use Rattle.answer_model.specs.Cdpp.{answer_from}
 use Rattle.run_files.specs.declared.outputs.Outputs.{Outputs}
-use Rattle.run_files.specs.AskedFiles.{name_of}
+use Rattle.run_files.specs.AskedFiles.{text_of_name}
 use Rattle.run_files.specs.Groups.{CanShow}
 use Rattle.run_loop.specs.Asks.{AreOutputsOf, names_asked, frames_name}
 use Rattle.run_loop.specs.Answers.{MayRun, answer_to}
@@ -65,7 +65,7 @@ starts_from a stock m routes events leaves waiting may at counted waits =
 same_names : (a : Asked) (o : Outputs) → AreOutputsOf (asked_of a) o → made_names a ≡ names_asked o
 same_names a o are =
     let frames = sym (name_asked a.frames) ∙ ap (option_map (λ (f : A.FramesFile). f.name)) are.frames ∙ name_made o.frames in
-    (λ i. given_names (are.log i) (are.out i) (frames i)) ∙ given_are (name_of o.log) (name_of o.out) (frames_name o.frames)
+    (λ i. given_names (are.log i) (are.out i) (frames i)) ∙ given_are (text_of_name o.log) (text_of_name o.out) (frames_name o.frames)
 
 -- ---- the run
 

@@ -3,18 +3,18 @@ use Rattle.std.proofs.Common.{◌≡◌, ℕ, zero, suc, ◌≤◌, Some, None, 
 use Rattle.std.specs.Prelude.{Contains, codes}
 use Rattle.atomic_face.specs.declared.class.Class.{Class}
 use Rattle.model_tree.specs.Tree.{Word}
-use Rattle.room_edge.specs.Outside.{Folder}
+use Rattle.room_edge.specs.Outside.{Files}
 use Rattle.text_forms.specs.Lines.{ended}
 use Rattle.answer_model.specs.Asked.{Asked, asked, usage}
 use Rattle.answer_model.specs.Answer.{if_asked, only_complains}
 use Rattle.answer_model.specs.Cdpp.{answer_to, answer_by, answer}
 use Rattle.cdpp_top.specs.Statuses.{read_statuses}
 
-pub asked_answer : (words : List Word) (files : Folder) (classes : List Class) (a : Asked) → Some a ≡ asked words → answer words files classes ≡ answer_to a files classes
+pub asked_answer : (words : List Word) (files : Files) (classes : List Class) (a : Asked) → Some a ≡ asked words → answer words files classes ≡ answer_to a files classes
 unfolding answer_by
 asked_answer words files classes a is = ap (λ o. if_asked usage o (λ a. answer_to a files classes)) (sym is)
 
-pub refused_answer : (words : List Word) (files : Folder) (classes : List Class) → None ≡ asked words → answer words files classes ≡ only_complains 2 (codes "usage: " ++ usage) []
+pub refused_answer : (words : List Word) (files : Files) (classes : List Class) → None ≡ asked words → answer words files classes ≡ only_complains 2 (codes "usage: " ++ usage) []
 unfolding answer_by
 refused_answer words files classes is = ap (λ o. if_asked usage o (λ a. answer_to a files classes)) (sym is)
 

@@ -5,7 +5,8 @@ use Rattle.room_edge.specs.Outside.{Outside}
 use Rattle.answer_model.specs.Headline.{WritesNothing}
 use Rattle.run_loop.specs.Answers.{run_statuses}
 
--- once the words are taken: a file missing, a read fault, the model refused, the events refused, or those of a run
+-- once the words are taken: a file missing, a read fault, the model refused, the events refused, or
+-- those of a run
 abbrev pub read_statuses : List ℕ
 read_statuses = 3 ∷ 4 ∷ 6 ∷ 7 ∷ run_statuses
 
@@ -13,7 +14,8 @@ read_statuses = 3 ∷ 4 ∷ 6 ∷ 7 ∷ run_statuses
 abbrev pub statuses : List ℕ
 statuses = 2 ∷ read_statuses
 
--- how the program ends once the words are taken: each status has its cause, and on a read fault nothing is written
+-- how the program ends once the words are taken: each status has its cause, and on a read fault
+-- nothing is written
 pub record EndsBy (old new : Outside) (status : ℕ) : Type 0 where
   pub known : Contains read_statuses status
   pub missing : status ≡ 3 → MissCounted old new

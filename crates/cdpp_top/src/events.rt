@@ -1,5 +1,6 @@
 // The events of a run, and the run.
 ghost use Rattle.std.specs.Prelude.{◌≡◌, ◌+◌, ◌≤◌, List, IfSome, length};
+ghost use Rattle.quantity.specs.declared.bounds.TheConstants.{MAX_FILE_BYTES};
 ghost use Rattle.model_tree.specs.Tree.{Word, ins_of};
 ghost use Rattle.event_list.specs.Events.{events_of};
 ghost use Rattle.answer_model.specs.Cdpp.{answer_with};
@@ -18,6 +19,7 @@ use atomic_face::{AtomicModel, Stock};
 use event_list::{EventRefusal, Events};
 use flat_run::Steps;
 use model_tree::Model;
+use quantity::MAX_FILE_BYTES;
 use room_edge::{ReadWhole, Room, read_whole};
 use route_flat::Routes;
 use std::alloc::Global;
@@ -26,7 +28,7 @@ use told_lines::complain_named;
 use told_lines::status::{MISSING, NO_MEMORY, READ_FAULT};
 
 // The most bytes that a file of events may have.
-const LONGEST: u32 = 16_777_216;
+const LONGEST: u32 = MAX_FILE_BYTES as u32;
 
 /// Reads the events, where there are to be some, and runs the model.
 pub(crate) fn run_with_events<R: Room, M: AtomicModel, L: Ledger>(
@@ -97,7 +99,7 @@ fn run_with_bytes<R: Room, M: AtomicModel, L: Ledger>(
     steps: &mut Steps<L>,
 ) -> u8
     requires start { MayStart asked.now stock model routes }
-    requires short { length bytes.now ≤ 16777216 }
+    requires short { length bytes.now ≤ MAX_FILE_BYTES }
     ensures ends { (inputs : List Word) → EndsWith
         (answer_by_events (asked_of asked.now) (tree_on model stock) inputs
         (events_of bytes.now (ins_of (tree_on model stock))))

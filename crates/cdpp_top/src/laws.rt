@@ -3,8 +3,9 @@ ghost use Rattle.answer_model.specs.AcceptedRuns.{RunsAreDrawn, FilesAreDrawn, F
 
 use answer_model::drawn::drawn_agrees_for_accepted_models;
 
-/// The frames drawn from the log of a run are those of the run, for every accepted model and its groups: with any bounded
-/// events, and with those of an accepted file. So the file of frames that a run makes is what is drawn from its log.
+/// The frames drawn from the log of a run are those of the run, for every accepted model and its
+/// groups: with any bounded events, and with those of an accepted file. So the file of frames that
+/// a run makes is what is drawn from its log.
 pub fn drawn_agrees()
     ensures runs { RunsAreDrawn }
     ensures files { FilesAreDrawn }

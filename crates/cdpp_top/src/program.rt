@@ -22,11 +22,11 @@ use std::sync::ledger::Ledger;
 use told_lines::complain;
 use told_lines::status::{NO_MEMORY, USAGE};
 
-/// Runs the program for the words of a command line, of which the first is its name, with these boxes
-/// for atomic components. Answers what a process ends with, one of `told_lines::status`: the run is
-/// done, and its end is shown; the words are refused; a file is missing; a read failed; a write
-/// failed; the model or the events are refused; a cell or a box stops the run; an instant has too many
-/// cycles; want of memory.
+/// Runs the program for the words of a command line, of which the first is its name, with these
+/// boxes for atomic components. Answers what a process ends with, one of `told_lines::status`: the
+/// run is done, and its end is shown; the words are refused; a file is missing; a read failed; a
+/// write failed; the model or the events are refused; a cell or a box stops the run; an instant has
+/// too many cycles; want of memory.
 pub fn cdpp<R: Room, L: Ledger>(
     alloc: Global,
     words: &[String],
@@ -45,8 +45,8 @@ pub fn cdpp<R: Room, L: Ledger>(
     ensures causes { Causes statuses (asked_by_words (map string_bytes words.now))
         (R.outside room.old) (R.outside room.new) result }
     ensures nothing { result ≡ 4 → WritesNothing (R.outside room.old) (R.outside room.new) }
-    // At most the visits that the reference run of what is asked for may cost: each leaf once, and then
-    // in each cycle only for the values given and for the leaves that move.
+    // At most the visits that the reference run of what is asked for may cost: each leaf once, and
+    // then in each cycle only for the values given and for the leaves that move.
     ensures visits { IfSome (R.outside room.old).files (λ files. steps.new ≤ steps.old
         + visits_for (map string_bytes words.now) files
         (classes_by (λ b. (AtomicModel-box b).held b.value) boxes.items)) }

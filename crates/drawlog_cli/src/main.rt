@@ -1,4 +1,5 @@
-//! The drawing program over the real folder: `drawlog -l LOG -g GROUP -s SIZE [-w WIDTH] [-p DECIMALS] [-f PLANE]`.
+//! The drawing program over the real folder: `drawlog -l LOG -g GROUP -s SIZE [-w WIDTH] [-p
+//! DECIMALS] [-f PLANE]`.
 #![tactic(auto)]
 
 use drawlog_top::drawlog;
@@ -10,8 +11,8 @@ use std::io::ErrorKind;
 use std::process::ExitCode;
 use told_lines::status::NO_MEMORY;
 
-/// The words of the command line. Where one of them is no text, the name of the program stands alone, so
-/// that the program refuses them as all others that it doesn't take.
+/// The words of the command line. Where one of them is no text, the name of the program stands
+/// alone, so that the program refuses them as all others that it doesn't take.
 fn words_of(rt: &(impl AllocGlobal + Env)) -> Result<Vec<String>, OutOfMemory> {
     let mut words: Vec<String> = Vec::new(rt.alloc());
     match env::args(rt) {

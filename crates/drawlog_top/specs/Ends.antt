@@ -1,4 +1,5 @@
--- How the drawing program ends, where the files are told; and the causes of its status, also where nothing is told.
+-- How the drawing program ends, where the files are told; and the causes of its status, also where
+-- nothing is told.
 use Rattle.std.specs.Prelude.{ℕ, Option, List, [], ◌∷◌, IfSome}
 use Rattle.quantity.specs.Bytes.{Bytes}
 use Rattle.model_tree.specs.Tree.{Word}

@@ -1,5 +1,6 @@
 // A log that was read is drawn.
 ghost use Rattle.std.specs.Prelude.{◌≡◌, ◌≤◌, [], ◌∷◌, length, Contains};
+ghost use Rattle.quantity.specs.declared.bounds.TheConstants.{MAX_LOG_BYTES};
 ghost use Rattle.room_edge.specs.Faults.{WriteFaultCounted};
 ghost use Rattle.frame_draw.specs.Drawing.{CanDraw};
 ghost use Rattle.answer_model.specs.Drawlog.{drawn_answer};
@@ -18,7 +19,7 @@ use told_lines::status::NO_MEMORY;
 /// Draws the frames of a log and shows them, or tells that it is refused.
 pub(crate) fn draw<R: Room>(alloc: Global, room: &mut R, asked: &AskedDrawing<'_>, log: &[u8]) -> u8
     requires picture { CanDraw asked.now.space asked.now.plane asked.now.width asked.now.decimals }
-    requires short { length log.now ≤ 268435456 }
+    requires short { length log.now ≤ MAX_LOG_BYTES }
     ensures ends { EndsWith (drawn_answer (drawing_of asked.now) log.now (asked.now.log.now ∷ []))
         (looked_for (asked.now.log.now ∷ [])) (R.outside room.old) (R.outside room.new) result }
     ensures known { Contains drawn_statuses result }

@@ -8,6 +8,3 @@ mod sure;
 
 pub use program::drawlog;
 pub use sure::drawlog_surely;
-
-#[cfg(test)]
-mod tests;

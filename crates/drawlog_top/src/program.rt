@@ -44,9 +44,9 @@ fn draw_asked<R: Room>(alloc: Global, room: &mut R, asked: &AskedDrawing<'_>) ->
 }
 
 /// Runs the drawing program for the words of a command line, of which the first is its name:
-/// `drawlog -l LOG -g GROUP -s SIZE [-w WIDTH] [-p DECIMALS] [-f PLANE]`. Answers what a process ends
-/// with, one of `told_lines::status`: the frames are shown; the words are refused; the log is missing; a
-/// read failed; a write failed; the log is refused; want of memory.
+/// `drawlog -l LOG -g GROUP -s SIZE [-w WIDTH] [-p DECIMALS] [-f PLANE]`. Answers what a process
+/// ends with, one of `told_lines::status`: the frames are shown; the words are refused; the log is
+/// missing; a read failed; a write failed; the log is refused; want of memory.
 pub fn drawlog<R: Room>(alloc: Global, words: &[String], room: &mut R) -> u8
     // Where the files are told: the answer whole, or what a fault or want of memory leaves of it,
     // with the line of that fault.

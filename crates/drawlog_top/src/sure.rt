@@ -9,7 +9,8 @@ use crate::program::drawlog;
 use room_edge::SureRoom;
 use std::alloc::Global;
 
-/// Runs the drawing program over a room that never fails: what comes is the answer, but for want of memory.
+/// Runs the drawing program over a room that never fails: what comes is the answer, but for want of
+/// memory.
 pub fn drawlog_surely(alloc: Global, words: &[String], room: &mut SureRoom) -> u8
     ensures { IfSome (sure_outside room.old).files (λ files. (result ≡ 12)
         ⊎ Writes (drawing_answer (map string_bytes words.now) files) (sure_outside room.old)

@@ -2,7 +2,7 @@ use Rattle.std.proofs.Common.{ℕ, ◌+◌, ◌≤◌, Option, List, sym, ap, su
 use Rattle.std.proofs.lemmas.Option.{IfSome_then}
 use Rattle.model_tree.specs.Tree.{Word}
 use Rattle.run_model.specs.Run.{Event}
-use Rattle.asked_words.specs.Shown.{name_of, asked_of}
+use Rattle.asked_words.specs.Shown.{text_of_name, asked_of}
 use Rattle.answer_model.specs.Endings.{looked_for, EndsWith}
 use Rattle.cdpp_top.specs.Starting.{tree_on}
 use Rattle.cdpp_top.specs.Reading.{answer_by_file}
@@ -16,7 +16,7 @@ returns-in-None-clause-ends g c =
     let old = g.R.Room.outside c.args.room.now in
     let new = g.R.Room.outside c.run_from.new.room in
     if_some_all old.files _ (λ files inputs.
-    no_events c.args.asked.now files (tree_on c.args.model c.args.stock) inputs c.none-none.result old new c.run_from.result (ap name_of c.in-None.is) c.none-none.ensures (c.run_from.ensures.ends inputs))
+    no_events c.args.asked.now files (tree_on c.args.model c.args.stock) inputs c.none-none.result old new c.run_from.result (ap text_of_name c.in-None.is) c.none-none.ensures (c.run_from.ensures.ends inputs))
 
 pub returns-in-Some-clause-ends : goal.returns-in-Some-clause-ends
 returns-in-Some-clause-ends g c =
@@ -27,7 +27,7 @@ returns-in-Some-clause-ends g c =
     let name = c.in-Some.name.now in
     let given = c.run_with_file.result in
     IfSome_then old.files {P = λ files. (inputs : List Word) → EndsWith (answer_by_file (asked_of a) tree name inputs (files name)) (looked_for inputs) old new given} c.run_with_file.ensures.ends
-    (λ files ends inputs. some_events a files tree inputs name old new given (ap name_of c.in-Some.is) (ends inputs))
+    (λ files ends inputs. some_events a files tree inputs name old new given (ap text_of_name c.in-Some.is) (ends inputs))
 
 pub returns-in-None-clause-visits : goal.returns-in-None-clause-visits
 returns-in-None-clause-visits g c =
@@ -36,7 +36,7 @@ returns-in-None-clause-visits g c =
     let tree = tree_on c.args.model c.args.stock in
     let within = λ (k : ℕ). c.run_from.new.steps ≤ c.args.steps.now + k in
     if_some_all old.files (λ files. within (visits_with a files tree)) (λ files.
-    subst (λ (o : Option Word). within (visits_by_name a files tree o)) (sym (ap name_of c.in-None.is))
+    subst (λ (o : Option Word). within (visits_by_name a files tree o)) (sym (ap text_of_name c.in-None.is))
     (subst (λ (events : List Event). within (run_visits a tree events)) c.none-none.ensures c.run_from.ensures.visits))
 
 pub returns-in-Some-clause-visits : goal.returns-in-Some-clause-visits
@@ -47,4 +47,4 @@ returns-in-Some-clause-visits g c =
     let name = c.in-Some.name.now in
     let within = λ (k : ℕ). c.run_with_file.new.steps ≤ c.args.steps.now + k in
     IfSome_then old.files {P = λ files. within (visits_by_file a tree (files name))} {Q = λ files. within (visits_with a files tree)} c.run_with_file.ensures.visits
-    (λ files v. subst (λ (o : Option Word). within (visits_by_name a files tree o)) (sym (ap name_of c.in-Some.is)) v)
+    (λ files v. subst (λ (o : Option Word). within (visits_by_name a files tree o)) (sym (ap text_of_name c.in-Some.is)) v)
