@@ -1,6 +1,7 @@
-// The run of the ring, call by call: a model that is read, a run that is made of it, and what three calls of `cycle` answer
-// and record.
+// The run of the ring, call by call: a model that is read, a run that is made of it, and what three
+// calls of `cycle` answer and record.
 ghost use Rattle.std.specs.Prelude.{◌≡◌, ◌<◌, ◌≤◌, IfOk};
+ghost use Rattle.quantity.specs.declared.bounds.TheConstants.{MAX_DELAY};
 ghost use Rattle.model_read.specs.Read.{IsReady};
 
 use atomic_face::{PortNo, Stock};
@@ -70,7 +71,7 @@ fn begun(
     end: Time,
 ) -> Result<Run, OutOfMemory>
     requires ready { IsReady stock model routes }
-    requires end { end ≤ 359999999 }
+    requires end { end ≤ MAX_DELAY }
 {
     let Ok(queue) = LinkedQueue::with_leaves(alloc, model.leaves()) else {
         return Err(OutOfMemory);

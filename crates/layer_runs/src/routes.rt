@@ -1,5 +1,5 @@
-// The routes of a model: a generator in a component with two outputs, a generator beside it, and a queue that both feed,
-// the first over two links.
+// The routes of a model: a generator in a component with two outputs, a generator beside it, and a
+// queue that both feed, the first over two links.
 ghost use Rattle.std.specs.Prelude.{◌≡◌};
 ghost use Rattle.model_tree.specs.Leaves.{OfTree};
 ghost use Rattle.route_flat.specs.Nets.{RoutesOf};

@@ -15,7 +15,8 @@ const RING_WORDS: &str = "cdpp -m row1.ma -t 00:00:00:100 -l log.txt";
 /// What a run of the ring shows.
 const RING_SHOWN: &str = "end 00:00:00:100 cycles 2\n";
 
-/// What is left of a run: its status, its complaint, and how many bytes of the log were made, if it was.
+/// What is left of a run: its status, its complaint, and how many bytes of the log were made, if it
+/// was.
 #[derive(Drop)]
 struct Left<'a> {
     status: u8,

@@ -126,7 +126,8 @@ fn with_line(alloc: Global, text: &str, place: u32, line: &str) -> Result<String
     Ok(changed)
 }
 
-/// The place of a line in the ring's model, counted from 0, what stands there, and how that is refused.
+/// The place of a line in the ring's model, counted from 0, what stands there, and how that is
+/// refused.
 const CHANGED: [(u32, &str, &str); 9] = [
     (1, "components line", "line 2: 1 BadLine\n"),
     (15, "[line]", "line 16: 2 DuplicateSection\n"),

@@ -492,7 +492,8 @@ rule : 1 100 { t }
 rule : 2 100 { t }
 ";
 
-/// Three cells with a delay that is replaced: the ends change at 10 and at 30, and the middle one counts them.
+/// Three cells with a delay that is replaced: the ends change at 10 and at 30, and the middle one
+/// counts them.
 pub(crate) const REPLACED: &str = "[top]
 components : line
 [line]

@@ -1,4 +1,5 @@
-// Whole runs, over a room in memory with two boxes of each class: what is answered to words and files.
+// Whole runs, over a room in memory with two boxes of each class: what is answered to words and
+// files.
 ghost use Rattle.std.specs.Prelude.{◌≡◌, ◌<◌, ◌^◌, length};
 
 use crate::models;

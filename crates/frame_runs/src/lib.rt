@@ -1,0 +1,7 @@
+//! Frames that are drawn: instant by instant, and by runs of `drawlog`.
+#![tactic(auto)]
+
+#[cfg(test)]
+mod drawings;
+#[cfg(test)]
+mod frames;

@@ -1,0 +1,23 @@
+// Values, times and names: each call that can want memory, once with enough of it.
+use crate::values::number;
+use quantity::{MAX_TIME, Name, Text, Time};
+use std::test::Fail;
+
+#[test]
+fn texts_are_appended(rt: HostRuntime) -> Result<(), Fail> {
+    let mut text = Vec::new(rt.alloc());
+    number(-150_000).text5(&mut text)?;
+    number(-40_000).text(0, 3, &mut text)?;
+    let latest = Time::new(MAX_TIME).ok_or("a time")?;
+    latest.text(&mut text)?;
+    assert_eq!(rt; text.as_slice(), b"-1.50000  0199:59:59:998".as_slice());
+    Ok(())
+}
+
+#[test]
+fn names_and_texts_are_copied(rt: HostRuntime) -> Result<(), Fail> {
+    let name = Name::parse(rt.alloc(), b"life-rule")?.clone()?;
+    let text = Text::copy(rt.alloc(), name.as_bytes())?.clone()?;
+    assert_eq!(rt; text.as_bytes(), b"life-rule".as_slice());
+    Ok(())
+}
