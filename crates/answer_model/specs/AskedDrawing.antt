@@ -52,7 +52,11 @@ drawing_in rows =
     for_some (or_else 0 (number 0 5) (value_of rows (codes "p"))) (λ decimals.
     for_some (or_else 0 (number 0 1048575) (value_of rows (codes "f"))) (λ plane.
     if nat_lt plane (plane_count space)
-    then Some (record { log = log; group = group; picture = record { space = space; plane = plane; width = width; decimals = decimals } })
+    then Some (record {
+      log = log;
+      group = group;
+      picture = record { space = space; plane = plane; width = width; decimals = decimals };
+    })
     else None))))))
 
 unfoldable pub asked_drawing : List Word → Option AskedDrawing

@@ -49,7 +49,15 @@ abbrev pub frames_file : Tree → Option Saved → List Cycle → FramesFile →
 frames_file tree from cycles f =
     elim (group_at f.drawing.group (leaves tree)) [
       | None ↦ []
-      | Some g ↦ (f.name, frames_of (record { space = g.1.space; plane = f.drawing.plane; width = f.width; decimals = f.decimals }) g.0 (emitted_before from g) cycles) ∷ []
+      | Some g ↦ (
+        f.name,
+        frames_of (record {
+          space = g.1.space;
+          plane = f.drawing.plane;
+          width = f.width;
+          decimals = f.decimals;
+        }) g.0 (emitted_before from g) cycles,
+      ) ∷ []
     ]
 
 -- the same, where one is asked for
@@ -74,4 +82,10 @@ made_files a tree from r =
 abbrev pub answer_of_run : Asked → Tree → List Event → Option Saved → List Word → Run → Answer
 answer_of_run a tree events from inputs r =
     let s = said a tree events r.cycles r.verdict in
-    record { made = made_files a tree from r; shown = s.shown; complained = s.complained; status = s.status; inputs = inputs }
+    record {
+      made = made_files a tree from r;
+      shown = s.shown;
+      complained = s.complained;
+      status = s.status;
+      inputs = inputs;
+    }

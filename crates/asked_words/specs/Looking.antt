@@ -30,5 +30,9 @@ looks_asked rows =
 abbrev pub drawing_with : Word → Word → Space → Looks → Option AskedDrawing
 drawing_with log group space l =
     if nat_lt l.plane (plane_count space)
-    then Some (record { log = log; group = group; picture = record { space = space; plane = l.plane; width = l.width; decimals = l.decimals } })
+    then Some (record {
+      log = log;
+      group = group;
+      picture = record { space = space; plane = l.plane; width = l.width; decimals = l.decimals };
+    })
     else None

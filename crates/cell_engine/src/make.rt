@@ -44,7 +44,8 @@ pub(crate) fn plan_of(alloc: Global, group: &CellGroup) -> Result<Plan, OutOfMem
 /// The cells of a sound group at the start.
 pub(crate) fn table_of(alloc: Global, group: &CellGroup) -> Result<CellTable, OutOfMemory>
     requires { IsTrue (is_sound_group (group_of group.now)) }
-    ensures { IfOk result (λ t. t ≡ starting group.now.initial group.now.port_values.items group.now.variable_values.items) }
+    ensures { IfOk result (λ t. t ≡ starting group.now.initial group.now.port_values.items
+        group.now.variable_values.items) }
 {
     let _most = group.grid.cells();
     let initial = group.initial.values();

@@ -29,7 +29,11 @@ pub record IsTable (t : Table) : Type 0 where
 -- the port of this number among the ports of all cells
 abbrev pub port_in : List Value → List Value → List (List (ℕ × Value)) → ℕ → PortState
 port_in emitted computed lists k =
-    record { emitted = slice_index_or emitted k Undefined; computed = slice_index_or computed k Undefined; pairs = slice_index_or lists k [] }
+    record {
+      emitted = slice_index_or emitted k Undefined;
+      computed = slice_index_or computed k Undefined;
+      pairs = slice_index_or lists k [];
+    }
 
 -- the variable of this number among the variables of all cells
 abbrev pub variable_in : List Value → ℕ → Value

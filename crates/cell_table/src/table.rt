@@ -43,10 +43,12 @@ impl Model for CellTable {
     ghost view = { λ t. record {
       width = t.width;
       variables = t.count;
-      cells = cells_in (port_in t.emitted.items t.computed.items t.delays.lists) (variable_in t.variables.items) t.width t.count t.cells;
+      cells = cells_in (port_in t.emitted.items t.computed.items t.delays.lists)
+          (variable_in t.variables.items) t.width t.count t.cells;
     } };
 
-    ghost invariant = { λ t. IsLaid t.cells t.width t.count t.emitted.items t.computed.items t.delays.lists t.variables.items };
+    ghost invariant = { λ t. IsLaid t.cells t.width t.count t.emitted.items t.computed.items
+        t.delays.lists t.variables.items };
 }
 
 impl CellTable {

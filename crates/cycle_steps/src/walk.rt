@@ -86,8 +86,8 @@ fn step<C, Q: TimeQueue, S: LeafSet, M: Leaves<C>>(
     ensures steps { (tree : AnyTree) (given : List PortRecord) → M.stands_for movers.old tree
         → is_in (S.members woken.now) leaf ≡ is_woken_at given (slice_get (leaves tree) leaf)
         → StepsOne t (M.states movers.old) (M.states movers.new) (Q.waiting queue.old)
-        (Q.waiting queue.new)
-        s.old.items s.new.items leaf (move_at tree t (M.states movers.old) given (x_records x.now) leaf) result }
+        (Q.waiting queue.new) s.old.items s.new.items leaf
+        (move_at tree t (M.states movers.old) given (x_records x.now) leaf) result }
     ensures stands { (tree : AnyTree) → M.stands_for movers.old tree
         → OnOk result (M.stands_for movers.new tree) }
     ensures kept { M.kept movers.new ≡ M.kept movers.old }

@@ -72,13 +72,20 @@ impl<Q: TimeQueue, M: AtomicModel> Model for FlatRun<Q, M> {
     ghost view = { λ r. record {
       model = r.leaves.model;
       settings = r.leaves.settings;
-      state = record { leaf_states = r.leaves.states; events = r.events; last = r.last; count = r.count };
+      state = record {
+        leaf_states = r.leaves.states;
+        events = r.events;
+        last = r.last;
+        count = r.count;
+      };
       end = r.end;
       limit = r.limit;
       stopped = r.stopped;
     } };
 
-    ghost invariant = { λ r. HoldsRun r.leaves r.routes r.watchers r.events (Q.waiting r.queue) r.woken r.touched (vec_capacity r.due) (vec_capacity r.moving) r.end r.limit r.count r.stopped };
+    ghost invariant = { λ r. HoldsRun r.leaves r.routes r.watchers r.events (Q.waiting r.queue)
+        r.woken r.touched (vec_capacity r.due) (vec_capacity r.moving)
+        r.end r.limit r.count r.stopped };
 }
 
 impl<Q: TimeQueue, M: AtomicModel> FlatRun<Q, M> {

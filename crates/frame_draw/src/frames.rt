@@ -28,7 +28,12 @@ impl Model for Frames {
     ghost Value = { Drawing };
 
     ghost view = { λ f. record {
-      picture = record { space = f.plane.grid; plane = f.plane.plane; width = f.plane.width; decimals = f.plane.decimals };
+      picture = record {
+        space = f.plane.grid;
+        plane = f.plane.plane;
+        width = f.plane.width;
+        decimals = f.plane.decimals;
+      };
       values = f.values.items;
       begun = f.begun;
     } };

@@ -28,7 +28,8 @@ pub fn log_bytes(
     requires { NamesLeaves model.now records.now }
     // For the cycle whose records these are.
     ensures ok { OnOk result ((c : Cycle) → Holds records.now c → OfTree model.now (λ tree.
-        into.new.items ≡ into.old.items ++ forms.log_bytes tree (letters_of letters.now) (c ∷ []))) }
+        into.new.items ≡ into.old.items
+        ++ forms.log_bytes tree (letters_of letters.now) (c ∷ []))) }
     ensures err { OnErr result (into.new.items ≡ into.old.items) }
 {
     let before = into.len();

@@ -31,7 +31,8 @@ impl Model for Drawn {
 
     ghost view = { λ d. record { first = d.first; drawing = d.frames } };
 
-    ghost invariant = { λ d. (d.cells ≡ cell_count d.frames.picture.space) × (d.begun ≡ d.frames.begun) };
+    ghost invariant = { λ d. (d.cells ≡ cell_count d.frames.picture.space)
+        × (d.begun ≡ d.frames.begun) };
 }
 
 impl Drawn {

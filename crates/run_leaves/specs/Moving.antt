@@ -20,7 +20,13 @@ use Rattle.run_leaves.specs.Seated.{Seated}
 -- one leaf has another state
 abbrev pub with_state : Seated → ℕ → LeafState → Seated
 with_state s l x =
-    record { model = s.model; seats = s.seats; layouts = s.layouts; settings = s.settings; states = slice_set s.states l x }
+    record {
+      model = s.model;
+      seats = s.seats;
+      layouts = s.layouts;
+      settings = s.settings;
+      states = slice_set s.states l x;
+    }
 
 -- only states may have changed, and there are as many
 pub record StaysAs (old new : Seated) : Type 0 where

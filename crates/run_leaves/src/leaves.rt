@@ -60,7 +60,8 @@ impl<M: AtomicModel> Model for FlatLeaves<M> {
       states = states_in s.stock s.stores.items s.seats.items;
     } };
 
-    ghost invariant = { λ s. Places (tree_at s.model (settings_in s.stock)) s.seats.items (settings_in s.stock) (layouts_in s.stores.items) (sizes_in s.stores.items)
+    ghost invariant = { λ s. Places (tree_at s.model (settings_in s.stock)) s.seats.items
+        (settings_in s.stock) (layouts_in s.stores.items) (sizes_in s.stores.items)
         × HavePorts s.stores.items };
 }
 
