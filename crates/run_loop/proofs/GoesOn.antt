@@ -8,7 +8,7 @@ use Rattle.rule_tree.specs.declared.outcome.RuleStop.TheVariants as rules
 use Rattle.model_tree.specs.declared.table.Model.{Model}
 use Rattle.model_tree.specs.Tree.{Tree}
 use Rattle.model_tree.specs.Models.{tree_of}
-use Rattle.run_model.specs.Run.{Cycle, Run, RunState, Verdict, done, too_many, stop, Next, ended, cycled, next_cycle, run_from, and_on, at_last, in_front}
+use Rattle.run_model.specs.Run.{Cycle, Run, RunState, Verdict, done, too_many, stop, Next, ended, cycled, next_cycle, run_from, run_behind, at_last, in_front}
 use Rattle.run_model.specs.Instants.{InstantsNeverFall}
 use Rattle.run_model.specs.Fitting.{NamesItsParts}
 use Rattle.record_text.specs.declared.records.Records.{Records}
@@ -45,11 +45,11 @@ use Rattle.run_files.proofs.Turns.{texts_step, texts_end, begun_next}
 from_ended : (n : ℕ) (tree : Tree) (end most : ℕ) (s : RunState) (v : Verdict) → next_cycle tree end most s ≡ ended v → run_from n tree end most s ≡ record { cycles = []; verdict = v; left = s }
 unfolding run_from
 from_ended zero tree end most s v is = ap (at_last s) is
-from_ended (suc n) tree end most s v is = ap (λ x. and_on s x (run_from n tree end most)) is
+from_ended (suc n) tree end most s v is = ap (λ x. run_behind s x (run_from n tree end most)) is
 
 pub from_cycled : (n : ℕ) (tree : Tree) (end most : ℕ) (s m : RunState) (c : Cycle) → next_cycle tree end most s ≡ cycled c m → run_from (suc n) tree end most s ≡ in_front c (run_from n tree end most m)
 unfolding run_from
-from_cycled n tree end most s m c is = ap (λ x. and_on s x (run_from n tree end most)) is
+from_cycled n tree end most s m c is = ap (λ x. run_behind s x (run_from n tree end most)) is
 
 pub from_none : (tree : Tree) (end most : ℕ) (s m : RunState) (c : Cycle) → next_cycle tree end most s ≡ cycled c m → run_from 0 tree end most s ≡ record { cycles = []; verdict = too_many c.time; left = s }
 unfolding run_from

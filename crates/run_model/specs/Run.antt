@@ -198,9 +198,9 @@ abbrev pub in_front : Cycle → Run → Run
 in_front c r = record r { cycles = c ∷ r.cycles }
 
 -- the run behind a cycle, if there is one
-abbrev pub and_on : RunState → Next → (RunState → Run) → Run
-and_on s (ended v) go = record { cycles = []; verdict = v; left = s }
-and_on s (cycled c n) go = in_front c (go n)
+abbrev pub run_behind : RunState → Next → (RunState → Run) → Run
+run_behind s (ended v) go = record { cycles = []; verdict = v; left = s }
+run_behind s (cycled c n) go = in_front c (go n)
 
 -- no cycle more: a run in which one were due has too many
 abbrev pub at_last : RunState → Next → Run
@@ -211,7 +211,7 @@ at_last s (cycled c n) = record { cycles = []; verdict = too_many c.time; left =
 unfoldable pub run_from : ℕ → Tree → ℕ → ℕ → RunState → Run
 run_from zero tree end limit s = at_last s (next_cycle tree end limit s)
 run_from (suc n) tree end limit s =
-    and_on s (next_cycle tree end limit s) (run_from n tree end limit)
+    run_behind s (next_cycle tree end limit s) (run_from n tree end limit)
 
 -- at each instant up to the end there are at most `limit` cycles
 abbrev pub most_cycles : ℕ → ℕ → ℕ
