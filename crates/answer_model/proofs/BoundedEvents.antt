@@ -18,8 +18,8 @@ use Rattle.source_text.specs.Lines.{Line, filled_lines, folded}
 use Rattle.event_list.specs.declared.refusal.EventRefusal.{EventRefusal}
 use Rattle.event_list.specs.Events.{Event, event_of, event_of_words, event_at, file_refused, put_event, by_time, events_of}
 use Rattle.answer_model.specs.AcceptedRuns.{EventsAreBounded, EventsAreAtPorts}
-use Rattle.answer_model.proofs.BoundedTexts.{value_bounded, time_early}
-use Rattle.answer_model.proofs.Basics.{none_some, some_same}
+use Rattle.run_model.proofs.BoundedTexts.{value_bounded, time_early}
+use Rattle.run_model.proofs.Basics.{none_some, some_same}
 
 abbrev Fits : List Bytes → Event → Type 0
 Fits ports e = IsBounded e.value × IsDelay e.time × (e.port < length ports)

@@ -41,10 +41,10 @@ use Rattle.model_text.specs.Trees.{initial_value_of, map_of, cells_of, initial_o
 use Rattle.model_text.specs.Accepted.{PassesEachPhase, ReadsSoundModels}
 use Rattle.run_model.specs.Bounds.{IsBoundedRule, IsBoundedGroup, AreBoundedSettings, HasBoundedValues, HaveBoundedValues}
 use Rattle.answer_model.specs.AcceptedRuns.{ModelsAreBounded}
-use Rattle.answer_model.proofs.BoundedTexts.{value_bounded}
+use Rattle.run_model.proofs.BoundedTexts.{value_bounded}
 use Rattle.answer_model.proofs.BoundedRules.{rule_bounded}
-use Rattle.answer_model.proofs.BoundedSettings.{settings_bounded}
-use Rattle.answer_model.proofs.Basics.{none_some, some_same, then_there, on_there, both_hold}
+use Rattle.run_model.proofs.BoxLaws.{settings_bounded}
+use Rattle.run_model.proofs.Basics.{none_some, some_same, then_there, on_there, both_hold}
 use Rattle.answer_model.proofs.SoundParts.{at_most, sound_is}
 
 -- ---- what is found holds

@@ -17,7 +17,7 @@ use Rattle.rule_syntax.specs.Reading.{written_rule}
 use Rattle.rule_tree.specs.Scope.{Names, port_number, variable_number, named_by, is_no_neighbour, is_no_variable, is_no_port, numbered, all_numbered, rule_in, has_right_sorts}
 use Rattle.rule_syntax.specs.RuleOf.{words_refused, unless, and_on, where_true, has_port_twice, judged, rule_of, FindsTheGrammar}
 use Rattle.run_model.specs.Bounds.{HasBoundedNumbers, HaveBoundedNumbers, IsBoundedPart, IsBoundedRule}
-use Rattle.answer_model.proofs.BoundedTexts.{unsigned_bounded, negated_bounded}
+use Rattle.run_model.proofs.BoundedTexts.{unsigned_bounded, negated_bounded}
 
 plain : (n : ℤ) → ((m : ℕ) × (n ≡ pos m) × (m ≤ 10 ^ 15)) → unsigned_abs n ≤ 10 ^ 15
 plain n p = subst (λ y. unsigned_abs y ≤ 10 ^ 15) (sym p.1) p.2

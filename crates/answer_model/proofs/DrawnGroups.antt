@@ -17,7 +17,7 @@ use Rattle.model_text.specs.Drawings.{group_named, has_plane}
 use Rattle.model_text.specs.Accepted.{PassesEachPhase, ReadsSoundModels}
 use Rattle.answer_model.specs.RunFiles.{group_at}
 use Rattle.answer_model.specs.AcceptedRuns.{DrawingsHaveGroups}
-use Rattle.answer_model.proofs.Basics.{true_false, some_none, map_there}
+use Rattle.run_model.proofs.Basics.{true_false, some_none, map_there}
 use Rattle.answer_model.proofs.SoundParts.{sound_is}
 use Rattle.answer_model.proofs.NamedCells.{none_found, found_in, other_cells}
 

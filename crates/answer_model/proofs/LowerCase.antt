@@ -14,7 +14,7 @@ use Rattle.ma_lines.specs.declared.section.Entry.{Entry}
 use Rattle.ma_lines.specs.declared.section.LineRefusal.{LineRefusal}
 use Rattle.ma_lines.specs.Entries.{Braced, braced, continuation, key_in, keeps_letters, value_after, entry_of, is_heading}
 use Rattle.ma_lines.specs.Sections.{Section, Piece, heading, item, piece_of, pieces, first_entries, sections_in, lines_refused, section_name, unless_refused, sections_of}
-use Rattle.answer_model.proofs.Basics.{none_some, some_same, both_are, both_hold}
+use Rattle.run_model.proofs.Basics.{none_some, some_same, both_are, both_hold}
 
 abbrev pub is_lower : ℕ → Bool
 is_lower c = not (is_ascii_uppercase c)

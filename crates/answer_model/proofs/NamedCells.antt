@@ -25,7 +25,7 @@ use Rattle.text_forms.specs.Frames.{ShownCell, shown_by, shown_at, shown_of, cel
 use Rattle.answer_model.specs.RunFiles.{group_at}
 use Rattle.answer_model.specs.AcceptedRuns.{GroupsAreNamed}
 use Rattle.model_text.proofs.Keys.{same_bytes}
-use Rattle.answer_model.proofs.Basics.{true_false, none_some, some_same, both_false, both_hold}
+use Rattle.run_model.proofs.Basics.{true_false, none_some, some_same, both_false, both_hold}
 use Rattle.answer_model.proofs.SoundParts.{sound_is}
 
 -- ---- names that differ

@@ -24,12 +24,11 @@ use Rattle.rule_tree.specs.Meaning.{coordinates}
 use Rattle.cell_grid.specs.Space.{Space, cell_count, plane_count, dims_of, place_of}
 use Rattle.cell_grid.specs.Places.{cell_in}
 use Rattle.atomic_face.specs.declared.class.Class.{Class}
-use Rattle.atomic_face.specs.declared.class.Class.TheVariants.{Queue, Generator, Cpu, Counter, Table}
 use Rattle.model_tree.specs.declared.link.End.{End}
 use Rattle.model_tree.specs.declared.link.End.TheVariants.{Own, Child, Cell}
 use Rattle.model_tree.specs.declared.link.Link.{Link}
 use Rattle.model_tree.specs.Tree.{Word, Group, Tree, Trees, coupled, cells, atomic, nil, cons, atomic_leaf, cell_leaf, leaf_count, leaves_from, all_leaves_from}
-use Rattle.model_tree.specs.Pull.{class_ports, port_of_cell, distinct}
+use Rattle.model_tree.specs.Pull.{port_of_cell, distinct}
 use Rattle.model_text.specs.declared.kind.Kind.{Kind}
 use Rattle.model_text.specs.declared.kind.Kind.TheVariants.{BadValue, ComponentCycle}
 use Rattle.model_text.specs.Refusals.{Refusal, refusal}
@@ -49,7 +48,8 @@ use Rattle.answer_model.specs.AcceptedRuns.{IsNamed, ModelsAreBounded, ModelsAre
 use Rattle.answer_model.proofs.LowerCase.{is_lower, IsFolded, EntriesFold, read_sections_fold, found_holds, words_lower}
 use Rattle.model_text.proofs.Keys.{same_bytes}
 use Rattle.model_text.proofs.Parts.{find_is}
-use Rattle.answer_model.proofs.Basics.{true_false, none_some, some_none, cons_nil, some_same, then_there, map_there, on_there, both_none, both_are, both_false, both_empty, both_hold}
+use Rattle.run_model.proofs.BoxLaws.{inputs-named}
+use Rattle.run_model.proofs.Basics.{true_false, none_some, some_none, cons_nil, some_same, then_there, map_there, on_there, both_none, both_are, both_false, both_empty, both_hold}
 
 -- ---- names of links' ends
 
@@ -379,13 +379,6 @@ cell_is_leaf g first cell name h =
     go None a b c = refl
     go (Some n) a b c = refl
 
-atomic_ins : (class : Class) → list_all is_name (class_ports class) ≡ true
-atomic_ins Queue = refl
-atomic_ins Generator = refl
-atomic_ins Cpu = refl
-atomic_ins Counter = refl
-atomic_ins Table = refl
-
 cells_named : (g : Group) → IsNamedGroup g → (first a n : ℕ) → a + n ≤ 1048576 → All IsNamed (map (cell_leaf g first) (range_with_len a n))
 cells_named g h first a zero le = All-nil IsNamed
 cells_named g h first a (suc n) le =
@@ -401,7 +394,7 @@ mutual
   leaves_named (coupled name ins outs children links) first h k = all_leaves_named children first h k
   leaves_named (cells g) first h k = cells_named g h first 0 (cell_count g.space) (plus_none (cell_count g.space) k.size)
   leaves_named (atomic name class settings) first h k =
-      All-cons IsNamed (atomic_leaf name class settings) [] (record { leaf = both_are (is_name name && true) true (both_are (is_name name) true h refl) refl; further = refl; ins = atomic_ins class }) (All-nil IsNamed)
+      All-cons IsNamed (atomic_leaf name class settings) [] (record { leaf = both_are (is_name name && true) true (both_are (is_name name) true h refl) refl; further = refl; ins = inputs-named class }) (All-nil IsNamed)
 
   all_leaves_named : (ts : Trees) (first : ℕ) → AllNamed ts → HaveBoundedValues ts → All IsNamed (all_leaves_from ts first)
   all_leaves_named nil first h k = All-nil IsNamed

@@ -1,33 +1,30 @@
 -- In a state that is read nothing waits before its time.
-use Rattle.std.proofs.Common.{◌≡◌, ℕ, zero, suc, ◌+◌, ◌≤◌, Bool, true, false, cond, Option, Some, None, List, [], ◌∷◌, refl, sym, ap, ◌∙◌, subst, arith, length, drop, codes}
-use Rattle.std.specs.Prelude.{◌&&◌, ◌==◌, ◌^◌, nat_lt, nat_le, ℤ, pos, negsuc, int_le, Result, Ok, Err, if◌then◌else◌}
+use Rattle.std.proofs.Common.{◌≡◌, ℕ, suc, ◌+◌, ◌≤◌, Bool, true, false, cond, Option, Some, None, List, [], ◌∷◌, refl, sym, ap, ◌∙◌, subst, arith, length, drop, codes}
+use Rattle.std.specs.Prelude.{◌&&◌, ◌==◌, ◌^◌, nat_lt, nat_le, ℤ, Result, Ok, Err, if◌then◌else◌}
 use Rattle.std.specs.List.{All, list_all, slice_split}
 use Rattle.std.specs.Str.{bytes_eq}
 use Rattle.std.proofs.lemmas.List.Elements.{All-nil, All-cons}
 use Rattle.std.proofs.lemmas.Bool.Decides.{nat_tests}
 use Rattle.quantity.specs.declared.value.Value.{Value}
 use Rattle.quantity.specs.Bytes.{Bytes}
-use Rattle.quantity.specs.ValueTexts.{guessed_value, signed_in}
-use Rattle.quantity.specs.Times.{read_time}
+use Rattle.quantity.specs.ValueTexts.{signed_in}
 use Rattle.quantity.specs.Written.{if_written, for_some}
 use Rattle.quantity.proofs.DigitLemmas.{both}
 use Rattle.atomic_face.specs.declared.class.Class.{Class}
-use Rattle.atomic_face.specs.declared.class.Class.TheVariants.{Queue, Generator, Cpu, Counter, Table}
-use Rattle.atomic_face.specs.Words.{milliseconds, is_time_word, is_value_word}
-use Rattle.atomic_face.specs.Cpu.{cpu_pairs, are_pairs}
 use Rattle.atomic_face.specs.Classes.{next_of}
 use Rattle.atomic_face.specs.BoxStates.{is_box_state}
 use Rattle.model_tree.specs.Tree.{Tree, Leaf, atomic_leaf, cell_leaf, leaves}
 use Rattle.run_model.specs.CellStep.{PortState}
 use Rattle.run_model.specs.Cycle.{LeafState, box_state, cell_state}
-use Rattle.run_model.specs.Waiting.{RisesFrom, CellWaitsFrom, IsNotBefore, NeverFalls, BoxWaitsFrom, LeafWaitsFrom}
+use Rattle.run_model.specs.Waiting.{RisesFrom, IsNotBefore, BoxWaitsFrom, LeafWaitsFrom}
 use Rattle.text_forms.specs.declared.refusal.StateRefusal.{StateRefusal}
 use Rattle.text_forms.specs.declared.refusal.StateRefusal.TheVariants.{BadStateLine, EndBefore, TooLarge}
 use Rattle.text_forms.specs.LeafStates.{rises, is_port_state, is_later, is_leaf_state}
-use Rattle.text_forms.specs.StateText.{leaf_line, at_line}
-use Rattle.text_forms.specs.StateOf.{Saved, next_line, just, nothing_more, leaves_in, read_at, state_at, state_of, read_leaf, leaf_state_in, if_leaf_state, ports_in, all_in, words_in}
+use Rattle.text_forms.specs.StateText.{leaf_line}
+use Rattle.text_forms.specs.StateOf.{Saved, next_line, just, nothing_more, leaves_in, read_at, state_at, read_leaf, leaf_state_in, if_leaf_state, all_in, words_in}
 use Rattle.answer_model.specs.Resume.{MayBegin, StatesMayBegin, ResumedRunsEnd}
-use Rattle.answer_model.proofs.Basics.{none_some, some_same}
+use Rattle.run_model.proofs.BoxLaws.{state-waits, box-later}
+use Rattle.run_model.proofs.Basics.{none_some, some_same}
 use Rattle.answer_model.proofs.Resumes.{is_run}
 
 -- ---- what was found
@@ -74,35 +71,10 @@ is_not_before : (t : ℕ) (o : Option ℕ) → is_later t o ≡ true → IsNotBe
 is_not_before t None h = tt
 is_not_before t (Some n) h = after t n h
 
-not_before : (low n : ℕ) → nat_le low n ≡ true → low ≤ n
-not_before low n h = grind (arith, nat_tests)
-
--- a pair's time isn't before the one in front of it
-pairs_wait : (low : ℕ) (ws : List ℤ) → are_pairs (pos low) ws ≡ true → NeverFalls low (cpu_pairs ws)
-pairs_wait low [] h = tt
-pairs_wait low (t ∷ []) h = absurd cc
-pairs_wait low (pos t ∷ v ∷ ws) h =
-    let c = both (is_time_word (pos t) && int_le (pos low) (pos t) && is_value_word v) (are_pairs (pos t) ws) h in
-    let b = both (is_time_word (pos t) && int_le (pos low) (pos t)) (is_value_word v) c.0 in
-    let a = both (is_time_word (pos t)) (int_le (pos low) (pos t)) b.0 in
-    (not_before low t a.1, pairs_wait t ws c.1)
-pairs_wait low (negsuc t ∷ v ∷ ws) h = absurd cc
-
--- the first pair's time is later too
-first_later : (t : ℕ) (ws : List ℤ) → NeverFalls 0 (cpu_pairs ws) → is_later t (next_of Cpu ws) ≡ true → NeverFalls (t + 1) (cpu_pairs ws)
-first_later t [] n h = tt
-first_later t (w ∷ []) n h = tt
-first_later t (pos u ∷ v ∷ ws) n h = (after t u h, n.1)
-first_later t (negsuc u ∷ v ∷ ws) n h = absurd n.0
-
 box_waits : (t : ℕ) (class : Class) (settings state : List ℤ) → (is_box_state class settings state && is_later t (next_of class state)) ≡ true → BoxWaitsFrom (t + 1) class state
-box_waits t Queue settings state h = is_not_before t (next_of Queue state) (both (is_box_state Queue settings state) (is_later t (next_of Queue state)) h).1
-box_waits t Generator settings state h = is_not_before t (next_of Generator state) (both (is_box_state Generator settings state) (is_later t (next_of Generator state)) h).1
-box_waits t Cpu settings state h =
-    let k = both (is_box_state Cpu settings state) (is_later t (next_of Cpu state)) h in
-    first_later t state (pairs_wait 0 state k.0) k.1
-box_waits t Counter settings state h = is_not_before t (next_of Counter state) (both (is_box_state Counter settings state) (is_later t (next_of Counter state)) h).1
-box_waits t Table settings state h = is_not_before t (next_of Table state) (both (is_box_state Table settings state) (is_later t (next_of Table state)) h).1
+box_waits t class settings state h =
+    let k = both (is_box_state class settings state) (is_later t (next_of class state)) h in
+    box-later class state 0 (t + 1) (is_not_before t (next_of class state) k.1) (state-waits class settings state k.0)
 
 -- ---- a leaf
 

@@ -31,7 +31,7 @@ use Rattle.run_model.proofs.LeavesKeep.{MovedHas, all_after-keeps, all_asked-kee
 use Rattle.run_model.proofs.BoundedLists.{flat_map-each, filter_map-each, enumerated-each, map-each}
 use Rattle.run_model.proofs.BoundedMeaning.{IsBoundedSight, at_or}
 use Rattle.run_model.proofs.BoundedCells.{IsBoundedInput, cell_emitted-bounded, cell_output-bounded, cell_moved-bounded, initial_cell-bounded, next-bounded}
-use Rattle.run_model.proofs.BoundedBoxes.{box_moved-bounded, output-bounded, box_next-bounded, initial-bounded}
+use Rattle.run_model.proofs.BoxLaws.{box_moved-bounded, output-bounded, box_next-bounded, initial-bounded}
 
 -- ---- the leaves of a bounded model
 

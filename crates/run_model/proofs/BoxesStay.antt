@@ -19,10 +19,10 @@ use Rattle.atomic_face.specs.Cpu.{cpu_pairs, cpu_words, cpu_next, cpu_put, cpu_i
 use Rattle.atomic_face.specs.Counter.{CounterState, counter_state, counter_words, counter_input, counter_inputs, counter_closing, counter_internal, for_some, is_counter}
 use Rattle.atomic_face.specs.Classes.{Bag, is_at}
 use Rattle.quantity.specs.Times.{IsDelay}
-use Rattle.run_model.specs.Waiting.{IsTimeFrom, NeverFalls}
+use Rattle.run_model.specs.CpuBounds.{IsTimeFrom, NeverFalls}
 use Rattle.run_model.specs.BoxesStay.{StaysAState}
 use Rattle.run_model.proofs.BoundedValues.{sum-is}
-use Rattle.run_model.proofs.WaitingBoxes.{filter-waits, inputs-wait}
+use Rattle.run_model.proofs.CpuLaws.{filter-waits, inputs-wait}
 
 and-both : (a b : Bool) → (a && b) ≡ true → (a ≡ true) × (b ≡ true)
 and-both true b e = (refl, e)

@@ -9,7 +9,7 @@ use Rattle.std.proofs.lemmas.List.Sums.{sum_by-cons}
 use Rattle.atomic_face.specs.Classes.{is_at}
 use Rattle.model_tree.specs.Tree.{Tree}
 use Rattle.run_model.specs.Cycle.{next_of_all}
-use Rattle.run_model.specs.Run.{Event, Cycle, RunState, Verdict, Next, ended, cycled, start, first_event, cycles_at, next_cycle, run_from, run, and_on, at_last, most_cycles}
+use Rattle.run_model.specs.Run.{Event, Cycle, RunState, Verdict, Next, ended, cycled, start, first_event, cycles_at, next_cycle, run_from, run, run_behind, at_last, most_cycles}
 use Rattle.run_model.specs.Runs.{Runs, ends, goes}
 use Rattle.run_model.specs.Waiting.{StandsFrom}
 use Rattle.run_model.specs.Instants.{InstantsNeverFall, cycles_at_instant, InstantsOfRuns, RunsEnd, DoneRunsLeaveLater, RunIsARun}
@@ -68,7 +68,7 @@ counted zero tree end limit low s h few = go (next_cycle tree end limit s) refl
     go (cycled c m) e = absurd (omega (arith, few, cycled-room tree end limit low s m c h e))
 counted (suc n) tree end limit low s h few = go (next_cycle tree end limit s) refl (counted n tree end limit)
   where
-    go : (x : Next) → next_cycle tree end limit s ≡ x → ((low : ℕ) (m : RunState) → StandsFrom limit low m → room end limit m ≤ n → Runs tree end limit m (run_from n tree end limit m).cycles (run_from n tree end limit m).verdict (run_from n tree end limit m).left) → Runs tree end limit s (and_on s x (run_from n tree end limit)).cycles (and_on s x (run_from n tree end limit)).verdict (and_on s x (run_from n tree end limit)).left
+    go : (x : Next) → next_cycle tree end limit s ≡ x → ((low : ℕ) (m : RunState) → StandsFrom limit low m → room end limit m ≤ n → Runs tree end limit m (run_from n tree end limit m).cycles (run_from n tree end limit m).verdict (run_from n tree end limit m).left) → Runs tree end limit s (run_behind s x (run_from n tree end limit)).cycles (run_behind s x (run_from n tree end limit)).verdict (run_behind s x (run_from n tree end limit)).left
     go (ended v) e rest = ends e
     go (cycled c m) e rest = goes e (rest c.time m (cycles-stand tree end limit low s m c h e).stands (omega (arith, few, cycled-room tree end limit low s m c h e)))
 

@@ -9,17 +9,8 @@ use Rattle.std.proofs.lemmas.Bool.Decides.{nat_tests}
 use Rattle.quantity.specs.declared.value.Value.{Value}
 use Rattle.quantity.specs.declared.value.Value.TheVariants.{Undefined}
 use Rattle.cell_grid.specs.Space.{cell_count}
-use Rattle.atomic_face.specs.declared.class.Class.{Class}
-use Rattle.atomic_face.specs.declared.class.Class.TheVariants.{Queue, Generator, Cpu, Counter, Table}
 use Rattle.atomic_face.specs.declared.class.PortNo.{PortNo}
-use Rattle.atomic_face.specs.Bags.{outputs}
-use Rattle.atomic_face.specs.Queue.{queue_state, first_value}
-use Rattle.atomic_face.specs.Generator.{generator_state}
-use Rattle.atomic_face.specs.Cpu.{cpu_pairs, cpu_next, pairs_at, values_in}
-use Rattle.atomic_face.specs.Counter.{counter_state}
-use Rattle.atomic_face.specs.StateTable.{table_state, table_settings, hold_of, held_value}
-use Rattle.atomic_face.specs.Classes.{Bag, is_at, output_of, moved_state}
-use Rattle.atomic_face.specs.Words.{value_in}
+use Rattle.atomic_face.specs.Classes.{Bag, is_at, moved_state}
 use Rattle.atomic_face.specs.Moves.{next_of_box, output_of_box}
 use Rattle.model_tree.specs.Tree.{Word, Tree, Trees, coupled, cells, atomic, nil, cons, Leaf, atomic_leaf, cell_leaf, name_of, leaf_count, leaves_from, all_leaves_from, leaves, outs_of}
 use Rattle.model_tree.specs.Pull.{class_ports, cell_ports, is_child, is_cell, brought, nothing, given_by, given_out, taken_in, all_taken_in, pulled, top_pulled}
@@ -33,6 +24,8 @@ use Rattle.run_model.proofs.LeavesKeep.{MovedHas}
 use Rattle.run_model.proofs.BoundedLists.{flat_map-each, filter_map-each, map-each}
 use Rattle.run_model.proofs.FittingLists.{zip-append, zip-maps, zip-map, zip-from, numbered, numbers-below}
 use Rattle.run_model.proofs.FittingCells.{cell_emitted-has, cell_moved-has}
+use Rattle.run_model.proofs.ClassLaws.{AtOut}
+use Rattle.run_model.proofs.BoxLaws.{output-at}
 
 -- ---- what reaches a leaf stands at its ports
 
@@ -83,21 +76,6 @@ IsOutPort (cell_leaf g first cell) port = port ≤ length g.port_values
 
 abbrev GivesAt : Leaf → Bag → Type 0
 GivesAt l bag = All (λ (o : PortNo × Value). IsOutPort l o.0.0) bag
-
-abbrev AtOut : PortNo × Value → Type 0
-AtOut o = o.0.0 ≡ 0
-
-outputs-at : (vs : List Value) → All AtOut (outputs vs)
-outputs-at [] = All-nil AtOut
-outputs-at (v ∷ vs) = All-cons AtOut _ (outputs vs) refl (outputs-at vs)
-
-output-at : (class : Class) (settings state : List ℤ) → All AtOut (output_of class settings state)
-output-at Queue settings state = outputs-at (first_value (queue_state state).waiting)
-output-at Generator settings state = outputs-at (value_in (generator_state state).value ∷ [])
-output-at Cpu settings state = outputs-at (values_in (pairs_at true (cpu_next (cpu_pairs state)) (cpu_pairs state)))
-output-at Counter settings state = outputs-at (value_in (counter_state state).total ∷ [])
-output-at Table settings state =
-    outputs-at (held_value (table_state state) (hold_of (table_settings settings) (table_state state).state) ∷ [])
 
 abbrev AtMost : ℕ → PortNo × Value → Type 0
 AtMost most o = o.0.0 ≤ most

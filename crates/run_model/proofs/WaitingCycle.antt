@@ -15,7 +15,7 @@ use Rattle.run_model.specs.Run.{Event, Cycle, RunState, done, too_many, stop, en
 use Rattle.run_model.specs.Waiting.{RisesFrom, CellWaitsFrom, IsNotBefore, BoxWaitsFrom, LeafWaitsFrom, StandsFrom}
 use Rattle.run_model.specs.Instants.{CycleStands, CyclesStand, StartStands, ResumedStands}
 use Rattle.run_model.proofs.WaitingCells.{cell_emitted-waits, cell_moved-waits, least-parts, least-whole, ports-later, ports-from}
-use Rattle.run_model.proofs.WaitingBoxes.{box_moved-waits, box-later, box-from, initial-waits}
+use Rattle.run_model.proofs.BoxLaws.{box_moved-waits, box-later, box-from, initial-waits}
 use Rattle.run_model.proofs.LeavesKeep.{MovedHas, all_after-keeps, all_asked-keeps}
 use Rattle.run_model.proofs.Steps.{moves_at, Cycled, is_cycled}
 

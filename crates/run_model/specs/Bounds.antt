@@ -1,5 +1,5 @@
 -- The values of a run are bounded, and its times are small: so each record has a line of a log.
-use Rattle.std.specs.Prelude.{◌≡◌, ℕ, ◌≤◌, false, List, length, ℤ, IfSome, ⊤}
+use Rattle.std.specs.Prelude.{ℕ, ◌≤◌, List, length, ℤ, IfSome, ⊤}
 use Rattle.std.specs.List.{All}
 use Rattle.quantity.specs.declared.bounds.TheConstants.{MAX_CELLS}
 use Rattle.quantity.specs.Times.{IsDelay, IsTime}
@@ -9,16 +9,8 @@ use Rattle.rule_tree.specs.Expression as E
 use Rattle.rule_tree.specs.Expression.{Expr, Exprs, Rule}
 use Rattle.cell_grid.specs.Space.{cell_count}
 use Rattle.atomic_face.specs.declared.class.Class.{Class}
-use Rattle.atomic_face.specs.declared.class.Class.TheVariants.{Queue, Generator, Cpu, Counter, Table}
-use Rattle.atomic_face.specs.Words.{time_in, value_in, milliseconds}
-use Rattle.atomic_face.specs.Parameters.{time_setting, setting}
-use Rattle.atomic_face.specs.Queue.{queue_state}
-use Rattle.atomic_face.specs.Generator.{generator_settings, generator_state}
-use Rattle.atomic_face.specs.Cpu.{cpu_pairs}
-use Rattle.atomic_face.specs.Counter.{counter_state}
-use Rattle.atomic_face.specs.TableSettings.{any_word}
-use Rattle.atomic_face.specs.StateTable.{Hold, table_settings, same_word, table_state}
 use Rattle.model_tree.specs.Tree.{Group, Tree, Trees, coupled, cells, atomic, nil, cons}
+use Rattle.run_model.specs.BoundsTable.{bounds_of}
 use Rattle.run_model.specs.CellStep.{PortState, CellState}
 use Rattle.run_model.specs.Cycle.{LeafState, box_state, cell_state}
 use Rattle.run_model.specs.Run.{Event, PortRecord, StateRecord, OutRecord, Cycle, RunState, Verdict, start}
@@ -63,26 +55,9 @@ pub record IsBoundedGroup (g : Group) : Type 0 where
   pub offsets : length g.offsets ≤ 128
   pub size : cell_count g.space ≤ MAX_CELLS
 
--- a word that stands for a bounded value
-abbrev pub IsValueWord : ℤ → Type 0
-IsValueWord w = IsBounded (value_in w)
-
--- the value of a hold, unless it is the last value taken
-abbrev pub IsBoundedHold : Hold → Type 0
-IsBoundedHold h =
-    IfSome (time_in h.time) IsDelay × (same_word h.value any_word ≡ false → IsValueWord h.value)
-
 -- the times and values of a box
 abbrev pub AreBoundedSettings : Class → List ℤ → Type 0
-AreBoundedSettings Queue settings = IsDelay (time_setting settings)
-AreBoundedSettings Generator settings =
-    IfSome (time_in (generator_settings settings).start) IsTime
-    × IsDelay (milliseconds (generator_settings settings).period)
-    × IsValueWord (generator_settings settings).value
-AreBoundedSettings Cpu settings = IsDelay (time_setting settings)
-AreBoundedSettings Counter settings =
-    IsDelay (milliseconds (setting settings 0)) × IsValueWord (setting settings 1)
-AreBoundedSettings Table settings = All IsBoundedHold (table_settings settings).holds
+AreBoundedSettings class = (bounds_of class).bounded_settings
 
 abbrev mutual
   pub HasBoundedValues : Tree → Type 0
@@ -115,21 +90,9 @@ pub record IsBoundedCell (c : CellState) : Type 0 where
   pub ports : All IsBoundedPort c.ports
   pub variables : All IsBounded c.variables
 
--- a time and a value, both as words
-abbrev pub AreBoundedWords : ℤ × ℤ → Type 0
-AreBoundedWords p = IfSome (time_in p.0) IsTime × IsValueWord p.1
-
 -- the times and values of its state
 abbrev pub IsBoundedBox : Class → List ℤ → Type 0
-IsBoundedBox Queue state =
-    IfSome (time_in (queue_state state).due) IsTime × All IsValueWord (queue_state state).waiting
-IsBoundedBox Generator state =
-    IfSome (time_in (generator_state state).next) IsTime × IsValueWord (generator_state state).value
-IsBoundedBox Cpu state = All AreBoundedWords (cpu_pairs state)
-IsBoundedBox Counter state =
-    IfSome (time_in (counter_state state).due) IsTime × IsValueWord (counter_state state).total
-IsBoundedBox Table state =
-    IfSome (time_in (table_state state).due) IsTime × IsValueWord (table_state state).last
+IsBoundedBox class = (bounds_of class).bounded_state
 
 -- a box or a cell
 abbrev pub IsBoundedLeaf : LeafState → Type 0

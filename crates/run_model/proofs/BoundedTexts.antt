@@ -15,7 +15,7 @@ use Rattle.quantity.specs.Literals.{whole_digits, decimals, is_unsigned_literal,
 use Rattle.quantity.specs.Arithmetic.{IsBounded}
 use Rattle.quantity.specs.Times.{milliseconds_of, parsed_parts, time_in}
 use Rattle.quantity.proofs.DigitLemmas.{both, one_digit_more, below_more, no_longer, with_decimals}
-use Rattle.answer_model.proofs.Basics.{none_some, some_same, then_there, map_there, both_are}
+use Rattle.run_model.proofs.Basics.{none_some, some_same, then_there, map_there, both_are}
 
 -- ---- digits
 
