@@ -1,7 +1,7 @@
 -- The records of a run of an accepted model have lines of a log's form, so its frames are drawn
 -- from its log.
 use Rattle.std.proofs.Common.{ap, ◌≡◌, ℕ, zero, suc, ◌+◌, ◌^◌, ◌≤◌, ◌<◌, Bool, true, Option, Some}
-use Rattle.std.proofs.Common.{None, List, [], ◌∷◌, ◌++◌, length, take, refl, sym, ◌∙◌, subst, arith}
+use Rattle.std.proofs.Common.{None, List, [], ◌∷◌, length, take, refl, sym, ◌∙◌, subst, arith}
 use Rattle.std.proofs.Common.{rules}
 use Rattle.std.specs.Prelude.{⊤, ◌&&◌, ◌==◌, not, nat_le, nat_lt, slice_get, unsigned_abs, IfSome}
 use Rattle.std.specs.Prelude.{IsSomeAnd, codes, map}
@@ -35,6 +35,7 @@ use Rattle.run_model.specs.Fitting.{StartFits, RunsFit}
 use Rattle.model_text.specs.Accepted.{ReadsSoundModels}
 use Rattle.text_forms.specs.declared.letter.Letter.{Letter}
 use Rattle.text_forms.specs.declared.letter.Letter.TheVariants.{Y, N, X, S}
+use Rattle.text_forms.specs.Letters.{all_letters}
 use Rattle.text_forms.specs.LogLine.{LogLine, given, moved, is_leaf, has_place, is_letter, is_time}
 use Rattle.text_forms.specs.LogLine.{is_value, is_state, is_next, is_line}
 use Rattle.text_forms.specs.Lines.{leaf_name, name_at, out_port_name, in_port_name, given_line}
@@ -48,8 +49,9 @@ use Rattle.answer_model.specs.AcceptedRuns.{ModelsAreNamed, GroupsAreNamed, Runs
 use Rattle.answer_model.specs.AcceptedRuns.{FilesAreDrawn, DrawingsHaveGroups, picture_of}
 use Rattle.answer_model.specs.AcceptedRuns.{FramesAreDrawn}
 use Rattle.answer_model.specs.DrawnRuns.{DrawnAgrees}
+use Rattle.text_forms.proofs.Drawn.{letters_pass}
 use Rattle.answer_model.proofs.Resumes.{is_run}
-use Rattle.answer_model.proofs.Basics.{true_false, none_some, some_same, both_are}
+use Rattle.run_model.proofs.Basics.{true_false, none_some, some_same, both_are}
 use Rattle.answer_model.proofs.SoundParts.{sound_is}
 
 -- ---- each further port has a name and a value
@@ -273,24 +275,23 @@ moved_lines t time ht known (r ∷ rs) hv hq =
 cycle_fits : (t : Tree) (end : ℕ) (c : Cycle) → IsDelay end → AreKnown (leaves t)
     → IsBoundedCycle end c → NamesItsParts t c → list_all is_line (cycle_lines (leaves t) c) ≡ true
 cycle_fits t end c early known b n =
-    let ht = within c.time b.time in
-    let lines = lines_of_letter (leaves t) c in
-    let y = given_lines t c.time Y out_port_name
-    (λ l r. r.port ≡ 0) writes_y ht known c.y b.y n.y in
-    let n' = given_lines t c.time N out_port_name
-    (λ l r. IsFurtherPort l r.port) writes_n ht known c.n b.n n.n in
-    let x = given_lines t c.time X in_port_name
-    (λ l r. IsInPort l r.port) writes_x ht known c.x b.x n.x in
-    let s = moved_lines t c.time ht known c.s b.s n.s in
-    joined (lines Y) _ y (joined (lines N) _ n' (joined (lines X) _ x (joined (lines S) [] s refl)))
+    letters_pass is_line (lines_of_letter (leaves t) c) each all_letters
   where
     within : (time : ℕ) → time ≤ end → IsTime time
     within time le = omega arith
 
-    joined : (xs ys : List LogLine) → list_all is_line xs ≡ true → list_all is_line ys ≡ true
-        → list_all is_line (xs ++ ys) ≡ true
-    joined xs ys h k =
-        list_all-append is_line xs ys ∙ both_are (list_all is_line xs) (list_all is_line ys) h k
+    -- what is known of the records of each letter
+    each : (letter : Letter) → list_all is_line (lines_of_letter (leaves t) c letter) ≡ true
+    each Y =
+        given_lines t c.time Y out_port_name (λ l r. r.port ≡ 0) writes_y (within c.time b.time)
+        known c.y b.y n.y
+    each N =
+        given_lines t c.time N out_port_name (λ l r. IsFurtherPort l r.port) writes_n
+        (within c.time b.time) known c.n b.n n.n
+    each X =
+        given_lines t c.time X in_port_name (λ l r. IsInPort l r.port) writes_x
+        (within c.time b.time) known c.x b.x n.x
+    each S = moved_lines t c.time (within c.time b.time) known c.s b.s n.s
 
 cycles_fit : (t : Tree) (end : ℕ) (cs : List Cycle) → IsDelay end → AreKnown (leaves t)
     → All (IsBoundedCycle end) cs → All (NamesItsParts t) cs

@@ -17,16 +17,16 @@ use Rattle.quantity.proofs.DigitLemmas.{both}
 use Rattle.quantity.proofs.NothingElse as quantities
 use Rattle.quantity.proofs.Written.{has_no, and_true, time_read, value_read}
 use Rattle.text_forms.specs.declared.letter.Letter.{Letter}
-use Rattle.text_forms.specs.declared.letter.Letter.TheVariants.{Y, N, X, S}
-use Rattle.text_forms.specs.Letters.{all_letters, letter_named}
+use Rattle.text_forms.specs.declared.letter.Letter.TheVariants.{S}
+use Rattle.text_forms.specs.Letters.{Tells, a_value, a_move, told_by, all_letters, letter_named}
 use Rattle.text_forms.specs.LogLine.{LeafName, LogLine, given, moved, letter_text, line_text, read_line, leaf_text}
-use Rattle.text_forms.specs.LogLine.{is_line, is_leaf, is_value, is_time, is_letter, is_state, is_next, has_place}
+use Rattle.text_forms.specs.LogLine.{is_line, is_leaf, is_value, is_time, is_told_of, is_letter, is_state, is_next, has_place}
 use Rattle.text_forms.specs.LogLine.{state_text, next_text}
 use Rattle.text_forms.proofs.NothingElse as forms
-use Rattle.text_forms.proofs.LetterBytes.{found}
-use Rattle.text_forms.proofs.WrittenLines.{blank, letter_back, given_fits, given_no, moved_fits, moved_no, line_read}
+use Rattle.text_forms.proofs.AllLetters.{found, letter_back}
+use Rattle.text_forms.proofs.WrittenLines.{blank, given_fits, given_no, moved_fits, moved_no, line_read}
 use Rattle.line_read.specs.Fronts.{stroke, is_state_value, IsLineText}
-use Rattle.line_read.specs.Strict.{Parts, cut_parts, read_leaf, read_state, read_next, given_line, moved_line, one_letter, line_by, strict_line, given_as, agrees}
+use Rattle.line_read.specs.Strict.{Parts, cut_parts, read_leaf, read_state, read_next, given_line, moved_line, told_line, one_letter, line_by, strict_line, given_as, agrees}
 use Rattle.line_read.proofs.StrictLemmas.{some_from, same_some, if_some, if_then, parts_made, parts_cut, joined_parts}
 use Rattle.line_read.proofs.StrictLeaves.{leaf_is, leaf_read}
 
@@ -116,12 +116,11 @@ moved_is p l letter h =
       is = and_true _ _ (and_true _ _ (and_true _ _ time.1 leaf.is) fits) next.1;
     })
 
+-- the letter of moves is S alone; the second clause is checked for each other letter
 letter_is : (letter : Letter) (p : Parts) (l : LogLine) → p.letter ≡ letter_text letter
     → one_letter letter p ≡ Some l → IsLineText (joined_parts p) l
-letter_is Y p l e h = given_is Y p l e h
-letter_is N p l e h = given_is N p l e h
-letter_is X p l e h = given_is X p l e h
 letter_is S p l e h = moved_is p l e h
+letter_is letter p l e h = given_is letter p l e h
 
 by_is : (w : Bytes) (p : Parts) (l : LogLine) → p.letter ≡ w → line_by w p ≡ Some l → IsLineText (joined_parts p) l
 by_is [] p l e h = absurd cc
@@ -162,10 +161,11 @@ in_time t h = grind (arith, nat_tests)
 
 of_value : (letter : Letter) (l : LeafName) → is_letter letter l ≡ true
     → (p : Parts) → one_letter letter p ≡ given_line letter p
-of_value Y l h p = refl
-of_value N l h p = refl
-of_value X l h p = refl
-of_value S l h p = absurd cc
+of_value letter l h p = by (told_by letter) h
+  where
+    by : (tells : Tells) → is_told_of tells l ≡ true → told_line tells letter p ≡ given_line letter p
+    by (a_value of_cells_alone) h = refl
+    by a_move h = absurd cc
 
 abbrev parts_as : Bytes → Bytes → Bytes → Bytes → Bytes → Parts
 parts_as a b c d e = record { letter = a; time = b; leaf = c; first = d; second = e }

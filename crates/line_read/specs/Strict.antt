@@ -11,8 +11,7 @@ use Rattle.quantity.specs.Times.{read_time}
 use Rattle.quantity.specs.ValueTexts.{read_text5}
 use Rattle.quantity.specs.Written.{for_some, if_written, number_at_most}
 use Rattle.text_forms.specs.declared.letter.Letter.{Letter}
-use Rattle.text_forms.specs.declared.letter.Letter.TheVariants.{S}
-use Rattle.text_forms.specs.Letters.{letter_named}
+use Rattle.text_forms.specs.Letters.{Tells, a_value, a_move, told_by, letter_named}
 use Rattle.text_forms.specs.LogLine.{LeafName, LogLine, given, moved, has_place, is_letter}
 
 -- ---- the parts
@@ -137,10 +136,14 @@ moved_line p =
     for_some (read_state p.first) (λ s. for_some (read_next p.second) (λ n.
     moved_as t l s n))))
 
+-- the line that tells this
+abbrev pub told_line : Tells → Letter → Parts → Option LogLine
+told_line (a_value of_cells_alone) letter p = given_line letter p
+told_line a_move letter p = moved_line p
+
 -- the line of a letter
 abbrev pub one_letter : Letter → Parts → Option LogLine
-one_letter S p = moved_line p
-one_letter letter p = given_line letter p
+one_letter letter p = told_line (told_by letter) letter p
 
 -- the line of what stands in the letter's place
 abbrev pub line_by : Bytes → Parts → Option LogLine

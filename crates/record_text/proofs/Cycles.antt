@@ -16,7 +16,7 @@ use Rattle.model_tree.specs.Tree.{Word, Tree, Leaf, leaves, outs_of}
 use Rattle.run_model.specs.Run.{Cycle, PortRecord, StateRecord}
 use Rattle.text_forms.specs.declared.letter.Letter.{Letter}
 use Rattle.text_forms.specs.declared.letter.Letter.TheVariants.{Y, N, X, S}
-use Rattle.text_forms.specs.Letters.{has_letter}
+use Rattle.text_forms.specs.Letters.{all_letters, has_letter}
 use Rattle.text_forms.specs.LogLine.{LogLine, given, moved, letter_of, line_text}
 use Rattle.text_forms.specs.Lines.{ended, leaf_name, in_port_name, out_port_name, given_line}
 use Rattle.text_forms.specs.Lines.{moved_line}
@@ -146,39 +146,50 @@ s_part cs ls time false e rs items is = sym (moved_left cs ls time e rs)
 
 -- ---- the whole cycle
 
-four_written : (cs : List ℕ) (a b c d : List LogLine)
-    → written cs (a ++ (b ++ (c ++ (d ++ []))))
-    ≡ written cs a ++ written cs b ++ written cs c ++ written cs d
-four_written cs a b c d =
-    ap (written cs) (rewrite_left a b c d) ∙ written-append cs (a ++ b ++ c) d
-    ∙ ap (λ bytes. bytes ++ written cs d) (written-append cs (a ++ b) c)
-    ∙ ap (λ bytes. bytes ++ written cs c ++ written cs d) (written-append cs a b)
-  where
-    rewrite_left : (a b c d : List LogLine) → a ++ (b ++ (c ++ (d ++ []))) ≡ a ++ b ++ c ++ d
-    rewrite_left a b c d = simp (append_assoc, append-nil)
+has_chosen : (letters : Letters) (k : Letter)
+    → has_letter (letters_of letters) k ≡ is_chosen letters k
+has_chosen letters k = chosen_has (is_chosen letters) k
+
+-- what is written of each letter's lines is what is written of all
+each_written : (cs : List ℕ) (lines : Letter → List LogLine) (text : Letter → Bytes)
+    → ((k : Letter) → text k ≡ written cs (lines k)) → (ks : List Letter)
+    → flat_map text ks ≡ written cs (flat_map lines ks)
+each_written cs lines text each [] = refl
+each_written cs lines text each (k ∷ ks) =
+    ap (λ (bytes : Bytes). bytes ++ flat_map text ks) (each k)
+    ∙ ap (λ (bytes : Bytes). written cs (lines k) ++ bytes) (each_written cs lines text each ks)
+    ∙ sym (written-append cs (lines k) (flat_map lines ks))
+
+module _ (ls : List Leaf) (letters : Letters) (r : Records) where
+  -- what is written of the records of a letter
+  abbrev text_of : Letter → Bytes
+  text_of Y = y_texts Y ls (all_if letters.y r.y.items)
+  text_of N = y_texts N ls (all_if letters.n r.n.items)
+  text_of X = x_texts ls (all_if letters.x r.x.items)
+  text_of S = s_texts ls (all_if letters.s r.s.items)
+
+  letter_is : (c : Cycle) → Holds r c → (k : Letter)
+      → text_of k ≡ written (letters_of letters) (lines_of_letter ls c k)
+  letter_is c h Y =
+      y_part (letters_of letters) ls c.time Y letters.y (has_chosen letters Y) c.y r.y.items h.y
+  letter_is c h N =
+      y_part (letters_of letters) ls c.time N letters.n (has_chosen letters N) c.n r.n.items h.n
+  letter_is c h X =
+      x_part (letters_of letters) ls c.time letters.x (has_chosen letters X) c.x r.x.items h.x
+  letter_is c h S =
+      s_part (letters_of letters) ls c.time letters.s (has_chosen letters S) c.s r.s.items h.s
+
+  in_turn : log_text ls letters r ≡ flat_map text_of all_letters
+  in_turn = simp (append_assoc, append-nil)
 
 pub log_is : (tree : Tree) (letters : Letters) (r : Records) (c : Cycle) → Holds r c
     → log_text (leaves tree) letters r ≡ log_bytes tree (letters_of letters) (c ∷ [])
 log_is tree letters r c h =
     let ls = leaves tree in
     let cs = letters_of letters in
-    let chosen = is_chosen letters in
-    let has = chosen_has chosen in
-    let lines = lines_of_letter ls c in
-    let y = y_part cs ls c.time Y letters.y (has Y) c.y r.y.items h.y in
-    let n = y_part cs ls c.time N letters.n (has N) c.n r.n.items h.n in
-    let x = x_part cs ls c.time letters.x (has X) c.x r.x.items h.x in
-    let s = s_part cs ls c.time letters.s (has S) c.s r.s.items h.s in
-    ap (λ (bytes : Bytes). bytes ++ y_texts N ls (all_if letters.n r.n.items)
-    ++ x_texts ls (all_if letters.x r.x.items) ++ s_texts ls (all_if letters.s r.s.items)) y
-    ∙ ap (λ (bytes : Bytes). written cs (lines Y) ++ bytes
-    ++ x_texts ls (all_if letters.x r.x.items) ++ s_texts ls (all_if letters.s r.s.items)) n
-    ∙ ap (λ (bytes : Bytes). written cs (lines Y) ++ written cs (lines N) ++ bytes
-    ++ s_texts ls (all_if letters.s r.s.items)) x
-    ∙ ap (λ (bytes : Bytes). written cs (lines Y) ++ written cs (lines N) ++ written cs (lines X)
-    ++ bytes) s
-    ∙ sym (four_written cs (lines Y) (lines N) (lines X) (lines S))
-    ∙ ap (written cs) (sym (append-nil (cycle_lines ls c)))
+    in_turn ls letters r
+    ∙ each_written cs (lines_of_letter ls c) (text_of ls letters r) (letter_is ls letters r c h)
+    all_letters ∙ ap (written cs) (sym (append-nil (cycle_lines ls c)))
 
 pub out_is : (tree : Tree) (r : Records) (c : Cycle) → Holds r c
     → out_texts (outs_of tree) r.out.items ≡ out_bytes tree (c ∷ [])

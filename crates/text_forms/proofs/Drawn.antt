@@ -2,6 +2,7 @@
 use Rattle.std.proofs.Common.{◌≡◌, ℕ, zero, suc, ◌+◌, ◌==◌, ◌&&◌, not, Bool, true, false, cond}
 use Rattle.std.proofs.Common.{Option, Some, None, List, [], ◌∷◌, ◌++◌, refl, sym, ap, ◌∙◌, arith}
 use Rattle.std.proofs.Common.{length, map, nat_lt, nat_le, Result, Ok, Err, option_map, slice_get}
+use Rattle.std.proofs.Common.{drop}
 use Rattle.std.proofs.lemmas.List.{append-nil, append_assoc}
 use Rattle.std.proofs.lemmas.Grind.{flat_map-append}
 use Rattle.std.proofs.lemmas.List.Splits.{slice_split_at}
@@ -15,12 +16,12 @@ use Rattle.model_tree.specs.Tree.{Word, Leaf, leaves}
 use Rattle.run_model.specs.Run.{Cycle, PortRecord}
 use Rattle.quantity.specs.Bytes.{Bytes}
 use Rattle.text_forms.specs.declared.letter.Letter.{Letter}
-use Rattle.text_forms.specs.declared.letter.Letter.TheVariants.{Y, N, X, S}
+use Rattle.text_forms.specs.declared.letter.Letter.TheVariants.{Y}
 use Rattle.text_forms.specs.Letters.{all_letters, has_letter}
 use Rattle.text_forms.specs.LogLine.{LogLine, given, moved, letter_of, line_text, is_line, parts_of}
 use Rattle.text_forms.specs.LogLine.{with_strokes}
 use Rattle.text_forms.specs.Lines.{ended, leaf_name, given_line, moved_line, out_port_name}
-use Rattle.text_forms.specs.Lines.{in_port_name}
+use Rattle.text_forms.specs.Lines.{LetterRecords, of_ports, of_moves, records_of, lines_of_records}
 use Rattle.text_forms.specs.Lines.{lines_of_letter, cycle_lines, log_lines}
 use Rattle.text_forms.specs.Frames.{ShownCell, shown_of, shown_by, shown_in, is_drawn, line_time}
 use Rattle.text_forms.specs.Frames.{not_before}
@@ -172,9 +173,7 @@ other_letter s group (moved t leaf state next) h = refl
 not_chosen : (letters : List ℕ) (letter : Letter) → has_letter letters Y ≡ true
     → has_letter letters letter ≡ false → is_drawn letter ≡ false
 not_chosen letters Y y off = let bad : true ≡ false = sym y ∙ off in absurd cc
-not_chosen letters N y off = refl
-not_chosen letters X y off = refl
-not_chosen letters S y off = refl
+not_chosen letters letter y off = refl
 
 shown_or_not : (s : Space) (group : Word) (b : Bool) (l : LogLine) (ls all : List LogLine)
     → (b ≡ false → shown_of s group l ≡ Some [])
@@ -219,7 +218,7 @@ mapped_passes q g None h = refl
 mapped_passes q g (Some l) h = h l refl
 
 -- what holds of the lines of each letter
-letters_pass : (q : LogLine → Bool) (lines : Letter → List LogLine)
+pub letters_pass : (q : LogLine → Bool) (lines : Letter → List LogLine)
     → ((letter : Letter) → list_all q (lines letter) ≡ true)
     → (letters : List Letter) → list_all q (flat_map lines letters) ≡ true
 letters_pass q lines each [] = refl
@@ -232,18 +231,30 @@ itself n = grind (arith, nat_tests)
 
 times_of : (ls : List Leaf) (c : Cycle) (letter : Letter)
     → list_all (λ l. line_time l == c.time) (lines_of_letter ls c letter) ≡ true
-times_of ls c Y =
-    each_passes _ _ c.y (λ r. mapped_passes _ _ (slice_get ls r.leaf) (λ l e. itself c.time))
-times_of ls c N =
-    each_passes _ _ c.n (λ r. mapped_passes _ _ (slice_get ls r.leaf) (λ l e. itself c.time))
-times_of ls c X =
-    each_passes _ _ c.x (λ r. mapped_passes _ _ (slice_get ls r.leaf) (λ l e. itself c.time))
-times_of ls c S =
-    each_passes _ _ c.s (λ r. mapped_passes _ _ (slice_get ls r.leaf) (λ l e. itself c.time))
+times_of ls c letter = by (records_of c letter)
+  where
+    by : (rs : LetterRecords)
+        → list_all (λ l. line_time l == c.time) (lines_of_records ls c.time letter rs) ≡ true
+    by (of_ports port rs) =
+        each_passes _ _ rs (λ r. mapped_passes _ _ (slice_get ls r.leaf) (λ l e. itself c.time))
+    by (of_moves rs) =
+        each_passes _ _ rs (λ r. mapped_passes _ _ (slice_get ls r.leaf) (λ l e. itself c.time))
 
 cycle_times : (ls : List Leaf) (c : Cycle)
     → list_all (λ l. line_time l == c.time) (cycle_lines ls c) ≡ true
 cycle_times ls c = letters_pass _ (lines_of_letter ls c) (times_of ls c) all_letters
+
+-- lines that are not drawn are not refused
+others_show : (s : Space) (group : Word) (ls : List Leaf) (t : ℕ) (letter : Letter)
+    → is_drawn letter ≡ false → (rs : LetterRecords)
+    → list_all (shows s group) (lines_of_records ls t letter rs) ≡ true
+others_show s group ls t letter off (of_ports port rs) =
+    each_passes (shows s group) _ rs
+    (λ r. mapped_passes _ _ (slice_get ls r.leaf)
+    (λ l e. ap is_some
+    (other_letter s group (given letter t (leaf_name l) (port l r.port) r.value) off)))
+others_show s group ls t letter off (of_moves rs) =
+    each_passes (shows s group) _ rs (λ r. mapped_passes _ _ (slice_get ls r.leaf) (λ l e. refl))
 
 is_shown : (s : Space) (group : Word) (l : LogLine) (xs : List ShownCell) → shown_of s group l ≡ Some xs
     → shows s group l ≡ true
@@ -261,15 +272,7 @@ module _ (s : Space) (group : Word) (first : ℕ) (ls : List Leaf) (c : Cycle)
   letter_shows : (letter : Letter) → list_all (shows s group) (lines_of_letter ls c letter) ≡ true
   letter_shows Y =
       each_passes (shows s group) _ c.y (λ r. mapped_passes _ _ (slice_get ls r.leaf) (y_shows r))
-  letter_shows N =
-      each_passes (shows s group) _ c.n
-      (λ r. mapped_passes _ _ (slice_get ls r.leaf) (λ l e. refl))
-  letter_shows X =
-      each_passes (shows s group) _ c.x
-      (λ r. mapped_passes _ _ (slice_get ls r.leaf) (λ l e. refl))
-  letter_shows S =
-      each_passes (shows s group) _ c.s
-      (λ r. mapped_passes _ _ (slice_get ls r.leaf) (λ l e. refl))
+  letter_shows letter = others_show s group ls c.time letter refl (records_of c letter)
 
   cycle_shows : list_all (shows s group) (cycle_lines ls c) ≡ true
   cycle_shows = letters_pass _ (lines_of_letter ls c) letter_shows all_letters
@@ -345,16 +348,18 @@ no_line s group g (Some l) h = h l
 letter_hidden : (s : Space) (group : Word) (ls : List Leaf) (c : Cycle) (letter : Letter)
     → is_drawn letter ≡ false
     → flat_map (shown_list s group) (lines_of_letter ls c letter) ≡ []
-letter_hidden s group ls c Y h = absurd cc
-letter_hidden s group ls c N h =
-    nothing_shown s group (given_line ls c.time N out_port_name) c.n
-    (λ r. no_line s group _ (slice_get ls r.leaf) (λ l. refl))
-letter_hidden s group ls c X h =
-    nothing_shown s group (given_line ls c.time X in_port_name) c.x
-    (λ r. no_line s group _ (slice_get ls r.leaf) (λ l. refl))
-letter_hidden s group ls c S h =
-    nothing_shown s group (moved_line ls c.time) c.s
-    (λ r. no_line s group _ (slice_get ls r.leaf) (λ l. refl))
+letter_hidden s group ls c letter h = by (records_of c letter)
+  where
+    by : (rs : LetterRecords)
+        → flat_map (shown_list s group) (lines_of_records ls c.time letter rs) ≡ []
+    by (of_ports port rs) =
+        nothing_shown s group (given_line ls c.time letter port) rs
+        (λ r. no_line s group _ (slice_get ls r.leaf)
+        (λ l. ap (λ o. unwrap_or o [])
+        (other_letter s group (given letter c.time (leaf_name l) (port l r.port) r.value) h)))
+    by (of_moves rs) =
+        nothing_shown s group (moved_line ls c.time) rs
+        (λ r. no_line s group _ (slice_get ls r.leaf) (λ l. refl))
 
 letters_hidden : (s : Space) (group : Word) (ls : List Leaf) (c : Cycle) (letters : List Letter)
     → list_all (λ letter. not (is_drawn letter)) letters ≡ true
@@ -373,11 +378,12 @@ letters_hidden s group ls c (k ∷ ks) h =
     off true e = absurd cc
     off false e = refl
 
+-- Y stands before all others
 cycle_shown : (s : Space) (group : Word) (first : ℕ) (ls : List Leaf) (c : Cycle)
     → NamesCells s group first ls → have_leaves ls c ≡ true
     → flat_map (shown_list s group) (cycle_lines ls c) ≡ filter_map (shown_by s first c.time) c.y
 cycle_shown s group first ls c names h =
-    let others = N ∷ X ∷ S ∷ [] in
+    let others = drop 1 all_letters in
     let shown = flat_map (shown_list s group) in
     flat_map-append (shown_list s group) (lines_of_letter ls c Y)
     (flat_map (lines_of_letter ls c) others)

@@ -4,26 +4,9 @@ use Rattle.std.proofs.Common.{List, [], ◌∷◌, refl, sym, ap, ◌∙◌, map
 use Rattle.std.specs.List.{find, filter, list_any, list_all}
 use Rattle.std.proofs.lemmas.Bool.{eqb-true, and_parts}
 use Rattle.text_forms.specs.declared.letter.Letter.{Letter}
-use Rattle.text_forms.specs.declared.letter.Letter.TheVariants.{Y, N, X, S}
 use Rattle.text_forms.specs.Letters.{all_letters, letter_byte, letter_bytes, bytes_where}
 use Rattle.text_forms.specs.Letters.{letter_named, has_letter}
-use Rattle.text_forms.proofs.NothingElse.{same_some}
-use Rattle.text_forms.proofs.WrittenLines.{letter_back}
-
-abbrev same : Letter → Letter → Bool
-same a b = letter_byte a == letter_byte b
-
-same_letter : (a b : Letter) → same a b ≡ true → a ≡ b
-same_letter a b e =
-    let bytes = eqb-true (letter_byte a) (letter_byte b) e in
-    same_some a b (sym (letter_back a) ∙ ap letter_named bytes ∙ letter_back b)
-
--- each letter is among all
-is_there : (k : Letter) → list_any (λ x. same x k) all_letters ≡ true
-is_there Y = refl
-is_there N = refl
-is_there X = refl
-is_there S = refl
+use Rattle.text_forms.proofs.AllLetters.{same, same_letter, is_there, found}
 
 -- ---- the bytes of chosen letters
 
@@ -116,19 +99,6 @@ unknown_off c (d ∷ text) off all =
         let bad : true ≡ false = sym on ∙ ap (λ m. among m letter_bytes) (eqb-true d c is) ∙ off in
         absurd cc
     here false is on rest = rest
-
--- the letter that is found is written so
-pub found : (c : ℕ) (xs : List Letter) (k : Letter)
-    → find (λ letter. letter_byte letter == c) xs ≡ Some k → letter_byte k ≡ c
-found c [] k e = absurd cc
-found c (x ∷ xs) k e = by (letter_byte x == c) refl e (found c xs k)
-  where
-    by : (b : Bool) → (letter_byte x == c) ≡ b
-        → cond b (Some x) (find (λ letter. letter_byte letter == c) xs) ≡ Some k
-        → (find (λ letter. letter_byte letter == c) xs ≡ Some k → letter_byte k ≡ c)
-        → letter_byte k ≡ c
-    by true is e more = ap letter_byte (sym (same_some x k e)) ∙ eqb-true (letter_byte x) c is
-    by false is e more = more e
 
 -- where the chosen letters are those among bytes that are letters, both have the same bytes
 pub bytes_are : (p : Letter → Bool) (text : List ℕ)

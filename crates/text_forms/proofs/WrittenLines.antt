@@ -25,12 +25,13 @@ use Rattle.quantity.specs.Times.{hours_text, time_text}
 use Rattle.quantity.specs.ValueTexts.{text5, guessed_value}
 use Rattle.quantity.specs.Names.{is_of_name, is_name}
 use Rattle.text_forms.specs.declared.letter.Letter.{Letter}
-use Rattle.text_forms.specs.declared.letter.Letter.TheVariants.{Y, N, X, S}
-use Rattle.text_forms.specs.Letters.{letter_byte, letter_named}
+use Rattle.text_forms.specs.declared.letter.Letter.TheVariants.{S}
+use Rattle.text_forms.specs.Letters.{Tells, a_value, a_move, told_by, letter_byte}
 use Rattle.text_forms.specs.LogLine.{LeafName, LogLine, given, moved, leaf_text, at_text}
 use Rattle.text_forms.specs.LogLine.{state_text, next_text}
 use Rattle.text_forms.specs.LogLine.{letter_text, parts_of, with_strokes, line_text, is_leaf}
 use Rattle.text_forms.specs.LogLine.{is_value, is_time}
+use Rattle.text_forms.specs.LogLine.{is_told_of, told_in}
 use Rattle.text_forms.specs.LogLine.{is_letter, is_state, is_next, is_line, has_place, leaf_of}
 use Rattle.text_forms.specs.LogLine.{leaf_in, at_in}
 use Rattle.text_forms.specs.LogLine.{guessed_time, given_in, moved_in, lettered_in, line_in}
@@ -40,6 +41,7 @@ use Rattle.quantity.proofs.DigitLemmas.{both}
 use Rattle.quantity.proofs.Written.{has_no, none_at, and_true, split_joined, all_digits, no_digit}
 use Rattle.quantity.proofs.Written.{no_in_last, hours_digits, time_guess, value_guess, written}
 use Rattle.quantity.proofs.Written.{body, body_no, negative_text, div_one}
+use Rattle.text_forms.proofs.AllLetters.{letter_back, of_all}
 
 in_range : (v : Value) → is_value v ≡ true → IsBounded v
 in_range Undefined h = tt
@@ -282,21 +284,12 @@ given_fits letter t l port v h =
 byte_no : (c d : ℕ) → nat_lt c 78 ≡ true → nat_le 78 d ≡ true → not (d == c) ≡ true
 byte_no c d k h = grind (arith, nat_tests)
 
+-- no letter is a digit or a mark
 late : (letter : Letter) → nat_le 78 (letter_byte letter) ≡ true
-late Y = refl
-late N = refl
-late X = refl
-late S = refl
+late letter = of_all (λ k. nat_le 78 (letter_byte k)) refl letter
 
 letter_no : (c : ℕ) (letter : Letter) → nat_lt c 78 ≡ true → has_no c (letter_text letter) ≡ true
 letter_no c letter k = and_true _ true (byte_no c (letter_byte letter) k (late letter)) refl
-
--- a letter that is written is read
-pub letter_back : (letter : Letter) → letter_named (letter_byte letter) ≡ Some letter
-letter_back Y = refl
-letter_back N = refl
-letter_back X = refl
-letter_back S = refl
 
 in_time : (t : ℕ) → nat_le t 719999998 ≡ true → t ≤ 719999998
 in_time t h = grind (arith, nat_tests)
@@ -314,10 +307,12 @@ given_no c s k letter t l port v f =
 of_value : (letter : Letter) (l : LeafName) → is_letter letter l ≡ true
     → (t : Option ℕ) (leaf : LeafName) (port text : Bytes)
     → lettered_in (Some letter) t leaf port text ≡ given_in letter t leaf port (guessed_value text)
-of_value Y l h t leaf port text = refl
-of_value N l h t leaf port text = refl
-of_value X l h t leaf port text = refl
-of_value S l h t leaf port text = absurd cc
+of_value letter l h t leaf port text = by (told_by letter) h
+  where
+    by : (tells : Tells) → is_told_of tells l ≡ true
+        → told_in tells letter t leaf port text ≡ given_in letter t leaf port (guessed_value text)
+    by (a_value of_cells_alone) h = refl
+    by a_move h = absurd cc
 
 given_guess : (letter : Letter) (t : ℕ) (l : LeafName) (port : Bytes) (v : Value)
     → GivenFits letter t l port v

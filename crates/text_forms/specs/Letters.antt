@@ -1,5 +1,6 @@
--- The letters of the log's lines: which there are, how they are written, and their order.
-use Rattle.std.specs.Prelude.{ℕ, Bool, ◌==◌, Option, List, [], ◌∷◌, map}
+-- The letters of the log's lines: which there are, how they are written, their order, and what
+-- their lines tell.
+use Rattle.std.specs.Prelude.{ℕ, Bool, true, false, ◌==◌, Option, List, [], ◌∷◌, map}
 use Rattle.std.specs.List.{find, filter, list_any}
 use Rattle.text_forms.specs.declared.letter.Letter.{Letter}
 use Rattle.text_forms.specs.declared.letter.Letter.TheVariants.{Y, N, X, S}
@@ -14,6 +15,18 @@ letter_byte Y = 89
 letter_byte N = 78
 letter_byte X = 88
 letter_byte S = 83
+
+-- what lines tell: a value at a port, of cells alone or of all leaves, or that a leaf moved
+pub data Tells : Type 0 where
+  a_value : (of_cells_alone : Bool) → Tells
+  a_move : Tells
+
+-- what the lines of a letter tell
+abbrev pub told_by : Letter → Tells
+told_by Y = a_value false
+told_by N = a_value true
+told_by X = a_value false
+told_by S = a_move
 
 -- the bytes of all letters
 abbrev pub letter_bytes : List ℕ

@@ -44,12 +44,27 @@ abbrev pub moved_line : List Leaf → ℕ → StateRecord → Option LogLine
 moved_line ls time r =
     option_map (λ l. moved time (leaf_name l) r.value r.next) (slice_get ls r.leaf)
 
--- which records of a cycle a letter is of, and their lines
+-- records that lines are of: of values at ports, with the names of these, or of leaves that moved
+pub data LetterRecords : Type 0 where
+  of_ports : (port : Leaf → ℕ → Word) (records : List PortRecord) → LetterRecords
+  of_moves : (records : List StateRecord) → LetterRecords
+
+-- which records of a cycle a letter is of
+abbrev pub records_of : Cycle → Letter → LetterRecords
+records_of c Y = of_ports out_port_name c.y
+records_of c N = of_ports out_port_name c.n
+records_of c X = of_ports in_port_name c.x
+records_of c S = of_moves c.s
+
+-- their lines
+abbrev pub lines_of_records : List Leaf → ℕ → Letter → LetterRecords → List LogLine
+lines_of_records ls time letter (of_ports port rs) =
+    filter_map (given_line ls time letter port) rs
+lines_of_records ls time letter (of_moves rs) = filter_map (moved_line ls time) rs
+
+-- the lines of a letter
 abbrev pub lines_of_letter : List Leaf → Cycle → Letter → List LogLine
-lines_of_letter ls c Y = filter_map (given_line ls c.time Y out_port_name) c.y
-lines_of_letter ls c N = filter_map (given_line ls c.time N out_port_name) c.n
-lines_of_letter ls c X = filter_map (given_line ls c.time X in_port_name) c.x
-lines_of_letter ls c S = filter_map (moved_line ls c.time) c.s
+lines_of_letter ls c letter = lines_of_records ls c.time letter (records_of c letter)
 
 -- letter by letter
 abbrev pub cycle_lines : List Leaf → Cycle → List LogLine

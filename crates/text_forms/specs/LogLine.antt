@@ -17,8 +17,8 @@ use Rattle.quantity.specs.Written.{if_written}
 use Rattle.model_tree.specs.Tree.{Word}
 pub use Rattle.model_tree.specs.LeafTexts.{at_text}
 use Rattle.text_forms.specs.declared.letter.Letter.{Letter}
-use Rattle.text_forms.specs.declared.letter.Letter.TheVariants.{Y, N, X, S}
-use Rattle.text_forms.specs.Letters.{letter_byte, letter_named}
+use Rattle.text_forms.specs.declared.letter.Letter.TheVariants.{S}
+use Rattle.text_forms.specs.Letters.{Tells, a_value, a_move, told_by, letter_byte, letter_named}
 
 -- a leaf's name; a cell's has the group's name and two or three coordinates, an atomic leaf's has
 -- none
@@ -92,12 +92,15 @@ is_value (Num x) = nat_le (unsigned_abs x) (10 ^ 15)
 abbrev pub is_time : ℕ → Bool
 is_time t = nat_le t MAX_TIME
 
+-- whether lines that tell this say a value of the leaf
+abbrev pub is_told_of : Tells → LeafName → Bool
+is_told_of (a_value false) l = true
+is_told_of (a_value true) l = has_place l
+is_told_of a_move l = false
+
 -- whether lines of this letter say a value of the leaf: N of cells alone, and S of none
 abbrev pub is_letter : Letter → LeafName → Bool
-is_letter Y l = true
-is_letter N l = has_place l
-is_letter X l = true
-is_letter S l = false
+is_letter letter l = is_told_of (told_by letter) l
 
 -- a cell has a value, and a box none
 abbrev pub is_state : LeafName → Option Value → Bool
@@ -146,11 +149,15 @@ abbrev pub moved_in : Option ℕ → LeafName → Bytes → Bytes → Option Log
 moved_in None leaf state next = None
 moved_in (Some t) leaf state next = Some (moved t leaf (guessed_value state) (guessed_time next))
 
+-- from what it tells, its letter, and what its other parts say
+abbrev pub told_in : Tells → Letter → Option ℕ → LeafName → Bytes → Bytes → Option LogLine
+told_in (a_value of_cells_alone) letter t leaf a b = given_in letter t leaf a (guessed_value b)
+told_in a_move letter t leaf a b = moved_in t leaf a b
+
 -- from its letter, and what its other parts say
 abbrev pub lettered_in : Option Letter → Option ℕ → LeafName → Bytes → Bytes → Option LogLine
 lettered_in None t leaf a b = None
-lettered_in (Some S) t leaf a b = moved_in t leaf a b
-lettered_in (Some letter) t leaf a b = given_in letter t leaf a (guessed_value b)
+lettered_in (Some letter) t leaf a b = told_in (told_by letter) letter t leaf a b
 
 -- from its five parts
 abbrev pub line_in : List Bytes → Option LogLine
