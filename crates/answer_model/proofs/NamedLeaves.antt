@@ -44,7 +44,8 @@ use Rattle.model_text.specs.Accepted.{Passed, PassesEachPhase}
 use Rattle.run_model.specs.Bounds.{HasBoundedValues, HaveBoundedValues}
 use Rattle.text_forms.specs.LogLine.{is_leaf}
 use Rattle.text_forms.specs.Lines.{leaf_name}
-use Rattle.answer_model.specs.AcceptedRuns.{IsNamed, ModelsAreBounded, ModelsAreNamed}
+use Rattle.text_forms.specs.LeafNames.{IsNamed}
+use Rattle.answer_model.specs.AcceptedRuns.{ModelsAreBounded, ModelsAreNamed}
 use Rattle.answer_model.proofs.LowerCase.{is_lower, IsFolded, EntriesFold, read_sections_fold, found_holds, words_lower}
 use Rattle.model_text.proofs.Keys.{same_bytes}
 use Rattle.model_text.proofs.Parts.{find_is}

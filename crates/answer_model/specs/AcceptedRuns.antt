@@ -1,24 +1,22 @@
 -- The runs of accepted models: their values are bounded, their leaves and ports have names, and
 -- what their logs say is drawn.
 use Rattle.std.specs.Prelude.{◌≡◌, ℕ, ◌<◌, true, Option, Some, None, List, [], ◌∷◌, length}
-use Rattle.std.specs.List.{All, list_all}
+use Rattle.std.specs.List.{All}
 use Rattle.std.specs.declared.result.Result.TheVariants.{Ok}
 use Rattle.quantity.specs.Bytes.{Bytes}
-use Rattle.quantity.specs.Names.{is_name}
 use Rattle.source_text.specs.Lines.{Files}
 use Rattle.cell_grid.specs.Space.{plane_count}
 use Rattle.atomic_face.specs.declared.class.Class.{Class}
 use Rattle.event_list.specs.Events.{Event, events_of}
-use Rattle.model_tree.specs.Tree.{Word, Group, Tree, Leaf, atomic_leaf, cell_leaf, leaves, ins_of}
-use Rattle.model_tree.specs.Pull.{class_ports, cell_ports}
+use Rattle.model_tree.specs.Tree.{Word, Group, Tree, leaves, ins_of}
 use Rattle.quantity.specs.Times.{IsDelay}
 use Rattle.run_model.specs.Bounds.{IsBoundedEvent, HasBoundedValues}
 use Rattle.model_text.specs.Drawings.{Drawing}
 use Rattle.model_text.specs.ModelOf.{model, model_of}
 use Rattle.text_forms.specs.declared.letter.Letter.TheVariants.{Y}
 use Rattle.text_forms.specs.Letters.{has_letter}
-use Rattle.text_forms.specs.LogLine.{is_leaf}
-use Rattle.text_forms.specs.Lines.{leaf_name, further_ports, log_bytes}
+use Rattle.text_forms.specs.Lines.{log_bytes}
+use Rattle.text_forms.specs.LeafNames.{IsNamed}
 use Rattle.text_forms.specs.Frames.{Picture, frames_of, drawn}
 use Rattle.answer_model.specs.RunFiles.{group_at, emitted_before, frames_file}
 use Rattle.answer_model.specs.Asked.{FramesFile}
@@ -48,17 +46,6 @@ EventsAreAtPorts =
     → All (λ (e : Event). e.port < length ports) events
 
 -- ---- names
-
--- the names of a leaf's input ports
-abbrev pub in_ports : Leaf → List Word
-in_ports (atomic_leaf name class settings) = class_ports class
-in_ports (cell_leaf g first cell) = cell_ports g cell
-
--- a leaf's name and the names of its ports are such as lines of a log have
-pub record IsNamed (l : Leaf) : Type 0 where
-  pub leaf : is_leaf (leaf_name l) ≡ true
-  pub further : list_all is_name (further_ports l) ≡ true
-  pub ins : list_all is_name (in_ports l) ≡ true
 
 -- each leaf of an accepted model has a name
 abbrev pub ModelsAreNamed : Type 0

@@ -9,7 +9,11 @@ use Rattle.atomic_kinds.specs.Phases.{phase_due, phase_number}
 
 -- a queue's state in code as one of the definitions
 abbrev pub state_in : QueueModel → QueueState
-state_in q = record { phase = phase_number q.phase; due = phase_due q.phase; waiting = map word_of q.waiting.items }
+state_in q = record {
+  phase = phase_number q.phase;
+  due = phase_due q.phase;
+  waiting = map word_of q.waiting.items;
+}
 
 -- a queue in code as a box of the definitions
 abbrev pub held_queue : QueueModel → Held

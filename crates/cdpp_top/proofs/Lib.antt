@@ -2,7 +2,6 @@ pub mod Causing
 pub mod Tried
 pub mod Models
 pub mod Files
-pub mod Letters
 pub mod Groups
 pub mod Shown
 pub mod Started

@@ -1,7 +1,6 @@
 // What a run is asked to write.
 ghost use Rattle.std.specs.Prelude.{◌≡◌, ℕ, IsTrue};
 ghost use Rattle.std.specs.Option.{option_map};
-ghost use Rattle.text_forms.specs.Letters as forms;
 ghost use Rattle.answer_model.specs.Asked.{are_letters, is_among};
 ghost use Rattle.asked_words.specs.Shown as shown;
 ghost use Rattle.record_text.specs.Chosen.{letters_of};
@@ -12,7 +11,6 @@ use quantity::Name;
 use record_text::Letters;
 use run_loop::{FramesFile as FramesOutput, Outputs};
 use std::str;
-use text_forms::Letter;
 
 /// The outputs that are asked for.
 pub(crate) fn outputs_of<'a>(asked: &'a Asked<'_>) -> Outputs<'a>
@@ -71,18 +69,5 @@ fn letters_in(letters: &str) -> Letters
     requires { IsTrue (are_letters letters.now) }
     ensures { (c : ℕ) → is_among c letters.now ≡ is_among c (letters_of result) }
 {
-    Letters {
-        y: has_letter(letters, Letter::Y),
-        n: has_letter(letters, Letter::N),
-        x: has_letter(letters, Letter::X),
-        s: has_letter(letters, Letter::S),
-    }
-}
-
-/// Whether a letter is among these.
-fn has_letter(letters: &str, letter: Letter) -> bool
-    ensures { result ≡ forms.has_letter letters.now letter }
-{
-    let byte = letter.byte();
-    letters.as_bytes().iter().any(|c| *c == byte)
+    Letters::among(letters.as_bytes())
 }

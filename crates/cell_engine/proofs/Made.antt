@@ -3,7 +3,7 @@ use Rattle.std.proofs.Common.{◌≡◌, ℕ, ◌+◌, ◌*◌, ◌<◌, ◌≤�
 use Rattle.std.specs.List.{All}
 use Rattle.std.proofs.lemmas.List.{length-map}
 use Rattle.std.proofs.lemmas.List.Elements.{All-more}
-use Rattle.rule_eval.specs.RuleCodes.{Codes, rule_depth}
+use Rattle.rule_forms.specs.RuleCodes.{Codes, rule_depth}
 use Rattle.cell_grid.specs.Space.{cell_count}
 use Rattle.model_tree.specs.Tree.{Group}
 use Rattle.model_tree.specs.Sound.{is_sound_group}

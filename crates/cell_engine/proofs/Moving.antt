@@ -4,7 +4,7 @@ use Rattle.std.specs.List.{All}
 use Rattle.std.proofs.lemmas.List.{take_at}
 use Rattle.std.specs.declared.result.Result.{Result}
 use Rattle.rule_tree.specs.Meaning.{Sight}
-use Rattle.rule_eval.specs.RuleCodes.{Codes, rule_depth}
+use Rattle.rule_forms.specs.RuleCodes.{Codes, rule_depth}
 use Rattle.atomic_face.specs.Classes.{Bag}
 use Rattle.cell_grid.specs.Space.{cell_count}
 use Rattle.model_tree.specs.Tree.{Word, Group}

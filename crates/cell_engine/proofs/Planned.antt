@@ -11,7 +11,7 @@ use Rattle.quantity.specs.declared.place.Offset.{Offset}
 use Rattle.quantity.specs.Bytes.{is_empty, has_repeat}
 use Rattle.rule_tree.specs.Phrases.{out}
 use Rattle.rule_tree.specs.Scope.{is_sound}
-use Rattle.rule_eval.specs.RuleCodes.{codes_of}
+use Rattle.rule_forms.specs.RuleCodes.{codes_of}
 use Rattle.cell_grid.specs.Space.{Space, cell_count}
 use Rattle.cell_grid.specs.Zones.{zone_of}
 use Rattle.cell_reach.specs.Neighbourhoods.{Neighbourhood}

@@ -9,7 +9,7 @@ use Rattle.std.proofs.lemmas.List.FromFn.{get_or-map-range_with_len}
 use Rattle.quantity.specs.Bytes.{is_empty}
 use Rattle.rule_tree.specs.Expression.{Expr, Rule}
 use Rattle.rule_tree.specs.Scope.{Extent, differ, has_right_sorts, is_within, is_sound}
-use Rattle.rule_eval.specs.RuleCodes.{Codes, codes_of}
+use Rattle.rule_forms.specs.RuleCodes.{Codes, codes_of}
 use Rattle.cell_grid.specs.Space.{Space, cell_count}
 use Rattle.cell_grid.specs.Zones.{zone_of}
 use Rattle.model_tree.specs.declared.group.PortRule.{PortRule}

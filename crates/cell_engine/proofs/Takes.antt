@@ -11,8 +11,8 @@ use Rattle.rule_tree.specs.Ports.{changed_at, taken_by_port}
 use Rattle.rule_tree.specs.Expression.{Rule}
 use Rattle.rule_tree.specs.Meaning.{Sight}
 use Rattle.rule_tree.specs.Chosen.{Chosen, chosen}
-use Rattle.rule_eval.specs.RuleCodes.{Codes, rule_depth}
-use Rattle.rule_eval.specs.declared.given.Given.{Given}
+use Rattle.rule_forms.specs.RuleCodes.{Codes, rule_depth}
+use Rattle.rule_forms.specs.declared.given.Given.{Given}
 use Rattle.rule_eval.specs.Evaluated.{Evaluates}
 use Rattle.model_tree.specs.Tree.{Word, Group}
 use Rattle.run_model.specs.CellStep.{CellState, port_took, took, and_took, rule_set, cell_rules, port_rules, by_port}

@@ -11,7 +11,7 @@ use Rattle.rule_tree.specs.Meaning.{Sight}
 use Rattle.rule_tree.specs.Scope.{differ}
 use Rattle.rule_tree.specs.Ports.{by_port}
 use Rattle.rule_tree.specs.Chosen.{chosen}
-use Rattle.rule_eval.specs.RuleCodes.{Codes, codes_of, rule_depth}
+use Rattle.rule_forms.specs.RuleCodes.{Codes, codes_of, rule_depth}
 use Rattle.rule_eval.specs.declared.view.View.{View}
 use Rattle.cell_grid.specs.Space.{place_of, dims_of}
 use Rattle.cell_reach.specs.Neighbourhoods.{Neighbourhood, further, neighbours}

@@ -2,7 +2,7 @@
 use Rattle.std.specs.Prelude.{◌≡◌, ℕ, ◌+◌, ◌*◌, ◌≤◌, ◌<◌, length}
 use Rattle.std.specs.List.{All}
 use Rattle.quantity.specs.declared.bounds.TheConstants.{MAX_DELAY}
-use Rattle.rule_eval.specs.RuleCodes.{rule_depth}
+use Rattle.rule_forms.specs.RuleCodes.{rule_depth}
 use Rattle.cell_grid.specs.Space.{cell_count}
 use Rattle.cell_reach.specs.Neighbourhoods.{Neighbourhood}
 use Rattle.model_tree.specs.declared.group.PortRule.{PortRule}

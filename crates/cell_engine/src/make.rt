@@ -3,7 +3,7 @@ ghost use Rattle.std.specs.Prelude.{◌≡◌, ◌<◌, ◌≤◌, [], ◌∷◌
 ghost use Rattle.std.specs.List.{All, range_with_len};
 ghost use Rattle.std.specs.Option.{unwrap_or};
 ghost use Rattle.rule_tree.specs.Expression.{rule_of};
-ghost use Rattle.rule_eval.specs.RuleCodes.{codes_of, rule_depth};
+ghost use Rattle.rule_forms.specs.RuleCodes.{codes_of, rule_depth};
 ghost use Rattle.cell_grid.specs.Space.{cell_count};
 ghost use Rattle.model_tree.specs.Sound.{is_sound_group};
 ghost use Rattle.model_tree.specs.Stands.{group_of};

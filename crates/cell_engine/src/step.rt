@@ -5,7 +5,7 @@ ghost use Rattle.std.specs.List.{All};
 ghost use Rattle.quantity.specs.declared.bounds.TheConstants.{MAX_DELAY};
 ghost use Rattle.quantity.specs.declared.value.Value.{Value as AnyValue};
 ghost use Rattle.rule_tree.specs.Expression.{Rule};
-ghost use Rattle.rule_eval.specs.RuleCodes.{rule_depth};
+ghost use Rattle.rule_forms.specs.RuleCodes.{rule_depth};
 ghost use Rattle.run_model.specs.CellStep.{took};
 ghost use Rattle.cell_table.specs.Table.{HasShape, changed_cell, changed_ports};
 ghost use Rattle.cell_table.specs.Told.{cell_at, OnlyCell};

@@ -1,4 +1,4 @@
--- Zones: the parts of their texts, and the boxes that these give.
+-- Zones: the parts of their texts, and the ranges that these give.
 use Rattle.std.proofs.Common.{◌≡◌, ℕ, ◌+◌, ◌-◌, ◌<◌, ◌≤◌, Bool, true, false, cond, not, ◌&&◌, nat_eq, nat_le, nat_lt, Option, Some, None, List, [], ◌∷◌, ◌++◌, length, map, take, drop, reverse, codes, refl, ap, sym, ◌∙◌, arith, inl, inr, MatchOption}
 use denote.Ref.{Bor}
 use Rattle.std.proofs.lemmas.Bool.{cases_eq, cases_lt, eq-eqb, eqb-true, false≢true, le-leb}
@@ -15,9 +15,9 @@ use Rattle.quantity.specs.Bytes.{Bytes, is_byte, is_empty, inside, trimmed, all_
 use Rattle.quantity.specs.Names.{is_name}
 use Rattle.source_text.specs.Tuples.{closed_parts, parts_of}
 use Rattle.cell_grid.specs.Space.{Space}
-use Rattle.cell_grid.specs.ZoneTexts.{Corner, start, up_to, bare_place, corner_in, is_ordered, box, boxes_of, boxes_in, some_boxes, zone_items, zone_name, zone_in}
+use Rattle.cell_grid.specs.ZoneTexts.{Corner, start, up_to, bare_place, corner_in, is_ordered, range, ranges_of, ranges_in, some_ranges, zone_items, zone_name, zone_in}
 use Rattle.cell_grid.specs.Region.{Region}
-use Rattle.cell_grid.specs.Reading.{boxes_of_parts}
+use Rattle.cell_grid.specs.Reading.{ranges_of_parts}
 use Rattle.cell_grid.proofs.Gathered.{behind}
 
 -- ---- the first that passes
@@ -44,71 +44,71 @@ parts_cases text None e = ap closed_parts e
 parts_cases text (Some cut) e =
     ap closed_parts e ∙ closed_more cut.0.now (slice_split (is_byte 41) cut.1.now) (omega (arith, length-slice_split (is_byte 41) cut.1.now))
 
--- ---- boxes
+-- ---- ranges
 
 itself : (p : Place) → is_ordered p p ≡ true
 itself p =
     ap (λ b. b && nat_le p.column p.column && nat_le p.plane p.plane) (le-leb p.row p.row (omega arith))
     ∙ ap (λ b. b && nat_le p.plane p.plane) (le-leb p.column p.column (omega arith)) ∙ le-leb p.plane p.plane (omega arith)
 
-box_alone : (p : Place) (o : Option (List (Place × Place))) → box p p o ≡ option_map (λ boxes. (p, p) ∷ boxes) o
-box_alone p None = refl
-box_alone p (Some boxes) = ap (λ b. then_some b ((p, p) ∷ boxes)) (itself p)
+range_alone : (p : Place) (o : Option (List (Place × Place))) → range p p o ≡ option_map (λ ranges. (p, p) ∷ ranges) o
+range_alone p None = refl
+range_alone p (Some ranges) = ap (λ b. then_some b ((p, p) ∷ ranges)) (itself p)
 
 start_corner : (space : Space) (part : Bytes) (o : Option Place) → starts_with nat_eq part (codes "..") ≡ false → bare_place space (trimmed part) ≡ o → corner_in space part ≡ option_map start o
 start_corner space part o s e = ap (λ b. cond b (option_map up_to (bare_place space (drop 2 part))) (option_map start (bare_place space (trimmed part)))) s ∙ ap (option_map start) e
 
--- a part that begins a box which the next part doesn't end
+-- a part that begins a range which the next part doesn't end
 pub one_place : (space : Space) (part : Bytes) (parts : Option (List Bytes)) (p : Place) → starts_with nat_eq part (codes "..") ≡ false → bare_place space (trimmed part) ≡ Some p
     → ((next : Bytes) (rest : List Bytes) → parts ≡ Some (next ∷ rest) → starts_with nat_eq next (codes "..") ≡ false)
-    → boxes_of_parts space (option_map (λ rest. part ∷ rest) parts) ≡ option_map (λ boxes. (p, p) ∷ boxes) (boxes_of_parts space parts)
+    → ranges_of_parts space (option_map (λ rest. part ∷ rest) parts) ≡ option_map (λ ranges. (p, p) ∷ ranges) (ranges_of_parts space parts)
 one_place space part None p s e h = refl
-one_place space part (Some []) p s e h = ap (λ o. option_and_then boxes_of (in_front o (Some []))) (start_corner space part (Some p) s e) ∙ box_alone p (Some [])
+one_place space part (Some []) p s e h = ap (λ o. option_and_then ranges_of (in_front o (Some []))) (start_corner space part (Some p) s e) ∙ range_alone p (Some [])
 one_place space part (Some (next ∷ rest)) p s e h =
-    ap (λ o. option_and_then boxes_of (in_front o (in_front (corner_in space next) (all_there (map (corner_in space) rest))))) (start_corner space part (Some p) s e)
-    ∙ ap (λ o. option_and_then boxes_of (in_front (Some (start p)) (in_front o (all_there (map (corner_in space) rest))))) (start_corner space next (bare_place space (trimmed next)) (h next rest refl) refl)
+    ap (λ o. option_and_then ranges_of (in_front o (in_front (corner_in space next) (all_there (map (corner_in space) rest))))) (start_corner space part (Some p) s e)
+    ∙ ap (λ o. option_and_then ranges_of (in_front (Some (start p)) (in_front o (all_there (map (corner_in space) rest))))) (start_corner space next (bare_place space (trimmed next)) (h next rest refl) refl)
     ∙ before_start (bare_place space (trimmed next)) (all_there (map (corner_in space) rest))
-    ∙ ap (λ o. option_map (λ boxes. (p, p) ∷ boxes) (option_and_then boxes_of (in_front o (all_there (map (corner_in space) rest))))) (sym (start_corner space next (bare_place space (trimmed next)) (h next rest refl) refl))
+    ∙ ap (λ o. option_map (λ ranges. (p, p) ∷ ranges) (option_and_then ranges_of (in_front o (all_there (map (corner_in space) rest))))) (sym (start_corner space next (bare_place space (trimmed next)) (h next rest refl) refl))
   where
-    before_start : (o : Option Place) (cs : Option (List Corner)) → option_and_then boxes_of (in_front (Some (start p)) (in_front (option_map start o) cs)) ≡ option_map (λ boxes. (p, p) ∷ boxes) (option_and_then boxes_of (in_front (option_map start o) cs))
+    before_start : (o : Option Place) (cs : Option (List Corner)) → option_and_then ranges_of (in_front (Some (start p)) (in_front (option_map start o) cs)) ≡ option_map (λ ranges. (p, p) ∷ ranges) (option_and_then ranges_of (in_front (option_map start o) cs))
     before_start None cs = refl
     before_start (Some q) None = refl
-    before_start (Some q) (Some cs) = box_alone p (boxes_of (start q ∷ cs))
+    before_start (Some q) (Some cs) = range_alone p (ranges_of (start q ∷ cs))
 
--- ---- a zone's boxes, one after another
+-- ---- a zone's ranges, one after another
 
-module _ (boxes : List (Place × Place)) (whole left : Option (List (Place × Place))) (e : whole ≡ behind boxes left) where
-  pub box_more : (b : Place × Place) (rest : Option (List (Place × Place))) → left ≡ option_map (λ bs. b ∷ bs) rest → whole ≡ behind (boxes ++ b ∷ []) rest
-  box_more b rest is = e ∙ ap (behind boxes) is ∙ at rest
+module _ (ranges : List (Place × Place)) (whole left : Option (List (Place × Place))) (e : whole ≡ behind ranges left) where
+  pub range_more : (b : Place × Place) (rest : Option (List (Place × Place))) → left ≡ option_map (λ bs. b ∷ bs) rest → whole ≡ behind (ranges ++ b ∷ []) rest
+  range_more b rest is = e ∙ ap (behind ranges) is ∙ at rest
     where
-      at : (o : Option (List (Place × Place))) → behind boxes (option_map (λ bs. b ∷ bs) o) ≡ behind (boxes ++ b ∷ []) o
+      at : (o : Option (List (Place × Place))) → behind ranges (option_map (λ bs. b ∷ bs) o) ≡ behind (ranges ++ b ∷ []) o
       at None = refl
-      at (Some bs) = ap Some (sym (append_assoc boxes (b ∷ []) bs))
+      at (Some bs) = ap Some (sym (append_assoc ranges (b ∷ []) bs))
 
-  pub no_more : left ≡ None → option_and_then some_boxes whole ≡ None
-  no_more is = ap (option_and_then some_boxes) (e ∙ ap (behind boxes) is)
+  pub no_more : left ≡ None → option_and_then some_ranges whole ≡ None
+  no_more is = ap (option_and_then some_ranges) (e ∙ ap (behind ranges) is)
 
-  pub no_box : (b : Bool) → left ≡ then_some b [] → boxes ≡ [] → option_and_then some_boxes whole ≡ None
-  no_box b is none = ap (option_and_then some_boxes) (e ∙ ap (λ bs. behind bs left) none ∙ ap (behind []) is) ∙ at b
+  pub no_range : (b : Bool) → left ≡ then_some b [] → ranges ≡ [] → option_and_then some_ranges whole ≡ None
+  no_range b is none = ap (option_and_then some_ranges) (e ∙ ap (λ bs. behind bs left) none ∙ ap (behind []) is) ∙ at b
     where
-      at : (b : Bool) → option_and_then some_boxes (behind [] (then_some b [])) ≡ None
+      at : (b : Bool) → option_and_then some_ranges (behind [] (then_some b [])) ≡ None
       at true = refl
       at false = refl
 
-  pub all_boxes : left ≡ Some [] → 0 < length boxes → option_and_then some_boxes whole ≡ Some boxes
-  all_boxes is some = ap (option_and_then some_boxes) (e ∙ ap (behind boxes) is ∙ ap Some (append-nil boxes)) ∙ at boxes some
+  pub all_ranges : left ≡ Some [] → 0 < length ranges → option_and_then some_ranges whole ≡ Some ranges
+  all_ranges is some = ap (option_and_then some_ranges) (e ∙ ap (behind ranges) is ∙ ap Some (append-nil ranges)) ∙ at ranges some
     where
-      at : (bs : List (Place × Place)) → 0 < length bs → some_boxes bs ≡ Some bs
+      at : (bs : List (Place × Place)) → 0 < length bs → some_ranges bs ≡ Some bs
       at [] h = absurd (omega arith)
       at (b ∷ bs) h = refl
 
 -- ---- braces
 
 abbrev region : Bytes → List (Place × Place) → Region
-region name boxes = record { name = name; boxes = boxes }
+region name ranges = record { name = name; ranges = ranges }
 
 abbrev named : Bytes → List (Place × Place) → Option Region
-named text boxes = then_some (is_name (zone_name text)) (region (zone_name text) boxes)
+named text ranges = then_some (is_name (zone_name text)) (region (zone_name text) ranges)
 
 before_last_byte : (c : ℕ) (xs : Bytes) → before_last (is_byte c) (xs ++ c ∷ []) ≡ xs
 before_last_byte c xs =
@@ -155,16 +155,16 @@ closed_braces text items e =
     ]
 
 module _ (space : Space) (text items : Bytes) (braced : after_first (is_byte 123) text ≡ items ++ 125 ∷ []) where
-  pub no_boxes_no_zone : boxes_in space items ≡ None → zone_in space text ≡ None
-  no_boxes_no_zone none = ap (λ o. option_and_then (named text) (option_and_then (boxes_in space) o)) (closed_braces text items braced) ∙ ap (option_and_then (named text)) none
+  pub no_ranges_no_zone : ranges_in space items ≡ None → zone_in space text ≡ None
+  no_ranges_no_zone none = ap (λ o. option_and_then (named text) (option_and_then (ranges_in space) o)) (closed_braces text items braced) ∙ ap (option_and_then (named text)) none
 
-  pub zone_with_boxes : (name : Bytes) (boxes : List (Place × Place)) → boxes_in space items ≡ Some boxes → name ≡ zone_name text → is_name (zone_name text) ≡ true → zone_in space text ≡ Some (record { name = name; boxes = boxes })
-  zone_with_boxes name boxes some e is =
-      ap (λ o. option_and_then (named text) (option_and_then (boxes_in space) o)) (closed_braces text items braced) ∙ ap (option_and_then (named text)) some
-      ∙ ap (λ b. then_some b (region (zone_name text) boxes)) is ∙ ap (λ n. Some (region n boxes)) (sym e)
+  pub zone_with_ranges : (name : Bytes) (ranges : List (Place × Place)) → ranges_in space items ≡ Some ranges → name ≡ zone_name text → is_name (zone_name text) ≡ true → zone_in space text ≡ Some (record { name = name; ranges = ranges })
+  zone_with_ranges name ranges some e is =
+      ap (λ o. option_and_then (named text) (option_and_then (ranges_in space) o)) (closed_braces text items braced) ∙ ap (option_and_then (named text)) some
+      ∙ ap (λ b. then_some b (region (zone_name text) ranges)) is ∙ ap (λ n. Some (region n ranges)) (sym e)
 
 pub no_items_no_zone : (space : Space) (text : Bytes) → zone_items text ≡ None → zone_in space text ≡ None
-no_items_no_zone space text none = ap (λ o. option_and_then (named text) (option_and_then (boxes_in space) o)) none
+no_items_no_zone space text none = ap (λ o. option_and_then (named text) (option_and_then (ranges_in space) o)) none
 
 pub some_there : {r : Bool} (n : ℕ) → r ≡ nat_eq n 0 → r ≡ false → 0 < n
 some_there n e f = elim (cases_eq n 0) [ inl z ↦ absurd (false≢true (sym f ∙ e ∙ eq-eqb n 0 z)) | inr z ↦ omega arith ]

@@ -9,7 +9,7 @@ use Rattle.quantity.specs.Literals.{value_in}
 use Rattle.source_text.specs.Lines.{text_of_line}
 use Rattle.quantity.specs.declared.place.Place.{Place}
 use Rattle.cell_grid.specs.Space.{Space}
-use Rattle.cell_grid.specs.ZoneTexts.{boxes_of, corner_in}
+use Rattle.cell_grid.specs.ZoneTexts.{ranges_of, corner_in}
 
 -- all values, where there are so many and none is missing
 abbrev pub all_of : ℕ → List (Option Value) → Option (List Value)
@@ -27,8 +27,8 @@ file_words bytes = flat_map (λ line. words (text_of_line line)) (slice_split (i
 abbrev pub words_left : Bytes → Bytes → List Bytes
 words_left line behind = words line ++ file_words behind
 
--- the boxes of parts of a zone's items
-abbrev pub boxes_of_parts : Space → Option (List Bytes) → Option (List (Place × Place))
-boxes_of_parts space parts =
-    option_and_then boxes_of
+-- the ranges of parts of a zone's items
+abbrev pub ranges_of_parts : Space → Option (List Bytes) → Option (List (Place × Place))
+ranges_of_parts space parts =
+    option_and_then ranges_of
     (option_and_then (λ texts. all_there (map (corner_in space) texts)) parts)

@@ -39,9 +39,9 @@ tower = deep NoWrapped 2 1 2
 abbrev pub zone_at : ℕ → Bytes → Option (Option ℕ)
 zone_at cell text = option_map (λ z. zone_of (z ∷ []) (row 3) cell) (zone_in (row 3) text)
 
--- the number of its boxes
-abbrev pub box_count : Space → Bytes → Option ℕ
-box_count space text = option_map (λ (z : Region). length z.boxes) (zone_in space text)
+-- the number of its ranges
+abbrev pub range_count : Space → Bytes → Option ℕ
+range_count space text = option_map (λ (z : Region). length z.ranges) (zone_in space text)
 
 -- the cells that the zone of a text holds
 abbrev pub cells_held : Space → Bytes → Option (List ℕ)
@@ -55,7 +55,7 @@ pub record ZonesAreRead : Type 0 where
       ≡ Some (codes "r")
   pub inside : zone_at 0 (codes "r { (0,0)..(0,1) }") ≡ Some (Some 0)
   pub outside : zone_at 2 (codes "r { (0,0)..(0,1) }") ≡ Some None
-  pub touching : box_count (row 3) (codes "r {(0,0)(0,1)..(0,2) (0,1)}") ≡ Some 3
+  pub touching : range_count (row 3) (codes "r {(0,0)(0,1)..(0,2) (0,1)}") ≡ Some 3
   pub range : cells_held (row 3) (codes "r { (0,0)..(0,1) }") ≡ Some (0 ∷ 1 ∷ [])
   pub one : cells_held (row 3) (codes "r{(0,2)}") ≡ Some (2 ∷ [])
   pub several : cells_held (row 3) (codes "r {(0,0)(0,1)..(0,2) (0,1)}") ≡ Some (0 ∷ 1 ∷ 2 ∷ [])
@@ -67,7 +67,7 @@ pub record ZonesAreRead : Type 0 where
   pub sign_and_zeros : cells_held (row 3) (codes "r { (+0,001) }") ≡ Some (1 ∷ [])
   pub rows : cells_held (flat NoWrapped 2 3) (codes "r { (0,1)..(1,2) }")
       ≡ Some (1 ∷ 2 ∷ 4 ∷ 5 ∷ [])
-  pub three_coordinates : box_count cube (codes "r { (0,0,0)..(1,1,1) }") ≡ Some 1
+  pub three_coordinates : range_count cube (codes "r { (0,0,0)..(1,1,1) }") ≡ Some 1
   pub one_of_cube : cells_held cube (codes "r { (1,0,1) }") ≡ Some (5 ∷ [])
   pub plane_of_cube : cells_held cube (codes "r { (0,0,1)..(1,1,1) }") ≡ Some (1 ∷ 3 ∷ 5 ∷ 7 ∷ [])
   pub parts_of_cube : cells_held cube (codes "r { (0,1,0)..(1,1,0) (0,0,1) }")

@@ -1,4 +1,4 @@
--- Zones as texts: a name, and between braces the places and boxes of places that it holds.
+-- Zones as texts: a name, and between braces the places and ranges of places that it holds.
 use Rattle.std.specs.Prelude.{Bool, ◌&&◌, nat_eq, nat_le, Option, Some, None, List, [], ◌∷◌, map, length, drop, if◌then◌else◌, codes}
 use Rattle.std.specs.List.{before_first, starts_with}
 use Rattle.std.specs.Option.{option_map, option_and_then}
@@ -24,7 +24,7 @@ bare_place space part =
     option_and_then (λ t. option_and_then (place_in space) (then_some (is_empty t.name) t.place))
     (named_tuple part)
 
--- a corner of a box, the second one behind two dots
+-- a corner of a range, the second one behind two dots
 abbrev pub corner_in : Space → Bytes → Option Corner
 corner_in space part =
     if starts_with nat_eq part (codes "..") then option_map up_to (bare_place space (drop 2 part))
@@ -34,28 +34,28 @@ corner_in space part =
 abbrev pub is_ordered : Place → Place → Bool
 is_ordered p q = nat_le p.row q.row && nat_le p.column q.column && nat_le p.plane q.plane
 
--- a box before others, where its corners are in order
-abbrev pub box : Place → Place → Option (List (Place × Place)) → Option (List (Place × Place))
-box p q rest = option_and_then (λ boxes. then_some (is_ordered p q) ((p, q) ∷ boxes)) rest
+-- a range before others, where its corners are in order
+abbrev pub range : Place → Place → Option (List (Place × Place)) → Option (List (Place × Place))
+range p q rest = option_and_then (λ ranges. then_some (is_ordered p q) ((p, q) ∷ ranges)) rest
 
--- the boxes of some corners
-abbrev pub boxes_of : List Corner → Option (List (Place × Place))
-boxes_of [] = Some []
-boxes_of (up_to q ∷ cs) = None
-boxes_of (start p ∷ []) = box p p (Some [])
-boxes_of (start p ∷ up_to q ∷ cs) = box p q (boxes_of cs)
-boxes_of (start p ∷ start q ∷ cs) = box p p (boxes_of (start q ∷ cs))
+-- the ranges of some corners
+abbrev pub ranges_of : List Corner → Option (List (Place × Place))
+ranges_of [] = Some []
+ranges_of (up_to q ∷ cs) = None
+ranges_of (start p ∷ []) = range p p (Some [])
+ranges_of (start p ∷ up_to q ∷ cs) = range p q (ranges_of cs)
+ranges_of (start p ∷ start q ∷ cs) = range p p (ranges_of (start q ∷ cs))
 
--- at least one box
-abbrev pub some_boxes : List (Place × Place) → Option (List (Place × Place))
-some_boxes [] = None
-some_boxes (b ∷ bs) = Some (b ∷ bs)
+-- at least one range
+abbrev pub some_ranges : List (Place × Place) → Option (List (Place × Place))
+some_ranges [] = None
+some_ranges (b ∷ bs) = Some (b ∷ bs)
 
--- the boxes that a text gives
-abbrev pub boxes_in : Space → Bytes → Option (List (Place × Place))
-boxes_in space text =
-    option_and_then some_boxes
-    (option_and_then boxes_of
+-- the ranges that a text gives
+abbrev pub ranges_in : Space → Bytes → Option (List (Place × Place))
+ranges_in space text =
+    option_and_then some_ranges
+    (option_and_then ranges_of
     (option_and_then (λ parts. all_there (map (corner_in space) parts)) (parts_of text)))
 
 -- ---- name { items }
@@ -72,6 +72,6 @@ zone_items text = inside 123 125 (drop (length (before_first (is_byte 123) text)
 abbrev pub zone_in : Space → Bytes → Option Region
 zone_in space text =
     option_and_then
-    (λ boxes.
-    then_some (is_name (zone_name text)) (record { name = zone_name text; boxes = boxes }))
-    (option_and_then (boxes_in space) (zone_items text))
+    (λ ranges.
+    then_some (is_name (zone_name text)) (record { name = zone_name text; ranges = ranges }))
+    (option_and_then (ranges_in space) (zone_items text))

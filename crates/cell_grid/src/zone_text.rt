@@ -7,7 +7,7 @@ ghost use Rattle.quantity.specs.Bytes.{is_empty, trimmed};
 ghost use Rattle.source_text.specs.Tuples.{parts_of};
 ghost use Rattle.cell_grid.specs.Region.{region_of};
 ghost use Rattle.cell_grid.specs.ZoneTexts as spec;
-ghost use Rattle.cell_grid.specs.Reading.{boxes_of_parts};
+ghost use Rattle.cell_grid.specs.Reading.{ranges_of_parts};
 
 use crate::Grid;
 use crate::tuple_place::place_in;
@@ -28,32 +28,32 @@ pub fn zone_in(alloc: Global, text: &[u8], grid: &Grid) -> Result<Zone, ZoneRefu
     let Some(items) = behind.strip_suffix(b"}") else {
         return Err(ZoneRefusal::BadZone);
     };
-    let boxes = boxes_in(alloc, items, grid)?;
+    let ranges = ranges_in(alloc, items, grid)?;
     let name = Name::parse(alloc, trimmed(name))?;
-    Ok(Zone { name, boxes })
+    Ok(Zone { name, ranges })
 }
 
-/// The boxes of a zone's items, of which there is at least one.
-fn boxes_in(alloc: Global, items: &[u8], grid: &Grid) -> Result<Vec<(Place, Place)>, ZoneRefusal>
-    ensures ok { IfOk result (λ boxes. spec.boxes_in grid.now items.now ≡ Some boxes.items) }
-    ensures bad { result ≡ Err ZoneRefusal.BadZone → spec.boxes_in grid.now items.now ≡ None }
+/// The ranges of a zone's items, of which there is at least one.
+fn ranges_in(alloc: Global, items: &[u8], grid: &Grid) -> Result<Vec<(Place, Place)>, ZoneRefusal>
+    ensures ok { IfOk result (λ ranges. spec.ranges_in grid.now items.now ≡ Some ranges.items) }
+    ensures bad { result ≡ Err ZoneRefusal.BadZone → spec.ranges_in grid.now items.now ≡ None }
 {
-    let mut boxes = Vec::new(alloc);
+    let mut ranges = Vec::new(alloc);
     let mut left = items;
     'parts: while let Some((part, behind)) = closed_part(left) {
-        let Some((corners, others)) = first_box(part, behind, grid) else {
+        let Some((corners, others)) = first_range(part, behind, grid) else {
             return Err(ZoneRefusal::BadZone);
         };
-        boxes.push(corners).map_err(AllocError::from)?;
+        ranges.push(corners).map_err(AllocError::from)?;
         left = others;
     }
-    if boxes.is_empty() {
+    if ranges.is_empty() {
         return Err(ZoneRefusal::BadZone);
     }
     if !trimmed(left).is_empty() {
         return Err(ZoneRefusal::BadZone);
     }
-    Ok(boxes)
+    Ok(ranges)
 }
 
 /// What stands before the first closing parenthesis, and what stands behind it. None where there is
@@ -67,15 +67,16 @@ fn closed_part(text: &[u8]) -> Option<(&[u8], &[u8])>
     part_before(b')', text)
 }
 
-/// The box that a part begins, which ends with the next part where that begins with `..`, and the
+/// The range that a part begins, which ends with the next part where that begins with `..`, and the
 /// text behind it. None where the part or its end is no place inside, or where the end is less in a
 /// coordinate.
-fn first_box<'a>(part: &[u8], behind: &'a [u8], grid: &Grid) -> Option<((Place, Place), &'a [u8])>
+fn first_range<'a>(part: &[u8], behind: &'a [u8], grid: &Grid) -> Option<((Place, Place), &'a [u8])>
     ensures value { MatchOption result
-        (boxes_of_parts grid.now (option_map (λ parts. part.now ∷ parts) (parts_of behind.now))
+        (ranges_of_parts grid.now (option_map (λ parts. part.now ∷ parts) (parts_of behind.now))
         ≡ None)
-        (λ r. boxes_of_parts grid.now (option_map (λ parts. part.now ∷ parts) (parts_of behind.now))
-        ≡ option_map (λ boxes. r.0 ∷ boxes) (boxes_of_parts grid.now (parts_of r.1.now))) }
+        (λ r. ranges_of_parts grid.now
+        (option_map (λ parts. part.now ∷ parts) (parts_of behind.now))
+        ≡ option_map (λ ranges. r.0 ∷ ranges) (ranges_of_parts grid.now (parts_of r.1.now))) }
     ensures shorter { IfSome result (λ r. length r.1.now ≤ length behind.now) }
 {
     if part.starts_with(b"..") {

@@ -3,7 +3,7 @@ use Rattle.std.specs.Prelude.{◌≡◌, ℕ, Option, Some, None, List, [], ◌�
 use Rattle.std.specs.List.{enumerate_from, flat_map}
 use Rattle.quantity.specs.declared.value.Value.{Value}
 use Rattle.quantity.specs.declared.value.Value.TheVariants.{Undefined}
-use Rattle.rule_eval.specs.declared.given.Given.{Given}
+use Rattle.rule_forms.specs.declared.given.Given.{Given}
 use Rattle.atomic_face.specs.Classes.{Bag}
 use Rattle.run_model.specs.CellStep.{PortState, CellState, cell_next}
 use Rattle.cell_table.specs.declared.cell.Cell.{Cell}

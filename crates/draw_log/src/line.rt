@@ -45,24 +45,12 @@ fn see(line: &LogLine<'_>, before: Time, grid: &Grid, group: &Name) -> Option<Se
         option_map seen_as result ≡ seen_line grid.now group.now read }
     ensures inside { IfSome result (λ line. IfSome line.given (λ g. g.cell < cell_count grid.now)) }
 {
-    let time = time_of(line);
+    let time = line.time();
     if time.ms() < before.ms() {
         return None;
     }
     let given = given_in(line, grid, group)?;
     Some(SeenLine { time, given })
-}
-
-/// The time of a line.
-fn time_of(line: &LogLine<'_>) -> Time
-    ensures { result ≡ frames.line_time (line_of line.now) }
-{
-    match line {
-        LogLine::Y { time, .. } => *time,
-        LogLine::N { time, .. } => *time,
-        LogLine::X { time, .. } => *time,
-        LogLine::S { time, .. } => *time,
-    }
 }
 
 /// What a cell of the group gave in a line, if one did; None where the line is refused.

@@ -30,7 +30,8 @@ impl Model for Events {
 
     ghost view = { λ e. map shown (drop e.gone e.all.items) };
 
-    ghost invariant = { λ e. (e.gone ≤ length e.all.items) × IsNonDecreasingBy time_of e.all.items };
+    ghost invariant = { λ e. (e.gone ≤ length e.all.items)
+        × IsNonDecreasingBy time_of e.all.items };
 }
 
 impl Events {

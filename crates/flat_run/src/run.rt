@@ -148,7 +148,7 @@ impl<Q: TimeQueue, M: AtomicModel> FlatRun<Q, M> {
         ensures goes { Goes self.old.stopped self.old result self.new records.new }
         ensures visits { steps.new ≤ steps.old + visits_of self.old (next_of self.old) }
     {
-        clear(records);
+        records.clear();
         if let Some(stop) = self.stopped {
             return Err(stop);
         }
@@ -209,7 +209,7 @@ impl<Q: TimeQueue, M: AtomicModel> FlatRun<Q, M> {
                 Ok(Progress::Cycled(t))
             }
             Err(halt) => {
-                clear(records);
+                records.clear();
                 self.stopped = Some(stop_of(&halt, t));
                 Err(stop_of(&halt, t))
             }
@@ -316,15 +316,4 @@ pub(crate) fn earlier(a: Option<Time>, b: Option<Time>) -> Option<Time>
         (some, None) => some,
         (Some(s), Some(t)) => Some(if s.ms() < t.ms() { s } else { t }),
     }
-}
-
-/// No records any more, and the room that they had.
-fn clear(records: &mut Records)
-    ensures { AreEmpty records.new }
-{
-    records.y.clear();
-    records.n.clear();
-    records.x.clear();
-    records.s.clear();
-    records.out.clear();
 }

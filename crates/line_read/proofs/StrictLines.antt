@@ -18,12 +18,14 @@ use Rattle.quantity.proofs.NothingElse as quantities
 use Rattle.quantity.proofs.Written.{has_no, and_true, time_read, value_read}
 use Rattle.text_forms.specs.declared.letter.Letter.{Letter}
 use Rattle.text_forms.specs.declared.letter.Letter.TheVariants.{S}
-use Rattle.text_forms.specs.Letters.{Tells, a_value, a_move, told_by, all_letters, letter_named}
+use Rattle.text_forms.specs.declared.letter.Tells.{Tells}
+use Rattle.text_forms.specs.declared.letter.Tells.TheVariants.{Given, Moved}
+use Rattle.text_forms.specs.Letters.{told_by, all_letters, letter_named}
 use Rattle.text_forms.specs.LogLine.{LeafName, LogLine, given, moved, letter_text, line_text, read_line, leaf_text}
 use Rattle.text_forms.specs.LogLine.{is_line, is_leaf, is_value, is_time, is_told_of, is_letter, is_state, is_next, has_place}
 use Rattle.text_forms.specs.LogLine.{state_text, next_text}
 use Rattle.text_forms.proofs.NothingElse as forms
-use Rattle.text_forms.proofs.AllLetters.{found, letter_back}
+use Rattle.text_forms.proofs.AllLetters.{found, letter_back, letter_of_moves}
 use Rattle.text_forms.proofs.WrittenLines.{blank, given_fits, given_no, moved_fits, moved_no, line_read}
 use Rattle.line_read.specs.Fronts.{stroke, is_state_value, IsLineText}
 use Rattle.line_read.specs.Strict.{Parts, cut_parts, read_leaf, read_state, read_next, given_line, moved_line, told_line, one_letter, line_by, strict_line, given_as, agrees}
@@ -116,11 +118,14 @@ moved_is p l letter h =
       is = and_true _ _ (and_true _ _ (and_true _ _ time.1 leaf.is) fits) next.1;
     })
 
--- the letter of moves is S alone; the second clause is checked for each other letter
 letter_is : (letter : Letter) (p : Parts) (l : LogLine) → p.letter ≡ letter_text letter
     → one_letter letter p ≡ Some l → IsLineText (joined_parts p) l
-letter_is S p l e h = moved_is p l e h
-letter_is letter p l e h = given_is letter p l e h
+letter_is letter p l e h = by (told_by letter) refl h
+  where
+    by : (tells : Tells) → told_by letter ≡ tells → told_line tells letter p ≡ Some l
+        → IsLineText (joined_parts p) l
+    by (Given of_cells_alone) is h = given_is letter p l e h
+    by Moved is h = moved_is p l (e ∙ ap letter_text (letter_of_moves letter is)) h
 
 by_is : (w : Bytes) (p : Parts) (l : LogLine) → p.letter ≡ w → line_by w p ≡ Some l → IsLineText (joined_parts p) l
 by_is [] p l e h = absurd cc
@@ -164,8 +169,8 @@ of_value : (letter : Letter) (l : LeafName) → is_letter letter l ≡ true
 of_value letter l h p = by (told_by letter) h
   where
     by : (tells : Tells) → is_told_of tells l ≡ true → told_line tells letter p ≡ given_line letter p
-    by (a_value of_cells_alone) h = refl
-    by a_move h = absurd cc
+    by (Given of_cells_alone) h = refl
+    by Moved h = absurd cc
 
 abbrev parts_as : Bytes → Bytes → Bytes → Bytes → Bytes → Parts
 parts_as a b c d e = record { letter = a; time = b; leaf = c; first = d; second = e }

@@ -11,7 +11,9 @@ use Rattle.quantity.specs.Times.{read_time}
 use Rattle.quantity.specs.ValueTexts.{read_text5}
 use Rattle.quantity.specs.Written.{for_some, if_written, number_at_most}
 use Rattle.text_forms.specs.declared.letter.Letter.{Letter}
-use Rattle.text_forms.specs.Letters.{Tells, a_value, a_move, told_by, letter_named}
+use Rattle.text_forms.specs.declared.letter.Tells.{Tells}
+use Rattle.text_forms.specs.declared.letter.Tells.TheVariants.{Given, Moved}
+use Rattle.text_forms.specs.Letters.{told_by, letter_named}
 use Rattle.text_forms.specs.LogLine.{LeafName, LogLine, given, moved, has_place, is_letter}
 
 -- ---- the parts
@@ -138,8 +140,8 @@ moved_line p =
 
 -- the line that tells this
 abbrev pub told_line : Tells → Letter → Parts → Option LogLine
-told_line (a_value of_cells_alone) letter p = given_line letter p
-told_line a_move letter p = moved_line p
+told_line (Given of_cells_alone) letter p = given_line letter p
+told_line Moved letter p = moved_line p
 
 -- the line of a letter
 abbrev pub one_letter : Letter → Parts → Option LogLine

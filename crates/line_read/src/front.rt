@@ -113,10 +113,10 @@ pub(crate) fn letter_in_front(text: &[u8]) -> Option<(Letter, &[u8])>
     ensures { IfSome result (λ t. text.now ≡ stroke (letter_text t.0) t.1.now) }
 {
     match text {
-        [b'Y', b' ', b'/', b' ', rest @ ..] => Some((Letter::Y, rest)),
-        [b'N', b' ', b'/', b' ', rest @ ..] => Some((Letter::N, rest)),
-        [b'X', b' ', b'/', b' ', rest @ ..] => Some((Letter::X, rest)),
-        [b'S', b' ', b'/', b' ', rest @ ..] => Some((Letter::S, rest)),
+        [byte, b' ', b'/', b' ', rest @ ..] => {
+            let letter = Letter::of_byte(*byte)?;
+            Some((letter, rest))
+        }
         _ => None,
     }
 }

@@ -2,6 +2,7 @@
 ghost use Rattle.std.specs.Prelude.{◌≡◌};
 ghost use Rattle.std.specs.Option.{option_map};
 ghost use Rattle.text_forms.specs.LogLine as forms;
+ghost use Rattle.text_forms.specs.Frames.{line_time};
 ghost use Rattle.line_read.specs.LeafRead.{named_leaf};
 ghost use Rattle.line_read.specs.LineRead.{line_of};
 ghost use Rattle.line_read.specs.PartsRead.{parts_of};
@@ -14,7 +15,7 @@ use crate::usual_line::usual_line;
 use crate::usual_time::read_time;
 use quantity::name::is_name;
 use quantity::{Time, Value};
-use text_forms::Letter;
+use text_forms::{Letter, Tells};
 
 /// A line of a log: a value given at the port `out` or at a further port, a value that reached a
 /// leaf, or a leaf that moved.
@@ -44,6 +45,20 @@ pub enum LogLine<'a> {
         value: Option<Value>,
         next: Option<Time>,
     },
+}
+
+impl LogLine<'_> {
+    /// Its time.
+    pub fn time(&self) -> Time
+        ensures { result ≡ line_time (line_of self.now) }
+    {
+        match self {
+            LogLine::Y { time, .. } => *time,
+            LogLine::N { time, .. } => *time,
+            LogLine::X { time, .. } => *time,
+            LogLine::S { time, .. } => *time,
+        }
+    }
 }
 
 /// The line that a text, without its line end, is; None exactly where it is off the form of a log's
@@ -77,12 +92,13 @@ fn line_by<'a>(parts: &Parts<'a>) -> Option<LogLine<'a>>
     }
 }
 
+/// The line of this letter, of its other parts.
 fn one_letter<'a>(letter: Letter, parts: &Parts<'a>) -> Option<LogLine<'a>>
     ensures { option_map line_of result ≡ strict.one_letter letter (parts_of parts.now) }
 {
-    match letter {
-        Letter::Y | Letter::N | Letter::X => given_line(letter, parts),
-        Letter::S => moved_line(parts),
+    match letter.tells() {
+        Tells::Given { .. } => given_line(letter, parts),
+        Tells::Moved => moved_line(parts),
     }
 }
 

@@ -13,7 +13,7 @@ use crate::leaf_name::LeafName;
 use crate::line::{LogLine, given, moved, read_next};
 use crate::usual::read_value;
 use quantity::Time;
-use text_forms::Letter;
+use text_forms::{Letter, Tells};
 
 /// The line that a text is, where letter, time and leaf are of the usual form.
 #[inline(always)]
@@ -29,9 +29,9 @@ pub(crate) fn usual_line(text: &[u8]) -> Option<LogLine<'_>>
     let Some((leaf, rest)) = leaf_in_front(behind_time) else {
         return None;
     };
-    match letter {
-        Letter::Y | Letter::N | Letter::X => usual_given(letter, time, &leaf, rest),
-        Letter::S => usual_moved(time, &leaf, rest),
+    match letter.tells() {
+        Tells::Given { .. } => usual_given(letter, time, &leaf, rest),
+        Tells::Moved => usual_moved(time, &leaf, rest),
     }
 }
 

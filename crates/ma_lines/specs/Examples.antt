@@ -22,8 +22,8 @@ refuses ls r = sections_of (file ls) ≡ Err r
 
 abbrev pub folded_lines : List Bytes
 folded_lines =
-    codes "[Top]" ∷ codes "components : Life" ∷ codes "[Life]          % Conway" ∷ codes "initialCellsValue : V.val"
-    ∷ codes "rule : 1 100 { (0,0) = 1 and" ∷ [] ∷ codes "   (trueCount = 3) } % more"
+    codes "[Top]" ∷ codes "components : Life" ∷ codes "[Life]          % Conway"
+    ∷ codes "initialCellsValue : V.val" ∷ codes "rule : 1 100 { (0,0) = 1 and" ∷ [] ∷ codes "   (trueCount = 3) } % more"
     ∷ codes "Type : cell" ∷ []
 
 pub record SectionsAreRead : Type 0 where

@@ -44,7 +44,12 @@ whole e =
 
 -- the entry that a line begins
 abbrev pub opened_by : Line → Opened
-opened_by l = record { line = l.number; key = key_in l.text; value = value_after l.text; braces = braces_after_line 0 l }
+opened_by l = record {
+  line = l.number;
+  key = key_in l.text;
+  value = value_after l.text;
+  braces = braces_after_line 0 l;
+}
 
 -- joined with one space to the text of a line
 abbrev pub joined : Opened → Bytes → Opened

@@ -24,7 +24,8 @@ impl Model for Sections {
 
     ghost view = { λ s. map (λ e. section_of e.1) s.by_name.entries };
 
-    ghost invariant = { λ s. map (λ e. e.0.items) s.by_name.entries ≡ map (λ e. e.1.name) s.by_name.entries };
+    ghost invariant = { λ s. map (λ e. e.0.items) s.by_name.entries
+        ≡ map (λ e. e.1.name) s.by_name.entries };
 }
 
 impl Sections {

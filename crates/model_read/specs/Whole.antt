@@ -40,7 +40,10 @@ behind_limit ss drawing files = unless (routes_refused ss) (λ _. with_files ss 
 
 -- all that a file of a name gives
 abbrev pub of_name : Bytes → List Class → Option Drawing → Files → ModelRead
-of_name name classes drawing files = record { looked = looked_of files name classes drawing; found = found_of files name classes drawing }
+of_name name classes drawing files = record {
+  looked = looked_of files name classes drawing;
+  found = found_of files name classes drawing;
+}
 
 -- ---- lines
 

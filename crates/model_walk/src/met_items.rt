@@ -33,7 +33,8 @@ impl<'a> Model for MetItems<'a> {
 
     ghost view = { λ d. map item_of d.items.items };
 
-    ghost invariant = { λ d. (d.names ≡ map W.item_name (map item_of d.items.items)) × (d.atomics ≡ length (filter W.is_atomic (map item_of d.items.items))) };
+    ghost invariant = { λ d. (d.names ≡ map W.item_name (map item_of d.items.items))
+        × (d.atomics ≡ length (filter W.is_atomic (map item_of d.items.items))) };
 }
 
 impl<'a> MetItems<'a> {

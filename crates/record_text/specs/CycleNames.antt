@@ -1,19 +1,15 @@
 -- The records of a cycle name leaves and ports of the model.
-use Rattle.std.specs.Prelude.{◌≡◌, ℕ, Some, length, slice_get}
+use Rattle.std.specs.Prelude.{◌≡◌, ℕ, Some, slice_get}
 use Rattle.model_tree.specs.declared.table.Model.{Model}
-use Rattle.model_tree.specs.Tree.{Leaf, atomic_leaf, cell_leaf, leaves}
+use Rattle.model_tree.specs.Tree.{Leaf, leaves}
 use Rattle.model_tree.specs.Models.{tree_of}
 use Rattle.model_tree.specs.Leaves.{Settings}
 use Rattle.run_model.specs.Run.{Cycle}
 use Rattle.run_model.specs.Fitting.{NamesItsParts}
+pub use Rattle.text_forms.specs.LeafNames.{HasPortValues}
 use Rattle.record_text.specs.declared.records.Records.{Records}
 use Rattle.record_text.specs.Held.{Holds}
 use Rattle.record_text.specs.Named.{NamesLeaves}
-
--- each further port of a cell has a value at the start
-abbrev pub HasPortValues : Leaf → Type 0
-HasPortValues (atomic_leaf name class settings) = Unit {0}
-HasPortValues (cell_leaf g first cell) = length g.port_values ≡ length g.ports
 
 -- so what is known of a run's cycles is what the log's lines need
 abbrev pub CyclesNameLeaves : Type 0

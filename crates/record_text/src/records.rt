@@ -2,6 +2,7 @@
 use atomic_face::PortNo;
 use quantity::{Time, Value};
 use std::alloc::Global;
+use text_forms::Letter;
 
 /// The letters of the log's lines that are written.
 #[derive(Clone, Copy, PartialEq, Eq, Debug)]
@@ -10,6 +11,25 @@ pub struct Letters {
     pub n: bool,
     pub x: bool,
     pub s: bool,
+}
+
+impl Letters {
+    ghost use Rattle.std.specs.Prelude.{◌≡◌};
+    ghost use Rattle.text_forms.specs.declared.letter.Letter.{Letter};
+    ghost use Rattle.text_forms.specs.Letters.{has_letter};
+    ghost use Rattle.record_text.specs.Chosen.{is_chosen};
+
+    /// The letters that are written among these bytes.
+    pub fn among(bytes: &[u8]) -> Letters
+        ensures { (letter : Letter) → is_chosen result letter ≡ has_letter bytes.now letter }
+    {
+        Letters {
+            y: Letter::Y.is_among(bytes),
+            n: Letter::N.is_among(bytes),
+            x: Letter::X.is_among(bytes),
+            s: Letter::S.is_among(bytes),
+        }
+    }
 }
 
 /// A value that a leaf gave: at its port `out`, or at a further port.
@@ -73,5 +93,16 @@ impl Records {
             s: Vec::new(alloc),
             out: Vec::new(alloc),
         }
+    }
+
+    /// No records any more, and the room that they had.
+    pub fn clear(&mut self)
+        ensures { AreEmpty self.new }
+    {
+        self.y.clear();
+        self.n.clear();
+        self.x.clear();
+        self.s.clear();
+        self.out.clear();
     }
 }

@@ -10,7 +10,11 @@ use Rattle.room_edge.specs.declared.memory.MemoryRoom.{MemoryRoom}
 
 -- what a room in memory that counts its faults shows of itself
 abbrev pub memory_outside : MemoryRoom → Outside
-memory_outside r = record (sure_outside r.sure) { read_faults = r.read_faults; write_faults = r.write_faults; complain_faults = r.complain_faults }
+memory_outside r = record (sure_outside r.sure) {
+  read_faults = r.read_faults;
+  write_faults = r.write_faults;
+  complain_faults = r.complain_faults;
+}
 
 -- how many bytes it moves at once
 abbrev pub memory_piece : MemoryRoom → ℕ

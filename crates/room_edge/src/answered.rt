@@ -183,7 +183,10 @@ pub(crate) fn after_complaint(
     tally: &mut Tally,
 ) -> Result<usize, WriteError>
     ensures says { result ≡ complained_as answer most }
-    ensures tally { tally.new ≡ record tally.old { write_faults = write_faults_after result tally.old.write_faults; complain_faults = write_faults_after result tally.old.complain_faults } }
+    ensures tally { tally.new ≡ record tally.old {
+      write_faults = write_faults_after result tally.old.write_faults;
+      complain_faults = write_faults_after result tally.old.complain_faults;
+    } }
     ensures room { (bytes : List ℕ) (created : List (List ℕ)) (opened : Bool) → length bytes ≡ most
         → Complains result bytes (real_outside tally.old created opened)
         (real_outside tally.new created opened) }

@@ -63,7 +63,8 @@ impl<R: Files + Print + Eprint + AllocGlobal + Drop> FolderRoom<R> {
 impl<R: Files + Print + Eprint + AllocGlobal + Drop> Room for FolderRoom<R> {
     ghost use Rattle.room_edge.specs.Real.{real_outside};
 
-    ghost outside = { λ r. real_outside r.tally (map (λ m. string_bytes m.name) r.made.items) (is_some r.input) };
+    ghost outside = { λ r. real_outside r.tally (map (λ m. string_bytes m.name) r.made.items)
+        (is_some r.input) };
 
     fn open_input(&mut self, name: &str) -> Result<(), OpenError> {
         let answer = fs::open(&self.rt, name);

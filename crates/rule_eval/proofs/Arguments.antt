@@ -1,15 +1,16 @@
 -- Arguments of functions on the stack, one after another.
-use Rattle.std.proofs.Common.{◌≡◌, ℕ, ◌+◌, ◌<◌, Option, Some, None, List, [], ◌∷◌, ◌++◌, length, map, take, drop, get_or, refl, sym, ap, ◌∙◌, append_assoc, append-nil}
+use Rattle.std.proofs.Common.{◌≡◌, ℕ, ◌+◌, ◌<◌, Option, Some, None, List, [], ◌∷◌, ◌++◌, length, take, drop, get_or, refl, sym, ap, ◌∙◌, append_assoc, append-nil}
 use Rattle.std.specs.Option.{unwrap_or}
 use Rattle.std.proofs.Math.Seq.{take-append_seam, drop-append_seam}
+use Rattle.quantity.specs.Written.{for_some}
 use Rattle.rule_tree.specs.declared.outcome.Answer.{Answer}
 use Rattle.rule_tree.specs.Expression as E
 use Rattle.rule_tree.specs.Expression.{Exprs}
-use Rattle.rule_tree.specs.Meaning.{Sight, with_answer, in_front, meaning, meanings}
-use Rattle.rule_eval.specs.declared.forms.Form.{Form}
-use Rattle.rule_eval.specs.Forms.{expr_of_form, exprs_of_forms}
+use Rattle.rule_tree.specs.Meaning.{Sight, in_front, meaning, meanings}
+use Rattle.rule_forms.specs.declared.forms.Form.{Form}
+use Rattle.rule_forms.specs.Forms.{expr_of_form, exprs_of_forms}
 use Rattle.rule_eval.specs.Stacked.{stacked}
-use Rattle.rule_eval.proofs.Stacks.{drop_here}
+use Rattle.rule_forms.proofs.Stacks.{drop_here}
 
 -- the expressions of forms from one of them on
 pub forms_here : (forms : List Form) (i : ℕ) (f : Form) → i < length forms → f ≡ get_or forms i f → exprs_of_forms (drop i forms) ≡ E.cons (expr_of_form f) (exprs_of_forms (drop (i + 1) forms))
@@ -25,14 +26,14 @@ pub stacked_here : (forms : List Form) (i : ℕ) (f : Form) (s : Sight) (below :
 stacked_here forms i f s below x h is means =
     let rest = meanings (exprs_of_forms (drop (i + 1) forms)) s in
     ap (λ (es : Exprs). stacked below (meanings es s)) (forms_here forms i f h is)
-    ∙ ap (λ (o : Option Answer). stacked below (with_answer o (λ y. in_front y rest))) (sym means) ∙ one_stacked below x rest
+    ∙ ap (λ (o : Option Answer). stacked below (for_some o (λ y. in_front y rest))) (sym means) ∙ one_stacked below x rest
 
 pub stacked_stops : (forms : List Form) (i : ℕ) (f : Form) (s : Sight) (below : List Answer) → i < length forms → f ≡ get_or forms i f → None ≡ meaning (expr_of_form f) s
     → stacked below (meanings (exprs_of_forms (drop i forms)) s) ≡ None
 stacked_stops forms i f s below h is means =
     let rest = meanings (exprs_of_forms (drop (i + 1) forms)) s in
     ap (λ (es : Exprs). stacked below (meanings es s)) (forms_here forms i f h is)
-    ∙ ap (λ (o : Option Answer). stacked below (with_answer o (λ y. in_front y rest))) (sym means)
+    ∙ ap (λ (o : Option Answer). stacked below (for_some o (λ y. in_front y rest))) (sym means)
 
 pub stacked_end : (below : List Answer) → stacked below (Some []) ≡ Some below
 stacked_end below = ap Some (append-nil below)

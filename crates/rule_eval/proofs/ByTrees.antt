@@ -11,15 +11,15 @@ use Rattle.rule_tree.specs.declared.outcome.RuleStop.{RuleStop}
 use Rattle.rule_tree.specs.Expression.{Expr, Rule}
 use Rattle.rule_tree.specs.Meaning.{Sight, number_answered, truth_in, meaning}
 use Rattle.rule_tree.specs.Chosen.{Chosen, unless_overflow, after, with_delay, delay_of, if_true, values_of, variables_after, given, chosen}
-use Rattle.rule_eval.specs.declared.given.Given.{Given}
-use Rattle.rule_eval.specs.Machine.{pushed}
-use Rattle.rule_eval.specs.Code.{code_of}
-use Rattle.rule_eval.specs.Ran.{left_by, answer_of}
-use Rattle.rule_eval.specs.RuleCodes.{Codes, coded, codes_of}
-use Rattle.rule_eval.specs.ByCode.{Outcome, no_values, number_or_stop, truth_or_stop, number_by_code, truth_by_code, given_by_code, set_by_code, delay_or_stop, delay_in, delay_by_code, made_of, made_by_code, if_holds, first_by_code}
+use Rattle.rule_forms.specs.declared.given.Given.{Given}
+use Rattle.rule_forms.specs.Machine.{pushed}
+use Rattle.rule_forms.specs.Code.{code_of}
+use Rattle.rule_forms.specs.Ran.{left_by, answer_of}
+use Rattle.rule_forms.specs.RuleCodes.{Codes, coded, codes_of}
+use Rattle.rule_forms.specs.ByCode.{Outcome, no_values, number_or_stop, truth_or_stop, number_by_code, truth_by_code, given_by_code, set_by_code, delay_or_stop, delay_in, delay_by_code, made_of, made_by_code, if_holds, first_by_code}
 use Rattle.rule_tree.specs.Ports.{or_earlier, given_at, by_port}
 use Rattle.rule_eval.specs.Evaluated.{Evaluates, Makes}
-use Rattle.rule_eval.proofs.Stands.{code_stands}
+use Rattle.rule_forms.proofs.Stands.{code_stands}
 
 -- ---- expressions
 

@@ -3,15 +3,16 @@ use Rattle.std.proofs.Common.{◌≡◌, ℕ, ℤ, ◌+◌, ◌+ℤ◌, ◌<◌,
 use Rattle.quantity.specs.declared.value.Value.{Value}
 use Rattle.quantity.specs.declared.value.Value.TheVariants.{Undefined, Num as Number}
 use Rattle.quantity.specs.Arithmetic.{bounded, sum_of}
+use Rattle.quantity.specs.Written.{for_some}
 use Rattle.rule_tree.specs.declared.outcome.Answer.{Answer}
 use Rattle.rule_tree.specs.declared.outcome.Answer.TheVariants.{Num}
 use Rattle.rule_tree.specs.declared.node.Binary.TheVariants.{Add}
 use Rattle.rule_tree.specs.Expression.{Expr, neighbour, two}
-use Rattle.rule_tree.specs.Meaning.{Sight, number, two_meaning, as_answer, with_answer, meaning}
-use Rattle.rule_eval.specs.declared.forms.PortAt.{PortAt}
-use Rattle.rule_eval.specs.Forms.{plus_all}
-use Rattle.rule_eval.specs.Sums.{port_value_at, with_value, sum_from}
-use Rattle.rule_eval.proofs.Stacks.{drop_next}
+use Rattle.rule_tree.specs.Meaning.{Sight, number, two_meaning, as_answer, meaning}
+use Rattle.rule_forms.specs.declared.forms.PortAt.{PortAt}
+use Rattle.rule_forms.specs.Forms.{plus_all}
+use Rattle.rule_eval.specs.Sums.{port_value_at, sum_from}
+use Rattle.rule_forms.proofs.Stacks.{drop_next}
 
 -- the port at a place of a list
 abbrev pub item_at : List PortAt → ℕ → PortAt
@@ -20,7 +21,7 @@ item_at ns i = get_or ns i (record { offset = 0; port = 0 })
 -- one step of the loop
 sum_here : (ns : List PortAt) (i : ℕ) (v : Value) (nbs : List (List Value)) → i < length ns
     → sum_from v (drop i ns) nbs
-    ≡ with_value (sum_of v (port_value_at nbs (item_at ns i).offset (item_at ns i).port))
+    ≡ for_some (sum_of v (port_value_at nbs (item_at ns i).offset (item_at ns i).port))
     (λ w. sum_from w (drop (i + 1) ns) nbs)
 sum_here ns i v nbs h =
     ap (λ (ms : List PortAt). sum_from v ms nbs)
@@ -39,7 +40,7 @@ pub undefined_here : (ns : List PortAt) (i : ℕ) (x : ℤ) (nbs : List (List Va
 undefined_here ns i x nbs w h found undefined =
     let rest : Value → Option Value = λ v. sum_from v (drop (i + 1) ns) nbs in
     sum_here ns i (Number x) nbs h
-    ∙ ap (λ (v : Value). with_value (sum_of (Number x) v) rest) (sym found ∙ undefined)
+    ∙ ap (λ (v : Value). for_some (sum_of (Number x) v) rest) (sym found ∙ undefined)
     ∙ undefined_stays (drop (i + 1) ns) nbs
 
 -- the same where it gave a number
@@ -48,12 +49,12 @@ pub number_here : (ns : List PortAt) (i : ℕ) (x y : ℤ) (nbs : List (List Val
     → i < length ns → w ≡ port_value_at nbs (item_at ns i).offset (item_at ns i).port
     → w ≡ Number y → bounded (x +ℤ y) ≡ sum
     → sum_from (Number x) (drop i ns) nbs
-    ≡ with_value sum (λ v. sum_from v (drop (i + 1) ns) nbs)
+    ≡ for_some sum (λ v. sum_from v (drop (i + 1) ns) nbs)
 number_here ns i x y nbs w sum h found number made =
     let rest : Value → Option Value = λ v. sum_from v (drop (i + 1) ns) nbs in
     sum_here ns i (Number x) nbs h
-    ∙ ap (λ (v : Value). with_value (sum_of (Number x) v) rest) (sym found ∙ number)
-    ∙ ap (λ (o : Option Value). with_value o rest) made
+    ∙ ap (λ (v : Value). for_some (sum_of (Number x) v) rest) (sym found ∙ number)
+    ∙ ap (λ (o : Option Value). for_some o rest) made
 
 -- an expression, to which a neighbour's value is added
 abbrev with_port : Expr → PortAt → Expr
@@ -62,11 +63,11 @@ with_port e n = two Add e (neighbour n.offset n.port)
 -- what it means, by what the expression means
 added_means : (e : Expr) (n : PortAt) (s : Sight) (o : Option Answer) → meaning e s ≡ o
     → meaning (with_port e n) s
-    ≡ with_answer o (λ x. with_answer (number (port_value_at s.neighbours n.offset n.port))
+    ≡ for_some o (λ x. for_some (number (port_value_at s.neighbours n.offset n.port))
     (two_meaning Add x))
 added_means e n s o h =
-    ap (λ (m : Option Answer). with_answer m (λ x.
-    with_answer (number (port_value_at s.neighbours n.offset n.port)) (two_meaning Add x))) h
+    ap (λ (m : Option Answer). for_some m (λ x.
+    for_some (number (port_value_at s.neighbours n.offset n.port)) (two_meaning Add x))) h
 
 -- what a sum means, where its beginning is too large
 none_stays : (ns : List PortAt) (e : Expr) (s : Sight) → meaning e s ≡ None
@@ -88,6 +89,6 @@ sum_means (n ∷ ns) e v s h =
         → ((w : Value) → meaning (with_port e n) s ≡ Some (Num w)
         → meaning (plus_all (with_port e n) ns) s ≡ as_answer (sum_from w ns s.neighbours))
         → meaning (plus_all (with_port e n) ns) s
-        ≡ as_answer (with_value o (λ w. sum_from w ns s.neighbours))
+        ≡ as_answer (for_some o (λ w. sum_from w ns s.neighbours))
     at None is rest = none_stays ns (with_port e n) s is
     at (Some w) is rest = rest w is

@@ -1,23 +1,20 @@
 -- What rules make by their codes, step by step.
-use Rattle.std.proofs.Common.{◌≡◌, ℕ, ◌+◌, ◌<◌, Option, Some, None, Ok, Err, List, length, map, drop, get_or, set, max, refl, sym, ap, subst}
+use Rattle.std.proofs.Common.{◌≡◌, ℕ, ◌+◌, ◌<◌, Option, Some, Ok, Err, List, length, map, drop, get_or, set, max, refl, sym, ap, subst}
 use Rattle.std.specs.declared.result.Result.{Result}
-use Rattle.std.specs.Prelude.{pos, negsuc, ◌&&◌, ◌==◌, ◌%◌, ◌/◌, nat_le, Bool, true, false, if◌then◌else◌}
 use Rattle.quantity.specs.declared.value.Value.{Value}
-use Rattle.quantity.specs.declared.value.Value.TheVariants.{Undefined, Num}
 use Rattle.rule_tree.specs.declared.outcome.RuleStop.{RuleStop}
 use Rattle.rule_tree.specs.Meaning.{Sight}
-use Rattle.rule_tree.specs.Chosen.{after, delay_of}
-use Rattle.rule_eval.specs.declared.numbered.NumberedForm.{NumberedForm}
-use Rattle.rule_eval.specs.declared.given.Given.{Given}
-use Rattle.rule_eval.specs.Seen.{whole_number_in}
-use Rattle.rule_eval.specs.Code.{code_of}
-use Rattle.rule_eval.specs.Forms.{expr_of_form}
-use Rattle.rule_eval.specs.Depth.{depth_of}
-use Rattle.rule_eval.specs.RuleCodes.{Codes, deepest}
-use Rattle.rule_eval.specs.Numbered.{plain}
-use Rattle.rule_eval.specs.ByCode.{number_by_code, truth_by_code, given_by_code, set_by_code, made_of, made_by_code, first_by_code, if_holds}
+use Rattle.rule_tree.specs.Chosen.{after}
+use Rattle.rule_forms.specs.declared.numbered.NumberedForm.{NumberedForm}
+use Rattle.rule_forms.specs.declared.given.Given.{Given}
+use Rattle.rule_forms.specs.Code.{code_of}
+use Rattle.rule_forms.specs.Forms.{expr_of_form}
+use Rattle.rule_forms.specs.Depth.{depth_of}
+use Rattle.rule_forms.specs.RuleCodes.{Codes, deepest}
+use Rattle.rule_forms.specs.Numbered.{plain}
+use Rattle.rule_forms.specs.ByCode.{number_by_code, truth_by_code, given_by_code, set_by_code, made_of, made_by_code, first_by_code, if_holds}
 use Rattle.rule_eval.specs.Evaluated.{Makes, GivesValues, SetsVariables}
-use Rattle.rule_eval.proofs.Stacks.{drop_here}
+use Rattle.rule_forms.proofs.Stacks.{drop_here}
 
 -- ---- one step of each loop
 
@@ -90,18 +87,3 @@ stopped_by_a_set (Ok vs) delay variables given ms stop changed p is set_is =
     at (Ok xs) q = absurd q
     at (Err e) q = q
 stopped_by_a_set (Err e) delay variables given ms stop changed p is set_is = absurd p
-
--- ---- delays
-
-abbrev pub delay_from : Option ℕ → Option ℕ
-delay_from None = None
-delay_from (Some ms) = if nat_le ms 359999999 then Some ms else None
-
-pub delay_is : (v : Value) → delay_of v ≡ delay_from (whole_number_in v)
-delay_is Undefined = refl
-delay_is (Num (pos n)) = at (n % 100000 == 0)
-  where
-    at : (b : Bool) → (if b && nat_le (n / 100000) 359999999 then Some (n / 100000) else None) ≡ delay_from (if b then Some (n / 100000) else None)
-    at true = refl
-    at false = refl
-delay_is (Num (negsuc n)) = refl

@@ -7,11 +7,11 @@ use Rattle.rule_tree.specs.declared.node.Binary.{Binary}
 use Rattle.rule_tree.specs.declared.function.Function.{Function}
 use Rattle.rule_tree.specs.Expression as E
 use Rattle.rule_tree.specs.Expression.{Expr, Exprs}
-use Rattle.rule_eval.specs.declared.code.Op.{Op}
-use Rattle.rule_eval.specs.declared.code.Op.TheVariants.{Number, Truth, Neighbour, Variable, Now, PortValue, Counted, One, Two, Call}
-use Rattle.rule_eval.specs.Code.{code_of, codes_of, count_of}
-use Rattle.rule_eval.specs.Depth.{height_after, depth_from}
-use Rattle.rule_eval.proofs.Depths.{depth_above}
+use Rattle.rule_forms.specs.declared.code.Op.{Op}
+use Rattle.rule_forms.specs.declared.code.Op.TheVariants.{Number, Truth, Neighbour, Variable, Now, PortValue, Counted, One, Two, Call}
+use Rattle.rule_forms.specs.Code.{code_of, codes_of, count_of}
+use Rattle.rule_forms.specs.Depth.{height_after, depth_from}
+use Rattle.rule_forms.proofs.Depths.{depth_above}
 
 -- a step from higher up ends no lower
 rises : (op : Op) (h k : ℕ) → h ≤ k → height_after op h ≤ height_after op k

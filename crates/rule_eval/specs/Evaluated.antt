@@ -7,8 +7,8 @@ use Rattle.rule_tree.specs.declared.outcome.RuleStop.{RuleStop}
 use Rattle.rule_tree.specs.Chosen as rules
 use Rattle.rule_tree.specs.Chosen.{Chosen}
 use Rattle.rule_tree.specs.Ports.{by_port}
-use Rattle.rule_eval.specs.ByCode.{Made, Outcome}
-use Rattle.rule_eval.specs.declared.given.Given.{Given}
+use Rattle.rule_forms.specs.ByCode.{Made, Outcome}
+use Rattle.rule_forms.specs.declared.given.Given.{Given}
 
 -- what evaluation answers and leaves, and what the rules give over what the cell sees
 pub record IsGiven (g : rules.Given) (given : Given) (ms : ℕ) (after : List Value) : Type 0 where

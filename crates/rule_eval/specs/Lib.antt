@@ -1,16 +1,7 @@
-pub mod Code
-pub mod Machine
 pub mod Seen
-pub mod Depth
-pub mod Ran
-pub mod RuleCodes
-pub mod Numbered
-pub mod ByCode
-pub mod Known
 pub mod Evaluated
 pub mod Room
 pub mod Kept
-pub mod Forms
 pub mod Tests
 pub mod Sums
 pub mod Stacked

@@ -1,8 +1,7 @@
 -- What a view shows, as the sight over which expressions have their meaning.
-use Rattle.std.specs.Prelude.{◌≡◌, ◌≤◌, ℕ, ◌+◌, ◌*◌, ◌/◌, Option, Some, None, List, map, take, drop, length, pos, negsuc, ◌==◌, ◌%◌, if◌then◌else◌}
+use Rattle.std.specs.Prelude.{◌≡◌, ◌≤◌, ℕ, ◌+◌, ◌*◌, ◌/◌, List, map, take, drop, length}
 use Rattle.std.specs.List.{range_with_len}
 use Rattle.quantity.specs.declared.value.Value.{Value}
-use Rattle.quantity.specs.declared.value.Value.TheVariants.{Undefined, Num}
 use Rattle.rule_tree.specs.Meaning.{Sight}
 use Rattle.rule_eval.specs.declared.view.View.{View}
 
@@ -25,7 +24,14 @@ neighbours_of v = map (piece v.neighbours.now (width_of v)) (range_with_len 0 (o
 -- what a cell sees whose variables have these values
 abbrev pub seen : View → List Value → Sight
 seen v variables =
-    record { time = v.time; place = v.place; dims = v.dims; neighbours = neighbours_of v; port = v.port; variables = variables }
+    record {
+      time = v.time;
+      place = v.place;
+      dims = v.dims;
+      neighbours = neighbours_of v;
+      port = v.port;
+      variables = variables;
+    }
 
 -- what a view shows
 abbrev pub sight_of : View → Sight
@@ -37,9 +43,3 @@ pub record IsView (v : View) : Type 0 where
   pub ports : v.ports ≤ 3
   pub whole : length v.neighbours.now ≡ offsets_of v * width_of v
   pub few : offsets_of v ≤ 128
-
--- the whole number that a value is, if it is one that isn't negative
-abbrev pub whole_number_in : Value → Option ℕ
-whole_number_in Undefined = None
-whole_number_in (Num (pos n)) = if n % 100000 == 0 then Some (n / 100000) else None
-whole_number_in (Num (negsuc n)) = None

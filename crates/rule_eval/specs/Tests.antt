@@ -7,10 +7,10 @@ use Rattle.quantity.specs.declared.value.Value.TheVariants.{Num}
 use Rattle.quantity.specs.Truth.{negation, conjunction, disjunction, tri_of}
 use Rattle.quantity.specs.Arithmetic.{comparison}
 use Rattle.rule_tree.specs.Meaning.{value_at, whole, counted}
-use Rattle.rule_eval.specs.declared.forms.PlainTest.{PlainTest}
-use Rattle.rule_eval.specs.declared.forms.PlainTest.TheVariants.{Truth, NeighbourIs, CountIs, OutIs, CountEquals}
-use Rattle.rule_eval.specs.declared.forms.Test.{Test}
-use Rattle.rule_eval.specs.declared.forms.Test.TheVariants.{Plain, Not', Both', Either', PlainBoth', PlainEither'}
+use Rattle.rule_forms.specs.declared.forms.PlainTest.{PlainTest}
+use Rattle.rule_forms.specs.declared.forms.PlainTest.TheVariants.{Truth, NeighbourIs, CountIs, OutIs, CountEquals}
+use Rattle.rule_forms.specs.declared.forms.Test.{Test}
+use Rattle.rule_forms.specs.declared.forms.Test.TheVariants.{Plain, Not', Both', Either', PlainBoth', PlainEither'}
 use Rattle.rule_eval.specs.Sums.{port_value_at}
 
 -- what each neighbour gave at its port out

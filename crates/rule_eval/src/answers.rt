@@ -1,27 +1,26 @@
 // What forms answer over a view.
-ghost use Rattle.std.specs.Prelude.{◌≡◌, IfSome, ◌+◌, ◌<◌, ◌≤◌, Some, None, [], ◌∷◌, ◌++◌, List, MatchResult, OnOk, vec_len, vec_capacity};
+ghost use Rattle.std.specs.Prelude.{◌≡◌, ◌+◌, ◌<◌, ◌≤◌, Some, None, [], ◌∷◌, ◌++◌, List, MatchResult, OnOk, vec_len, vec_capacity};
 ghost use Rattle.std.specs.Result.{result_ok};
 ghost use Rattle.quantity.specs.declared.value.Value.{Value as AnyValue};
 ghost use Rattle.quantity.specs.Truth.{conjunction};
-ghost use Rattle.rule_tree.specs.Expression as E;
 ghost use Rattle.rule_tree.specs.Meaning.{outs, whole, counted, meaning, meanings};
 ghost use Rattle.rule_eval.specs.Seen.{IsView, neighbours_of, seen, sight_of};
 ghost use Rattle.rule_eval.specs.Kept.{AreCounts};
-ghost use Rattle.rule_eval.specs.Code.{code_of, codes_of};
-ghost use Rattle.rule_eval.specs.Depth.{depth_from, depth_of};
-ghost use Rattle.rule_eval.specs.Ran.{answer_of, or_stop};
-ghost use Rattle.rule_eval.specs.Forms.{expr_of_form, exprs_of_forms};
+ghost use Rattle.rule_forms.specs.Code.{code_of, codes_of};
+ghost use Rattle.rule_forms.specs.Depth.{depth_from, depth_of};
+ghost use Rattle.rule_forms.specs.Ran.{answer_of, or_stop};
+ghost use Rattle.rule_forms.specs.Forms.{expr_of_form, exprs_of_forms};
 ghost use Rattle.rule_eval.specs.Tests.{plain_truth, test_truth};
 ghost use Rattle.rule_eval.specs.Stacked.{stacked};
 
 use crate::apply::{apply_binary, apply_function, apply_unary, as_answer};
 use crate::counts::Counts;
-use crate::forms::{Form, PlainTest, Test};
 use crate::outs::{decided, out_is};
 use crate::seen::{neighbour, value_at, whole};
 use crate::sums::sum;
 use crate::view::View;
 use quantity::{Overflow, Tri, Value};
+use rule_forms::{Form, PlainTest, Test, plain_number};
 use rule_tree::{Answer, Count, RuleStop};
 
 /// What a test answers, those of the usual forms without a call.
@@ -185,16 +184,6 @@ fn answer(
             answers.truncate(below);
             Ok(made)
         }
-    }
-}
-
-/// The number that a form is, where it is no more than that.
-pub(crate) fn plain_number(form: &Form) -> Option<Value>
-    ensures { IfSome result (λ v. expr_of_form form.now ≡ E.number v) }
-{
-    match form {
-        Form::Number(value) => Some(*value),
-        _ => None,
     }
 }
 

@@ -6,25 +6,21 @@ ghost use Rattle.rule_tree.specs.Expression.{Rule};
 ghost use Rattle.rule_tree.specs.Chosen.{chosen};
 ghost use Rattle.rule_eval.specs.Seen.{IsView, seen, sight_of};
 ghost use Rattle.rule_eval.specs.Kept.{AreCounts};
-ghost use Rattle.rule_eval.specs.Code.{code_of};
-ghost use Rattle.rule_eval.specs.Depth.{depth_of};
-ghost use Rattle.rule_eval.specs.Forms.{expr_of_form};
-ghost use Rattle.rule_eval.specs.RuleCodes.{codes_of, deepest, rule_depth};
-ghost use Rattle.rule_eval.specs.Numbered.{plain};
-ghost use Rattle.rule_eval.specs.ByCode.{no_values, number_by_code, truth_by_code, given_by_code, set_by_code, delay_by_code, made_by_code, first_by_code};
+ghost use Rattle.rule_forms.specs.Code.{code_of};
+ghost use Rattle.rule_forms.specs.Depth.{depth_of};
+ghost use Rattle.rule_forms.specs.Forms.{expr_of_form};
+ghost use Rattle.rule_forms.specs.RuleCodes.{codes_of, deepest, rule_depth};
+ghost use Rattle.rule_forms.specs.Numbered.{plain};
+ghost use Rattle.rule_forms.specs.ByCode.{no_values, number_by_code, truth_by_code, given_by_code, set_by_code, delay_by_code, made_by_code, first_by_code};
 ghost use Rattle.rule_eval.specs.Evaluated.{Evaluates, Makes, GivesValues, SetsVariables};
 
-use crate::answers::{plain_number, run, truth};
+use crate::answers::{run, truth};
 use crate::apply::{number_in, truth_in};
 use crate::counts::Counts;
-use crate::forms::Form;
-use crate::given::Given;
-use crate::known::delay_in;
-use crate::numbered::NumberedForm;
-use crate::rule_code::RuleCode;
 use crate::stack::Stack;
 use crate::view::View;
 use quantity::{Time, Tri, Value};
+use rule_forms::{Form, Given, NumberedForm, RuleCode, delay_in, plain_number};
 use rule_tree::{Answer, RuleStop};
 
 /// What the first true rule gives over a view, by port, and its delay; `changed` then holds the
@@ -51,7 +47,7 @@ pub fn evaluate(
     first_true(rules, view, changed, &mut counts, &mut stack.answers)
 }
 
-#[tactic(auto, using(crate::proofs::Making::first_here, crate::proofs::Stacks::drop_end))]
+#[tactic(auto, using(crate::proofs::Making::first_here, rule_forms::proofs::Stacks::drop_end))]
 #[inline(always)]
 fn first_true(
     rules: &[RuleCode],
@@ -92,7 +88,7 @@ fn condition(
     ensures capacity { vec_capacity answers.new ≡ vec_capacity answers.old }
     ensures counts { AreCounts counts.new view.now }
 {
-    truth_of(&rule.condition, view, counts, answers)
+    truth_of(rule.condition(), view, counts, answers)
 }
 
 /// The truth value that a form answers.
@@ -137,7 +133,7 @@ fn give(
     ensures counts { AreCounts counts.new view.now }
     ensures delay { IfOk result (λ made. made.1 ≤ MAX_DELAY) }
 {
-    match &rule.constant {
+    match rule.constant() {
         Some(constant) => {
             copy(view.variables, changed);
             Ok((constant.given, constant.delay))
@@ -164,10 +160,10 @@ fn give_formed(
     ensures counts { AreCounts counts.new view.now }
     ensures delay { IfOk result (λ made. made.1 ≤ MAX_DELAY) }
 {
-    let given = give_values(&rule.gives, view, counts, answers)?;
+    let given = give_values(rule.gives(), view, counts, answers)?;
     let delay = delay(rule, view, counts, answers)?;
     copy(view.variables, changed);
-    set_variables(&rule.sets, view, changed, counts, answers)?;
+    set_variables(rule.sets(), view, changed, counts, answers)?;
     Ok((given, delay))
 }
 
@@ -187,9 +183,9 @@ fn delay(
     ensures capacity { vec_capacity answers.new ≡ vec_capacity answers.old }
     ensures counts { AreCounts counts.new view.now }
 {
-    match &rule.constant_delay {
-        Some(delay) => Ok(*delay),
-        None => delay_of(&rule.delay, view, counts, answers),
+    match rule.constant_delay() {
+        Some(delay) => Ok(delay),
+        None => delay_of(rule.delay(), view, counts, answers),
     }
 }
 
@@ -214,7 +210,7 @@ fn delay_of(
     delay_in(&value)
 }
 
-#[tactic(auto, using(crate::proofs::Making::give_here, crate::proofs::Making::deepest_here, crate::proofs::Stacks::drop_end))]
+#[tactic(auto, using(crate::proofs::Making::give_here, crate::proofs::Making::deepest_here, rule_forms::proofs::Stacks::drop_end))]
 fn give_values(
     gives: &[NumberedForm],
     view: &View,
@@ -237,7 +233,7 @@ fn give_values(
     Ok(given)
 }
 
-#[tactic(auto, using(crate::proofs::Making::set_here, crate::proofs::Making::deepest_here, crate::proofs::Stacks::drop_end))]
+#[tactic(auto, using(crate::proofs::Making::set_here, crate::proofs::Making::deepest_here, rule_forms::proofs::Stacks::drop_end))]
 fn set_variables(
     sets: &[NumberedForm],
     view: &View,

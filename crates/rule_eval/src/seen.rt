@@ -5,10 +5,11 @@ ghost use Rattle.quantity.specs.declared.value.Value.{Value as AnyValue};
 ghost use Rattle.quantity.specs.Arithmetic.{same_value};
 ghost use Rattle.rule_tree.specs.Meaning.{value_at, whole, outs, how_many, counted, state_count};
 ghost use Rattle.rule_tree.specs.Meaning.{coordinates, cell_position};
-ghost use Rattle.rule_eval.specs.Seen.{IsView, neighbours_of, seen, sight_of, whole_number_in};
+ghost use Rattle.rule_eval.specs.Seen.{IsView, neighbours_of, seen, sight_of};
 
 use crate::view::View;
 use quantity::{Place, Raw, Value};
+use rule_forms::whole_number;
 use rule_tree::Count;
 
 /// The value that stands at this place, or `?`.
@@ -29,25 +30,6 @@ pub(crate) fn whole(n: u64) -> Value
     match Raw::new(n as i64 * 100_000) {
         Some(raw) => Value::Num(raw),
         None => unreachable!(),
-    }
-}
-
-/// The whole number that a value is, if it is one that isn't negative.
-pub(crate) fn whole_number(value: Value) -> Option<u64>
-    ensures { result ≡ whole_number_in value }
-{
-    let Value::Num(raw) = value else {
-        return None;
-    };
-    let raw = raw.get();
-    if raw < 0 {
-        return None;
-    }
-    let raw = raw.unsigned_abs();
-    if raw % 100_000 == 0 {
-        Some(raw / 100_000)
-    } else {
-        None
     }
 }
 

@@ -6,10 +6,10 @@ ghost use Rattle.quantity.specs.Arithmetic.{bounded};
 ghost use Rattle.rule_eval.specs.Seen.{IsView, neighbours_of};
 ghost use Rattle.rule_eval.specs.Sums.{port_value_at, sum_from};
 
-use crate::forms::PortAt;
 use crate::seen::{neighbour, value_at};
 use crate::view::View;
 use quantity::{Overflow, Raw, Value};
+use rule_forms::PortAt;
 
 /// A value, to which those of neighbours are added one after another. Overflow where one of these
 /// sums is too large.

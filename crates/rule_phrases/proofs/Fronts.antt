@@ -7,6 +7,7 @@ use Rattle.quantity.specs.Bytes.{Bytes}
 use Rattle.quantity.specs.Literals.{unsigned_literal}
 use Rattle.quantity.specs.declared.value.Value.{Value}
 use Rattle.quantity.specs.declared.value.Value.TheVariants.{Undefined, Num}
+use Rattle.quantity.specs.Written.{for_some}
 use Rattle.rule_tree.specs.declared.node.Count.{Count}
 use Rattle.rule_terms.specs.declared.front.Front.{Front}
 use Rattle.rule_terms.specs.declared.term.Term.{Term}
@@ -16,7 +17,7 @@ use Rattle.rule_words.specs.declared.token.Token as T
 use Rattle.rule_words.specs.declared.token.Token.TheVariants.{Word, Number}
 use Rattle.rule_tree.specs.Phrases as P
 use Rattle.rule_tree.specs.Phrases.{Phrase, counts, looked_up}
-use Rattle.rule_words.specs.Reading.{Part, and_on, question_before}
+use Rattle.rule_words.specs.Reading.{Part, question_before}
 use Rattle.rule_words.specs.Descent.{atom_before, port_value_before, word_before}
 use Rattle.rule_words.specs.AtomParts.{after_mark, after_word, behind_this_port}
 use Rattle.rule_words.specs.Shown.{tokens_of}
@@ -91,7 +92,7 @@ after_word_is w (t ∷ ts) us e =
 
 argument_is : (ts rest : List Token) → Some rest ≡ behind_this_port ts → ts ≡ mark (codes "(") ∷ word (codes "thisport") ∷ mark (codes ")") ∷ rest
 argument_is ts rest e =
-    let inner = on_is (after_mark (codes "(") ts) (λ us. and_on (after_word (codes "thisport") us) (after_mark (codes ")"))) rest (sym e) in
+    let inner = on_is (after_mark (codes "(") ts) (λ us. for_some (after_word (codes "thisport") us) (after_mark (codes ")"))) rest (sym e) in
     let behind = on_is (after_word (codes "thisport") inner.0) (after_mark (codes ")")) rest inner.2 in
     after_is (codes "(") ts inner.0 inner.1
     ∙ ap (λ us. mark (codes "(") ∷ us) (after_word_is (codes "thisport") inner.0 behind.0 behind.1)

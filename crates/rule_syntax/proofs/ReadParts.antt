@@ -6,12 +6,13 @@ use Rattle.std.specs.List.{list_all}
 use Rattle.std.specs.Option.{option_map}
 use Rattle.quantity.specs.declared.value.Value.TheVariants.{Undefined}
 use Rattle.quantity.specs.Bytes.{has_repeat}
+use Rattle.quantity.specs.Written.{for_some}
 use Rattle.rule_tree.specs.Expression.{Expr, expr_of}
 use Rattle.rule_tree.specs.Expression as E
 use Rattle.rule_words.specs.Grammar.{at_out}
 use Rattle.rule_tree.specs.Phrases as P
 use Rattle.rule_tree.specs.Phrases.{Assigned, Phrase, Written, out}
-use Rattle.rule_words.specs.Reading.{Part, all_assigned, and_on, block, delay_before, given_in, last_block, question_before, sets_before, sets_block, value_before, written_rule}
+use Rattle.rule_words.specs.Reading.{Part, all_assigned, block, delay_before, given_in, last_block, question_before, sets_before, sets_block, value_before, written_rule}
 use Rattle.rule_syntax.specs.RulesRead.{AreNamed, AreRead, AreValues, IsNamedFront, IsRead, braced_value, give_of, is_number, set_of, phrase_for, value_for, values_of, words_of}
 use Rattle.rule_tree.specs.Scope.{Names, named_by, numbered}
 use Rattle.rule_words.specs.Shown.{token_of, tokens_of}
@@ -44,13 +45,13 @@ values_front names kind (Some xs) rest f h e = (h, e)
 pub braced_stop : (names : Names) (ts inner rest : List Token) (r : Option NamedValues) → ◌≡◌ {A = Option (List Token × List Token)} (Some (inner, rest)) (block (codes "{") (codes "}") ts)
     → AreValues names Port (given_in inner) r → r ≡ None → IsNamedFront names Port (braced_value ts) None
 braced_stop names ts inner rest r e h n =
-    subst (λ (o : Option (List Token × List Token)). IsNamedFront names Port (and_on o (λ b. option_map (λ xs. (xs, b.1)) (given_in b.0))) None) e
+    subst (λ (o : Option (List Token × List Token)). IsNamedFront names Port (for_some o (λ b. option_map (λ xs. (xs, b.1)) (given_in b.0))) None) e
     (values_stop names Port (given_in inner) rest (subst (λ v. AreValues names Port (given_in inner) v) n h))
 
 pub braced_front : (names : Names) (ts inner rest : List Token) (r : Option NamedValues) (f : NamedFront) → ◌≡◌ {A = Option (List Token × List Token)} (Some (inner, rest)) (block (codes "{") (codes "}") ts)
     → AreValues names Port (given_in inner) r → r ≡ Some f.values → tokens_of f.rest.now ≡ rest → IsNamedFront names Port (braced_value ts) (Some f)
 braced_front names ts inner rest r f e h s t =
-    subst (λ (o : Option (List Token × List Token)). IsNamedFront names Port (and_on o (λ b. option_map (λ xs. (xs, b.1)) (given_in b.0))) (Some f)) e
+    subst (λ (o : Option (List Token × List Token)). IsNamedFront names Port (for_some o (λ b. option_map (λ xs. (xs, b.1)) (given_in b.0))) (Some f)) e
     (values_front names Port (given_in inner) rest f (subst (λ v. AreValues names Port (given_in inner) v) s h) t)
 
 abbrev sets_or_none : List Token → Part (Option (List Assigned)) → Part (List Assigned)
@@ -100,20 +101,20 @@ plain_found names (Some p) front f h k e = (k p.0 h.0, ap tokens_of e ∙ h.1)
 -- ---- one part, and the parts behind it
 
 pub values_step : (names : Names) (kind : Kind) (o : Part (List Assigned)) (go : List Assigned × List Token → Option Written) (f : NamedFront) (r : Option ReadRule) → IsNamedFront names kind o (Some f)
-    → ((xs : List Assigned) → AreNamed names kind f.values xs → AreRead names (go (xs, tokens_of f.rest.now)) r) → AreRead names (and_on o go) r
+    → ((xs : List Assigned) → AreNamed names kind f.values xs → AreRead names (go (xs, tokens_of f.rest.now)) r) → AreRead names (for_some o go) r
 values_step names kind None go f r h k = absurd h
 values_step names kind (Some p) go f r h k = subst (λ (ts : List Token). AreRead names (go (p.0, ts)) r) h.1 (k p.0 h.0)
 
-pub no_values_step : (names : Names) (kind : Kind) (o : Part (List Assigned)) (go : List Assigned × List Token → Option Written) → IsNamedFront names kind o None → AreRead names (and_on o go) None
+pub no_values_step : (names : Names) (kind : Kind) (o : Part (List Assigned)) (go : List Assigned × List Token → Option Written) → IsNamedFront names kind o None → AreRead names (for_some o go) None
 no_values_step names kind None go h = tt
 no_values_step names kind (Some p) go h = absurd h
 
 pub front_step : (names : Names) (o : Part Phrase) (go : Phrase × List Token → Option Written) (f : Front) (r : Option ReadRule) → IsFront names o (Some f)
-    → ((x : Phrase) → Stands names f.term x → AreRead names (go (x, tokens_of f.rest.now)) r) → AreRead names (and_on o go) r
+    → ((x : Phrase) → Stands names f.term x → AreRead names (go (x, tokens_of f.rest.now)) r) → AreRead names (for_some o go) r
 front_step names None go f r h k = absurd h
 front_step names (Some p) go f r h k = subst (λ (ts : List Token). AreRead names (go (p.0, ts)) r) h.1 (k p.0 h.0)
 
-pub no_front_step : (names : Names) (o : Part Phrase) (go : Phrase × List Token → Option Written) → IsFront names o None → AreRead names (and_on o go) None
+pub no_front_step : (names : Names) (o : Part Phrase) (go : Phrase × List Token → Option Written) → IsFront names o None → AreRead names (for_some o go) None
 no_front_step names None go h = tt
 no_front_step names (Some p) go h = absurd h
 
@@ -131,12 +132,12 @@ abbrev in_front_of_last : List Assigned → List Assigned → Phrase × List Tok
 in_front_of_last gs ss d = option_map (λ c. record { gives = gs; delay = d.0; condition = c; sets = ss }) (last_block d.1)
 
 abbrev at_sets : List Assigned → List Assigned × List Token → Option Written
-at_sets gs s = and_on (delay_before s.1) (in_front_of_last gs s.0)
+at_sets gs s = for_some (delay_before s.1) (in_front_of_last gs s.0)
 
 abbrev at_value : List Assigned × List Token → Option Written
-at_value v = and_on (sets_before v.1) (at_sets v.0)
+at_value v = for_some (sets_before v.1) (at_sets v.0)
 
-rule_is : (ts : List Token) → and_on (value_before ts) at_value ≡ written_rule ts
+rule_is : (ts : List Token) → for_some (value_before ts) at_value ≡ written_rule ts
 unfolding written_rule
 rule_is ts = refl
 
@@ -149,7 +150,7 @@ front_is names o r s h e = subst (λ q. IsFront names o q) e h
 pub term_is : (names : Names) (o : Option Phrase) (r s : Option Term) → IsTerm names o r → r ≡ s → IsTerm names o s
 term_is names o r s h e = subst (λ q. IsTerm names o q) e h
 
-by_parts : (names : Names) (ts : List Token) (r : Option ReadRule) → AreRead names (and_on (value_before ts) at_value) r → AreRead names (written_rule ts) r
+by_parts : (names : Names) (ts : List Token) (r : Option ReadRule) → AreRead names (for_some (value_before ts) at_value) r → AreRead names (written_rule ts) r
 by_parts names ts r h = subst (λ o. AreRead names o r) (rule_is ts) h
 
 pub no_value_read : (names : Names) (ts : List Token) → IsNamedFront names Port (value_before ts) None → AreRead names (written_rule ts) None

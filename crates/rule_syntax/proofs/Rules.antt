@@ -10,15 +10,16 @@ use Rattle.quantity.specs.declared.value.Value.TheVariants.{Undefined, Num}
 use Rattle.quantity.specs.Bytes.{Bytes, all_there, is_empty}
 use Rattle.quantity.specs.Literals.{unsigned_literal}
 use Rattle.quantity.specs.Digits.{with_sign_of}
+use Rattle.quantity.specs.Written.{for_some}
 use Rattle.rule_words.specs.Tokens.{Token, word, number, mark, is_mark}
 use Rattle.rule_tree.specs.Phrases as P
 use Rattle.rule_tree.specs.Phrases.{Phrase, Assigned, Written, expr}
 use Rattle.rule_words.specs.Grammar.{IsPhrase, IsNumber, AreAssigned, braced, at_out, IsValue, AreSets, IsDelay, IsRule}
 use Rattle.rule_words.specs.Grammar as G
-use Rattle.rule_words.specs.Reading.{is_sign, cell_before, block, and_on, number_before, phrase_of, phrase_block, assigned, ended_parts, all_assigned, block_begins, given_in, question_before, cell_phrase_before, value_before, sets_in, sets_block, sets_before, delay_before, last_block, written_rule}
+use Rattle.rule_words.specs.Reading.{is_sign, cell_before, block, number_before, phrase_of, phrase_block, assigned, ended_parts, all_assigned, block_begins, given_in, question_before, cell_phrase_before, value_before, sets_in, sets_block, sets_before, delay_before, last_block, written_rule}
 use Rattle.rule_words.proofs.Sound.{none_some, some_same, same_bytes, mark_is, then_is, mapped, block_is, cell_is, in_front_is, sign_cases, empty_is, phrases_are_found}
 
-on_is : {A B : Type 0} (o : Option A) (f : A → Option B) (y : B) → and_on o f ≡ Some y → (x : A) × (o ≡ Some x) × (f x ≡ Some y)
+on_is : {A B : Type 0} (o : Option A) (f : A → Option B) (y : B) → for_some o f ≡ Some y → (x : A) × (o ≡ Some x) × (f x ≡ Some y)
 on_is None f y e = absurd (none_some e)
 on_is (Some x) f y e = (x, refl, e)
 
@@ -140,7 +141,7 @@ not_empty (p ∷ ps) e = tt
 
 all_assigned_is : (kind : Bytes) (ts : List Token) (xs : List Assigned) → all_assigned kind ts ≡ Some xs → AreAssigned kind ts xs
 all_assigned_is kind ts xs e =
-    let p = on_is (ended_parts (slice_split (is_mark (codes ";")) ts)) (λ parts. and_on (then_some (not (is_empty parts)) parts) (λ ps. all_there (map (assigned kind) ps))) xs e in
+    let p = on_is (ended_parts (slice_split (is_mark (codes ";")) ts)) (λ parts. for_some (then_some (not (is_empty parts)) parts) (λ ps. all_there (map (assigned kind) ps))) xs e in
     let q = on_is (then_some (not (is_empty p.0)) p.0) (λ ps. all_there (map (assigned kind) ps)) xs p.2 in
     let t = then_is (not (is_empty p.0)) p.0 q.0 q.1 in
     subst (λ us. AreAssigned kind us xs) (ap ended (sym t.1) ∙ ended_is ts p.0 p.1) (parts_are kind q.0 xs (subst HasParts t.1 (not_empty p.0 t.0)) q.2)
@@ -157,7 +158,7 @@ given_in_is ts xs e = go (block_begins (codes "~") ts) e
 abbrev IsValueBefore : List Token → List Assigned × List Token → Type 0
 IsValueBefore ts p = (us : List Token) × IsValue us p.0 × (ts ≡ us ++ p.1)
 
-block_value_is : (ts : List Token) (p : List Assigned × List Token) → and_on (block (codes "{") (codes "}") ts) (λ b. option_map (λ xs. (xs, b.1)) (given_in b.0)) ≡ Some p → IsValueBefore ts p
+block_value_is : (ts : List Token) (p : List Assigned × List Token) → for_some (block (codes "{") (codes "}") ts) (λ b. option_map (λ xs. (xs, b.1)) (given_in b.0)) ≡ Some p → IsValueBefore ts p
 block_value_is ts p e =
     let b = on_is (block (codes "{") (codes "}") ts) (λ d. option_map (λ xs. (xs, d.1)) (given_in d.0)) p e in
     let m = mapped (λ xs. (xs, b.0.1)) (given_in b.0.0) p b.2 in
@@ -187,7 +188,7 @@ plain_is ts p e =
 
 value_is : (ts : List Token) (p : List Assigned × List Token) → value_before ts ≡ Some p → IsValueBefore ts p
 value_is ts p e =
-    elim (either_is (and_on (block (codes "{") (codes "}") ts) (λ b. option_map (λ xs. (xs, b.1)) (given_in b.0))) (option_map (λ x. (at_out x.0, x.1)) (option_or (number_before ts) (option_or (question_before ts) (cell_phrase_before ts)))) p e) [
+    elim (either_is (for_some (block (codes "{") (codes "}") ts) (λ b. option_map (λ xs. (xs, b.1)) (given_in b.0))) (option_map (λ x. (at_out x.0, x.1)) (option_or (number_before ts) (option_or (question_before ts) (cell_phrase_before ts)))) p e) [
       | inl h ↦ block_value_is ts p h
       | inr h ↦ from_plain h
     ]
@@ -245,8 +246,8 @@ joined_parts ts vs ss ds cs a b c e f g h =
 pub rules_are_found : (ts : List Token) (r : Written) → written_rule ts ≡ Some r → IsRule ts r
 unfolding written_rule
 rules_are_found ts r e =
-    let v = on_is (value_before ts) (λ v. and_on (sets_before v.1) (λ s. and_on (delay_before s.1) (λ d. option_map (λ c. record { gives = v.0; delay = d.0; condition = c; sets = s.0 }) (last_block d.1)))) r e in
-    let s = on_is (sets_before v.0.1) (λ s. and_on (delay_before s.1) (λ d. option_map (λ c. record { gives = v.0.0; delay = d.0; condition = c; sets = s.0 }) (last_block d.1))) r v.2 in
+    let v = on_is (value_before ts) (λ v. for_some (sets_before v.1) (λ s. for_some (delay_before s.1) (λ d. option_map (λ c. record { gives = v.0; delay = d.0; condition = c; sets = s.0 }) (last_block d.1)))) r e in
+    let s = on_is (sets_before v.0.1) (λ s. for_some (delay_before s.1) (λ d. option_map (λ c. record { gives = v.0.0; delay = d.0; condition = c; sets = s.0 }) (last_block d.1))) r v.2 in
     let d = on_is (delay_before s.0.1) (λ d. option_map (λ c. record { gives = v.0.0; delay = d.0; condition = c; sets = s.0.0 }) (last_block d.1)) r s.2 in
     let c = mapped (λ c. record { gives = v.0.0; delay = d.0.0; condition = c; sets = s.0.0 }) (last_block d.0.1) r d.2 in
     together v.0 s.0 d.0 c.0 (value_is ts v.0 v.1) (sets_are v.0.1 s.0 s.1) (delay_is s.0.1 d.0 d.1) (last_block_is d.0.1 c.0 c.1) c.2

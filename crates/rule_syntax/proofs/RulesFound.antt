@@ -9,11 +9,12 @@ use Rattle.quantity.specs.declared.value.Value.TheVariants.{Undefined, Num}
 use Rattle.quantity.specs.Bytes.{Bytes, all_there, in_front, is_empty}
 use Rattle.quantity.specs.Digits.{with_sign_of}
 use Rattle.quantity.specs.Literals.{unsigned_literal}
+use Rattle.quantity.specs.Written.{for_some}
 use Rattle.rule_words.specs.Tokens.{Token, word, number, mark, is_mark}
 use Rattle.rule_tree.specs.Phrases as P
 use Rattle.rule_tree.specs.Phrases.{Cell, Phrase, expr, Assigned, Written, out}
 use Rattle.rule_words.specs.Grammar.{IsCell, IsPhrase, IsNumber, AreAssigned, IsValue, AreSets, IsDelay, IsRule, braced, at_out, a_phrase, a_number, a_question, a_cell, some_gives, delay_phrase, delay_number, rule}
-use Rattle.rule_words.specs.Reading.{block, port_in, is_sign, phrase_of, and_on, number_before, phrase_block, assigned, ended_parts, all_assigned, block_begins, given_in, question_before, cell_phrase_before, value_before, sets_in, sets_block, sets_before, delay_before, last_block, written_rule}
+use Rattle.rule_words.specs.Reading.{block, port_in, is_sign, phrase_of, number_before, phrase_block, assigned, ended_parts, all_assigned, block_begins, given_in, question_before, cell_phrase_before, value_before, sets_in, sets_block, sets_before, delay_before, last_block, written_rule}
 use Rattle.rule_phrases.proofs.Nesting.{is_delimiter, IsPlain, Nested}
 use Rattle.rule_phrases.proofs.Nesting as N
 use Rattle.rule_phrases.proofs.Apart.{no_comma}
@@ -64,7 +65,7 @@ front_block inner rest none =
 
 front_phrase : (ts rest : List Token) (x : Phrase) → IsPhrase expr ts x → phrase_block (braced ts ++ rest) ≡ Some (x, rest)
 front_phrase ts rest x p =
-    ap (λ o. and_on o (λ (b : List Token × List Token). option_map (λ y. (y, b.1)) (phrase_of b.0))) (front_block ts rest (phrase_closes ts x p))
+    ap (λ o. for_some o (λ (b : List Token × List Token). option_map (λ y. (y, b.1)) (phrase_of b.0))) (front_block ts rest (phrase_closes ts x p))
     ∙ ap (option_map (λ y. (y, rest))) (phrase_found ts x p)
 
 -- ---- numbers
@@ -82,7 +83,7 @@ number_no_block _ rest _ (IsNumber.minus {text} e) = refl
 no_number : (m : Bytes) (us : List Token) → is_sign m ≡ false → number_before (mark m ∷ us) ≡ None
 no_number m [] e = refl
 no_number m (word w ∷ us) e = refl
-no_number m (number n ∷ us) e = ap (λ b. and_on (then_some b m) (λ s. option_map (λ n. (P.value (Num (with_sign_of s n)), us)) (unsigned_literal n))) e
+no_number m (number n ∷ us) e = ap (λ b. for_some (then_some b m) (λ s. option_map (λ n. (P.value (Num (with_sign_of s n)), us)) (unsigned_literal n))) e
 no_number m (mark k ∷ us) e = refl
 
 -- ---- gives and sets
@@ -103,7 +104,7 @@ assignment kind w ts = mark kind ∷ word w ∷ mark (codes ":=") ∷ ts
 
 assignment_found : (kind w : Bytes) (ts : List Token) (x : Phrase) → IsKind kind → IsPhrase expr ts x → assigned kind (assignment kind w ts) ≡ Some (record { name = w; phrase = x })
 assignment_found kind w ts x k p =
-    ap (λ b. and_on (then_some (b && true) w) (λ name. option_map (λ y. record { name = name; phrase = y }) (phrase_of ts))) k.same
+    ap (λ b. for_some (then_some (b && true) w) (λ name. option_map (λ y. record { name = name; phrase = y }) (phrase_of ts))) k.same
     ∙ ap (option_map (λ y. record { name = w; phrase = y })) (phrase_found ts x p)
 
 assignment_ends : (kind w : Bytes) (ts : List Token) (x : Phrase) → IsKind kind → IsPhrase expr ts x → Absent (is_mark (codes ";")) (assignment kind w ts)
@@ -148,7 +149,7 @@ parted kind _ _ k (AreAssigned.more {w} {ts} {us} {x} {xs} p q) =
 
 all_found : (kind : Bytes) (ts : List Token) (xs : List Assigned) → Parted kind ts xs → all_assigned kind ts ≡ Some xs
 all_found kind ts xs h =
-    ap (λ o. and_on o (λ parts. and_on (then_some (not (is_empty parts)) parts) (λ ps. all_there (map (assigned kind) ps)))) h.ended ∙ h.read
+    ap (λ o. for_some o (λ parts. for_some (then_some (not (is_empty parts)) parts) (λ ps. all_there (map (assigned kind) ps)))) h.ended ∙ h.read
 
 assigned_begins : (kind : Bytes) (ts : List Token) (xs : List Assigned) → bytes_eq kind kind ≡ true → AreAssigned kind ts xs → block_begins kind ts ≡ true
 assigned_begins kind _ _ e (AreAssigned.last {w} {ts} {x} p) = e
@@ -166,7 +167,7 @@ dollar_kind = record { ends = refl; closes = refl; same = refl }
 value_block : (ts rest : List Token) (xs : List Assigned) → Absent (is_mark (codes "}")) ts → given_in ts ≡ Some xs → value_before (braced ts ++ rest) ≡ Some (xs, rest)
 value_block ts rest xs none e =
     let later = option_map (λ (x : Phrase × List Token). (at_out x.0, x.1)) (option_or (number_before (braced ts ++ rest)) (option_or (question_before (braced ts ++ rest)) (cell_phrase_before (braced ts ++ rest)))) in
-    ap (λ o. option_or (and_on o (λ (b : List Token × List Token). option_map (λ ys. (ys, b.1)) (given_in b.0))) later) (front_block ts rest none)
+    ap (λ o. option_or (for_some o (λ (b : List Token × List Token). option_map (λ ys. (ys, b.1)) (given_in b.0))) later) (front_block ts rest none)
     ∙ ap (λ o. option_or (option_map (λ ys. (ys, rest)) o) later) e
 
 phrase_given : (ts : List Token) (x : Phrase) → IsPhrase expr ts x → given_in ts ≡ Some (at_out x)
@@ -178,7 +179,7 @@ phrase_given ts x p =
 -- a value that is no block
 plain_value : (ts rest : List Token) (x : Phrase) → block (codes "{") (codes "}") (ts ++ rest) ≡ None → option_or (number_before (ts ++ rest)) (option_or (question_before (ts ++ rest)) (cell_phrase_before (ts ++ rest))) ≡ Some (x, rest) → value_before (ts ++ rest) ≡ Some (at_out x, rest)
 plain_value ts rest x none e =
-    ap (λ o. option_or (and_on o (λ (b : List Token × List Token). option_map (λ ys. (ys, b.1)) (given_in b.0))) (option_map (λ (y : Phrase × List Token). (at_out y.0, y.1)) (option_or (number_before (ts ++ rest)) (option_or (question_before (ts ++ rest)) (cell_phrase_before (ts ++ rest)))))) none
+    ap (λ o. option_or (for_some o (λ (b : List Token × List Token). option_map (λ ys. (ys, b.1)) (given_in b.0))) (option_map (λ (y : Phrase × List Token). (at_out y.0, y.1)) (option_or (number_before (ts ++ rest)) (option_or (question_before (ts ++ rest)) (cell_phrase_before (ts ++ rest)))))) none
     ∙ ap (option_map (λ (y : Phrase × List Token). (at_out y.0, y.1))) e
 
 cell_front : (ts rest : List Token) (c : Cell) → IsCell ts c → port_in rest ≡ Some (out, rest) → HasComma ts → value_before (ts ++ rest) ≡ Some (at_out (P.cell c), rest)
@@ -231,10 +232,10 @@ phrase_no_sets ts x p = go ts (phrase_assigns ts x p)
 
 delay_no_sets : (ds rest : List Token) (x : Phrase) → IsDelay ds x → sets_block (ds ++ rest) ≡ None
 delay_no_sets _ rest _ (delay_phrase {ts} {x} p) =
-    ap (λ o. and_on o (λ (b : List Token × List Token). option_map (λ s. (s, b.1)) (sets_in b.0))) (front_block ts rest (phrase_closes ts x p))
+    ap (λ o. for_some o (λ (b : List Token × List Token). option_map (λ s. (s, b.1)) (sets_in b.0))) (front_block ts rest (phrase_closes ts x p))
     ∙ ap (option_map (λ s. (s, rest))) (phrase_no_sets ts x p)
 delay_no_sets _ rest _ (delay_number {ts} {x} n) =
-    ap (λ o. and_on o (λ (b : List Token × List Token). option_map (λ s. (s, b.1)) (sets_in b.0))) (number_no_block ts rest x n)
+    ap (λ o. for_some o (λ (b : List Token × List Token). option_map (λ s. (s, b.1)) (sets_in b.0))) (number_no_block ts rest x n)
 
 sets_are : (ts : List Token) (xs : List Assigned) → AreAssigned (codes "$") ts xs → sets_in ts ≡ Some (all_assigned (codes "$") ts)
 sets_are _ _ (AreAssigned.last {w} {ts} {x} p) = refl
@@ -244,7 +245,7 @@ sets_found : (ss rest : List Token) (sets : List Assigned) → AreSets ss sets �
 sets_found _ rest _ AreSets.none e = ap (λ o. elim o [ None ↦ Some ([], rest) | Some s ↦ option_map (λ xs. (xs, s.1)) s.0 ]) e
 sets_found _ rest _ (AreSets.some {ts} {xs} h) e =
     let k = parted (codes "$") ts xs dollar_kind h in
-    ap (λ o. after (and_on o in_block)) (front_block ts rest k.closes) ∙ ap (λ o. after (option_map (λ s. (s, rest)) o)) (sets_are ts xs h)
+    ap (λ o. after (for_some o in_block)) (front_block ts rest k.closes) ∙ ap (λ o. after (option_map (λ s. (s, rest)) o)) (sets_are ts xs h)
     ∙ ap (option_map (λ ys. (ys, rest))) (all_found (codes "$") ts xs k)
   where
     in_block : List Token × List Token → Option (Option (List Assigned) × List Token)
@@ -258,12 +259,12 @@ sets_found _ rest _ (AreSets.some {ts} {xs} h) e =
 delay_found : (ds rest : List Token) (x : Phrase) → IsDelay ds x → delay_before (ds ++ rest) ≡ Some (x, rest)
 delay_found _ rest _ (delay_phrase {ts} {x} p) = ap (λ o. option_or o (number_before (braced ts ++ rest))) (front_phrase ts rest x p)
 delay_found _ rest _ (delay_number {ts} {x} n) =
-    ap (λ o. option_or (and_on o (λ (b : List Token × List Token). option_map (λ y. (y, b.1)) (phrase_of b.0))) (number_before (ts ++ rest))) (number_no_block ts rest x n)
+    ap (λ o. option_or (for_some o (λ (b : List Token × List Token). option_map (λ y. (y, b.1)) (phrase_of b.0))) (number_before (ts ++ rest))) (number_no_block ts rest x n)
     ∙ front_number ts rest x n
 
 condition_found : (cs : List Token) (x : Phrase) → IsPhrase expr cs x → last_block (braced cs) ≡ Some x
 condition_found cs x p =
-    ap (λ o. and_on o (λ (c : Phrase × List Token). then_some (is_empty c.1) c.0)) (ap phrase_block (sym (append-nil (braced cs))) ∙ front_phrase cs [] x p)
+    ap (λ o. for_some o (λ (c : Phrase × List Token). then_some (is_empty c.1) c.0)) (ap phrase_block (sym (append-nil (braced cs))) ∙ front_phrase cs [] x p)
 
 -- ---- what stands behind a value names no port
 
@@ -294,22 +295,22 @@ regrouped vs ss ds cs = simp append_assoc
 pub rule_found : (ts : List Token) (r : Written) → IsRule ts r → written_rule ts ≡ Some r
 unfolding written_rule
 rule_found _ _ (rule {vs} {ss} {ds} {cs} {gives} {sets} {delay} {condition} v s d c) =
-    ap whole (regrouped vs ss ds (braced cs)) ∙ ap (λ o. and_on o at_value) (value_found vs (ss ++ (ds ++ braced cs)) gives v names_none)
-    ∙ ap (λ o. and_on o (at_sets gives)) (sets_found ss (ds ++ braced cs) sets s (delay_no_sets ds (braced cs) delay d))
-    ∙ ap (λ o. and_on o (at_delay gives sets)) (delay_found ds (braced cs) delay d)
+    ap whole (regrouped vs ss ds (braced cs)) ∙ ap (λ o. for_some o at_value) (value_found vs (ss ++ (ds ++ braced cs)) gives v names_none)
+    ∙ ap (λ o. for_some o (at_sets gives)) (sets_found ss (ds ++ braced cs) sets s (delay_no_sets ds (braced cs) delay d))
+    ∙ ap (λ o. for_some o (at_delay gives sets)) (delay_found ds (braced cs) delay d)
     ∙ ap (option_map (λ k. record { gives = gives; delay = delay; condition = k; sets = sets })) (condition_found cs condition c)
   where
     at_delay : List Assigned → List Assigned → Phrase × List Token → Option Written
     at_delay gs xs e = option_map (λ k. record { gives = gs; delay = e.0; condition = k; sets = xs }) (last_block e.1)
 
     at_sets : List Assigned → List Assigned × List Token → Option Written
-    at_sets gs x = and_on (delay_before x.1) (at_delay gs x.0)
+    at_sets gs x = for_some (delay_before x.1) (at_delay gs x.0)
 
     at_value : List Assigned × List Token → Option Written
-    at_value g = and_on (sets_before g.1) (at_sets g.0)
+    at_value g = for_some (sets_before g.1) (at_sets g.0)
 
     whole : List Token → Option Written
-    whole us = and_on (value_before us) at_value
+    whole us = for_some (value_before us) at_value
 
     names_none : port_in (ss ++ (ds ++ braced cs)) ≡ Some (out, ss ++ (ds ++ braced cs))
     names_none = sets_name_none ss (ds ++ braced cs) sets s (delay_names_none ds (braced cs) delay d)

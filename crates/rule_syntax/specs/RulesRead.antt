@@ -7,10 +7,11 @@ use Rattle.std.specs.List.{flat_map, list_all}
 use Rattle.std.specs.Option.{option_map, option_or, unwrap_or}
 use Rattle.std.specs.Str.{bytes_eq}
 use Rattle.quantity.specs.Bytes.{Bytes, is_empty}
+use Rattle.quantity.specs.Written.{for_some}
 use Rattle.rule_tree.specs.Expression.{Expr, expr_of, rule_of}
 use Rattle.rule_words.specs.Grammar.{at_out}
 use Rattle.rule_tree.specs.Phrases.{Phrase, Assigned, Written}
-use Rattle.rule_words.specs.Reading.{Part, and_on, block, cell_phrase_before, given_in}
+use Rattle.rule_words.specs.Reading.{Part, block, cell_phrase_before, given_in}
 use Rattle.rule_words.specs.Reading.{number_before, question_before}
 use Rattle.rule_words.specs.RuleOf.{has_port_twice}
 use Rattle.rule_tree.specs.Scope.{Names, Named, a_port, a_variable, named_by, named_in, numbered}
@@ -115,7 +116,7 @@ shown_parts parts = map (λ (p : Bor (List T.Token)). tokens_of p.now) parts
 
 -- parts, at least one
 abbrev pub some_parts : Option (List (List Token)) → Option (List (List Token))
-some_parts parts = and_on parts (λ ps. then_some (not (is_empty ps)) ps)
+some_parts parts = for_some parts (λ ps. then_some (not (is_empty ps)) ps)
 
 -- a value is added where there is one
 abbrev pub IsAdded : Names → Kind → Option Assigned → NamedValues → NamedValues → Bool → Type 0
@@ -146,7 +147,7 @@ holds_sets ts = false
 -- values in a block, and a value that is none
 abbrev pub braced_value : List Token → Part (List Assigned)
 braced_value ts =
-    and_on (block (codes "{") (codes "}") ts) (λ b. option_map (λ xs. (xs, b.1)) (given_in b.0))
+    for_some (block (codes "{") (codes "}") ts) (λ b. option_map (λ xs. (xs, b.1)) (given_in b.0))
 
 -- the undefined value, or a neighbour
 abbrev pub question_or_cell : List Token → Part Phrase

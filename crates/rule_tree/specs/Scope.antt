@@ -146,7 +146,11 @@ pub record Extent : Type 0 where
 
 -- how many neighbours, variables and ports are declared
 abbrev pub extent_of : Names → Extent
-extent_of names = record { offsets = length names.offsets; variables = length names.variables; ports = length names.ports }
+extent_of names = record {
+  offsets = length names.offsets;
+  variables = length names.variables;
+  ports = length names.ports;
+}
 
 abbrev mutual
   pub is_within : Extent → Expr → Bool

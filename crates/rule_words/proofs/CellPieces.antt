@@ -4,10 +4,11 @@ use Rattle.std.specs.Prelude.{codes, ℤ, pos}
 use Rattle.std.specs.Option.{option_map, option_or, option_and_then}
 use Rattle.quantity.specs.Bytes.{Bytes}
 use Rattle.quantity.specs.Digits.{whole_number, with_sign_of}
+use Rattle.quantity.specs.Written.{for_some}
 use Rattle.rule_words.specs.Tokens.{Token, number, mark, is_mark}
 use Rattle.rule_tree.specs.Phrases.{Cell}
 use Rattle.rule_words.specs.Grammar.{IsInt, IsCell}
-use Rattle.rule_words.specs.Reading.{Part, and_on, is_sign, port_in, places_in, cell_before}
+use Rattle.rule_words.specs.Reading.{Part, is_sign, port_in, places_in, cell_before}
 use Rattle.rule_words.specs.Shown.{plane_of}
 use Rattle.rule_words.specs.AtomParts.{after_mark}
 use Rattle.rule_words.specs.CellParts.{int_before, next_int, plane_before, place_before, cell_in_pieces}
@@ -16,7 +17,7 @@ use Rattle.rule_words.proofs.Sound.{none_some, mark_is, then_is, mapped, sign_ca
 
 -- ---- what pieces are
 
-pub on_is : {A B : Type 0} (o : Option A) (go : A → Option B) (y : B) → and_on o go ≡ Some y → (x : A) × (o ≡ Some x) × (go x ≡ Some y)
+pub on_is : {A B : Type 0} (o : Option A) (go : A → Option B) (y : B) → for_some o go ≡ Some y → (x : A) × (o ≡ Some x) × (go x ≡ Some y)
 on_is None go y e = absurd (none_some e)
 on_is (Some x) go y e = (x, refl, e)
 
@@ -134,7 +135,7 @@ abbrev no_plane : List Token → Option (Option ℤ × List Token)
 no_plane ts = option_map (λ rest. (None, rest)) (after_mark (codes ")") ts)
 
 abbrev a_plane : List Token → Option (Option ℤ × List Token)
-a_plane ts = and_on (next_int ts) (λ k. option_map (λ rest. (Some k.0, rest)) (after_mark (codes ")") k.1))
+a_plane ts = for_some (next_int ts) (λ k. option_map (λ rest. (Some k.0, rest)) (after_mark (codes ")") k.1))
 
 plane_is : (ts : List Token) (p : Option ℤ × List Token) → plane_before ts ≡ Some p → PlaneAt ts p.0 p.1
 plane_is ts p e = go (no_plane ts) refl e
@@ -174,10 +175,10 @@ forward ts p e =
     behind_column i j = option_map (λ k. (i ∷ j.0 ∷ plane_of k.0, k.1)) (plane_before j.1)
 
     behind_row : ℤ × List Token → Part (List ℤ)
-    behind_row i = and_on (next_int i.1) (behind_column i.0)
+    behind_row i = for_some (next_int i.1) (behind_column i.0)
 
     behind_open : List Token → Part (List ℤ)
-    behind_open inner = and_on (int_before inner) behind_row
+    behind_open inner = for_some (int_before inner) behind_row
 
 -- ---- from the cell to pieces
 
@@ -188,13 +189,13 @@ int_read _ _ (IsInt.minus {text} {n} e) rest = ap (option_map {U = ℤ × List T
 
 place_read : (row column after : List Token) (i j : ℤ) (k : Option ℤ × List Token) → IsInt row i → IsInt column j → plane_before after ≡ Some k → place_before (mark (codes "(") ∷ (row ++ mark (codes ",") ∷ (column ++ after))) ≡ Some (i ∷ j ∷ plane_of k.0, k.1)
 place_read row column after i j k r d e =
-    ap (λ o. and_on o (λ (x : ℤ × List Token). and_on (next_int x.1) (λ (y : ℤ × List Token). option_map {U = List ℤ × List Token} (λ z. (x.0 ∷ y.0 ∷ plane_of z.0, z.1)) (plane_before y.1)))) (int_read row i r (mark (codes ",") ∷ (column ++ after)))
-    ∙ ap (λ o. and_on o (λ (y : ℤ × List Token). option_map {U = List ℤ × List Token} (λ z. (i ∷ y.0 ∷ plane_of z.0, z.1)) (plane_before y.1))) (int_read column j d after)
+    ap (λ o. for_some o (λ (x : ℤ × List Token). for_some (next_int x.1) (λ (y : ℤ × List Token). option_map {U = List ℤ × List Token} (λ z. (x.0 ∷ y.0 ∷ plane_of z.0, z.1)) (plane_before y.1)))) (int_read row i r (mark (codes ",") ∷ (column ++ after)))
+    ∙ ap (λ o. for_some o (λ (y : ℤ × List Token). option_map {U = List ℤ × List Token} (λ z. (i ∷ y.0 ∷ plane_of z.0, z.1)) (plane_before y.1))) (int_read column j d after)
     ∙ ap (option_map {U = List ℤ × List Token} (λ z. (i ∷ j ∷ plane_of z.0, z.1))) e
 
 plane_read : (plane rest : List Token) (k : ℤ) → IsInt plane k → plane_before (mark (codes ",") ∷ (plane ++ mark (codes ")") ∷ rest)) ≡ Some (Some k, rest)
 plane_read plane rest k f =
-    ap (λ o. and_on o (λ (x : ℤ × List Token). option_map {U = Option ℤ × List Token} (λ us. (Some x.0, us)) (after_mark (codes ")") x.1))) (int_read plane k f (mark (codes ")") ∷ rest))
+    ap (λ o. for_some o (λ (x : ℤ × List Token). option_map {U = Option ℤ × List Token} (λ us. (Some x.0, us)) (after_mark (codes ")") x.1))) (int_read plane k f (mark (codes ")") ∷ rest))
 
 abbrev HasPlace : List Token → Type 0
 HasPlace ts = (p : List ℤ × List Token) × (place_before ts ≡ Some p)
@@ -219,13 +220,13 @@ cells_same ts = go (place_before ts) refl
     none e None k = k
     none e (Some c) k = let r = backward ts c k in absurd (none_some (sym e ∙ r.1))
 
-    go : (o : Option (List ℤ × List Token)) → place_before ts ≡ o → cell_before ts ≡ and_on o PieceCell
+    go : (o : Option (List ℤ × List Token)) → place_before ts ≡ o → cell_before ts ≡ for_some o PieceCell
     go None e = none e (cell_before ts) refl
     go (Some p) e = forward ts p e
 
 pub no_cell : (ts : List Token) → None ≡ place_before ts → None ≡ cell_before ts
-no_cell ts e = ap (λ o. and_on o PieceCell) e ∙ sym (cells_same ts)
+no_cell ts e = ap (λ o. for_some o PieceCell) e ∙ sym (cells_same ts)
 
 pub a_cell : (ts after rest : List Token) (place : List ℤ) (port : Bytes) → Some (place, after) ≡ place_before ts → Some (port, rest) ≡ port_in after → Some (record { place = place; port = port }, rest) ≡ cell_before ts
 a_cell ts after rest place port e h =
-    ap (λ o. CellOf o place) h ∙ ap (λ o. and_on o PieceCell) e ∙ sym (cells_same ts)
+    ap (λ o. CellOf o place) h ∙ ap (λ o. for_some o PieceCell) e ∙ sym (cells_same ts)

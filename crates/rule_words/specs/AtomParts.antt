@@ -3,9 +3,10 @@ use Rattle.std.specs.Prelude.{Option, None, List, [], ◌∷◌, codes}
 use Rattle.std.specs.Option.{option_or}
 use Rattle.std.specs.Bool.{then_some}
 use Rattle.quantity.specs.Bytes.{Bytes}
+use Rattle.quantity.specs.Written.{for_some}
 use Rattle.rule_words.specs.Tokens.{Token, is_mark, is_word}
 use Rattle.rule_tree.specs.Phrases.{Phrase}
-use Rattle.rule_words.specs.Reading.{Part, and_on, question_before, cell_phrase_before}
+use Rattle.rule_words.specs.Reading.{Part, question_before, cell_phrase_before}
 use Rattle.rule_words.specs.Descent.{variable_before}
 
 -- the tokens behind a mark
@@ -21,8 +22,8 @@ after_word text (t ∷ ts) = then_some (is_word text t) ts
 -- the tokens behind (thisport)
 abbrev pub behind_this_port : List Token → Option (List Token)
 behind_this_port ts =
-    and_on (after_mark (codes "(") ts)
-    (λ inner. and_on (after_word (codes "thisport") inner) (after_mark (codes ")")))
+    for_some (after_mark (codes "(") ts)
+    (λ inner. for_some (after_word (codes "thisport") inner) (after_mark (codes ")")))
 
 -- a phrase that begins with a mark
 abbrev pub marked_before : List Token → Part Phrase

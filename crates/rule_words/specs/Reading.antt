@@ -15,6 +15,7 @@ use Rattle.rule_tree.specs.declared.function.Function.{Function}
 use Rattle.quantity.specs.Bytes.{Bytes, is_empty, parts_outside, all_there}
 use Rattle.quantity.specs.Digits.{whole_number, with_sign_of, has_length}
 use Rattle.quantity.specs.Literals.{unsigned_literal}
+use Rattle.quantity.specs.Written.{for_some}
 use Rattle.rule_words.specs.Tokens.{Token, word, number, mark, is_mark, is_word, parentheses_after}
 use Rattle.rule_tree.specs.Phrases as P
 use Rattle.rule_tree.specs.Phrases.{Cell, Phrase, Phrases, phrases, Assigned, Written, out, Level}
@@ -239,7 +240,8 @@ phrase_within (suc n) primary ts =
 phrase_within (suc n) l ts =
     elim (last_join l ts) [
       | None ↦ phrase_within n (tighter l) ts
-      | Some c ↦ both (operator_in l c.at) (phrase_within n (left_of l) c.before) (phrase_within n (tighter l) c.after)
+      | Some c ↦ both (operator_in l c.at) (phrase_within n (left_of l) c.before)
+          (phrase_within n (tighter l) c.after)
     ]
 
 -- each step takes a token away or goes to a tighter level
@@ -252,28 +254,23 @@ phrase_of ts = phrase_within (9 * length ts + 9) expr ts
 abbrev pub Part : Type 0 → Type 0
 Part A = Option (A × List Token)
 
--- what comes of a value that is there
-abbrev pub and_on : {A B : Type 0} → Option A → (A → Option B) → Option B
-and_on None go = None
-and_on (Some x) go = go x
-
 -- a number, with a sign or without
 abbrev pub number_before : List Token → Part Phrase
 number_before (number text ∷ ts) = option_map (λ n. (P.value (Num n), ts)) (unsigned_literal text)
 number_before (mark m ∷ number text ∷ ts) =
-    and_on (then_some (is_sign m) m) (λ s.
+    for_some (then_some (is_sign m) m) (λ s.
     option_map (λ n. (P.value (Num (with_sign_of s n)), ts)) (unsigned_literal text))
 number_before ts = None
 
 -- a phrase in braces
 abbrev pub phrase_block : List Token → Part Phrase
 phrase_block ts =
-    and_on (block (codes "{") (codes "}") ts) (λ b. option_map (λ x. (x, b.1)) (phrase_of b.0))
+    for_some (block (codes "{") (codes "}") ts) (λ b. option_map (λ x. (x, b.1)) (phrase_of b.0))
 
 -- a mark and a word, then := and a phrase
 abbrev pub assigned : Bytes → List Token → Option Assigned
 assigned kind (mark m ∷ word w ∷ mark a ∷ ts) =
-    and_on (then_some (bytes_eq m kind && bytes_eq a (codes ":=")) w)
+    for_some (then_some (bytes_eq m kind && bytes_eq a (codes ":=")) w)
     (λ name. option_map (λ x. record { name = name; phrase = x }) (phrase_of ts))
 assigned kind ts = None
 
@@ -286,8 +283,8 @@ ended_parts (p ∷ q ∷ ps) = option_map (λ rest. p ∷ rest) (ended_parts (q 
 -- names that are given phrases, each ended
 abbrev pub all_assigned : Bytes → List Token → Option (List Assigned)
 all_assigned kind ts =
-    and_on (ended_parts (slice_split (is_mark (codes ";")) ts))
-    (λ parts. and_on (then_some (not (is_empty parts)) parts)
+    for_some (ended_parts (slice_split (is_mark (codes ";")) ts))
+    (λ parts. for_some (then_some (not (is_empty parts)) parts)
     (λ ps. all_there (map (assigned kind) ps)))
 
 -- a block of names with this mark begins
@@ -313,7 +310,7 @@ cell_phrase_before ts = option_map (λ c. (P.cell c.0, c.1)) (cell_before ts)
 -- what a rule gives
 abbrev pub value_before : List Token → Part (List Assigned)
 value_before ts =
-    option_or (and_on (block (codes "{") (codes "}") ts)
+    option_or (for_some (block (codes "{") (codes "}") ts)
     (λ b. option_map (λ xs. (xs, b.1)) (given_in b.0)))
     (option_map (λ x. (at_out x.0, x.1))
     (option_or (number_before ts) (option_or (question_before ts) (cell_phrase_before ts))))
@@ -327,7 +324,7 @@ sets_in ts = None
 -- what a first block holds, where it holds sets, and the tokens after it
 abbrev pub sets_block : List Token → Part (Option (List Assigned))
 sets_block ts =
-    and_on (block (codes "{") (codes "}") ts) (λ b. option_map (λ s. (s, b.1)) (sets_in b.0))
+    for_some (block (codes "{") (codes "}") ts) (λ b. option_map (λ s. (s, b.1)) (sets_in b.0))
 
 -- the variables that a rule sets; none where no block stands
 abbrev pub sets_before : List Token → Part (List Assigned)
@@ -340,14 +337,14 @@ delay_before ts = option_or (phrase_block ts) (number_before ts)
 
 -- the condition, behind which nothing stands
 abbrev pub last_block : List Token → Option Phrase
-last_block ts = and_on (phrase_block ts) (λ c. then_some (is_empty c.1) c.0)
+last_block ts = for_some (phrase_block ts) (λ c. then_some (is_empty c.1) c.0)
 
 -- the rule that tokens are
 unfoldable pub written_rule : List Token → Option Written
 written_rule ts =
-    and_on (value_before ts) (λ v.
-    and_on (sets_before v.1) (λ s.
-    and_on (delay_before s.1) (λ d.
+    for_some (value_before ts) (λ v.
+    for_some (sets_before v.1) (λ s.
+    for_some (delay_before s.1) (λ d.
     option_map (λ c. record {
       gives = v.0;
       delay = d.0;

@@ -26,8 +26,8 @@ use Rattle.rule_tree.specs.Scope.{rule_in, has_right_sorts, extent_of, is_sound}
 -- the functions of CD++ that draw random numbers
 abbrev pub random_names : List Bytes
 random_names =
-    codes "random" ∷ codes "randint" ∷ codes "randsign" ∷ codes "uniform" ∷ codes "normal" ∷ codes "exponential" ∷ codes "poisson"
-    ∷ codes "binomial" ∷ codes "beta" ∷ codes "gamma" ∷ codes "chi" ∷ []
+    codes "random" ∷ codes "randint" ∷ codes "randsign" ∷ codes "uniform" ∷ codes "normal"
+    ∷ codes "exponential" ∷ codes "poisson" ∷ codes "binomial" ∷ codes "beta" ∷ codes "gamma" ∷ codes "chi" ∷ []
 
 -- the words of the language
 abbrev pub language : List Bytes

@@ -15,8 +15,8 @@ names_next (mark m) = is_among (codes "$" ∷ codes "~" ∷ []) m
 -- the words of the language that are no functions
 abbrev pub plain_words : List Bytes
 plain_words =
-    codes "imp" ∷ codes "eqv" ∷ codes "or" ∷ codes "xor" ∷ codes "and" ∷ codes "not" ∷ codes "t" ∷ codes "f" ∷ codes "time"
-    ∷ codes "portvalue" ∷ codes "thisport" ∷ codes "truecount" ∷ codes "falsecount"
+    codes "imp" ∷ codes "eqv" ∷ codes "or" ∷ codes "xor" ∷ codes "and" ∷ codes "not" ∷ codes "t"
+    ∷ codes "f" ∷ codes "time" ∷ codes "portvalue" ∷ codes "thisport" ∷ codes "truecount" ∷ codes "falsecount"
     ∷ codes "undefcount" ∷ []
 
 -- a mark of two bytes stands at the front

@@ -59,8 +59,8 @@ pieces (c ∷ cs) = held c (pieces cs)
 -- the marks
 abbrev pub marks : List Bytes
 marks =
-    codes "?" ∷ codes "(" ∷ codes ")" ∷ codes "{" ∷ codes "}" ∷ codes "," ∷ codes "+" ∷ codes "-" ∷ codes "*" ∷ codes "/" ∷ codes "="
-    ∷ codes "!=" ∷ codes "<" ∷ codes "<=" ∷ codes ">" ∷ codes ">=" ∷ codes "$" ∷ codes "~"
+    codes "?" ∷ codes "(" ∷ codes ")" ∷ codes "{" ∷ codes "}" ∷ codes "," ∷ codes "+" ∷ codes "-"
+    ∷ codes "*" ∷ codes "/" ∷ codes "=" ∷ codes "!=" ∷ codes "<" ∷ codes "<=" ∷ codes ">" ∷ codes ">=" ∷ codes "$" ∷ codes "~"
     ∷ codes ":=" ∷ codes ";" ∷ []
 
 -- the token of a number

@@ -26,8 +26,9 @@ use Rattle.rule_tree.specs.declared.function.Function.TheVariants.{StateCount, C
 use Rattle.rule_tree.specs.Expression as E
 use Rattle.rule_tree.specs.Expression.{Expr, Exprs}
 use Rattle.rule_tree.specs.Functions.{Of, Maker, taken, given, made, is_undefined}
-use Rattle.rule_tree.specs.Meaning.{Sight, value_at, outs, whole, number_answered, as_answer, how_many, counted, one_meaning, two_meaning, by_truth, state_count, coordinates, cell_position, call_meaning, with_answer, with_answers, in_front, meaning, meanings}
+use Rattle.rule_tree.specs.Meaning.{Sight, value_at, outs, whole, number_answered, as_answer, how_many, counted, one_meaning, two_meaning, by_truth, state_count, coordinates, cell_position, call_meaning, in_front, meaning, meanings}
 use Rattle.quantity.specs.Times.{IsDelay}
+use Rattle.quantity.specs.Written.{for_some}
 use Rattle.run_model.specs.Bounds.{HasBoundedNumbers, HaveBoundedNumbers}
 use Rattle.run_model.proofs.BoundedValues.{sum-is, difference-is, product-is, quotient-is, remainder-is, least-is, greatest-is, negative-is, size-is, sign-is, whole_part-is, fraction-is, rounded-is, root-is}
 
@@ -161,15 +162,15 @@ call-is Odd xs s h see = of_test-is (test_of is_odd) xs h
 call-is IsInt xs s h see = of_test-is (test_of is_whole) xs h
 call-is IsUndefined xs s h see = of_test-is is_undefined xs h
 
-with_answer-is : (o : Option Answer) (go : Answer → Option Answer) → IfSome o IsBoundedAnswer → ((a : Answer) → IsBoundedAnswer a → IfSome (go a) IsBoundedAnswer) → IfSome (with_answer o go) IsBoundedAnswer
-with_answer-is None go h goes = tt
-with_answer-is (Some a) go h goes = goes a h
+for_answer-is : (o : Option Answer) (go : Answer → Option Answer) → IfSome o IsBoundedAnswer → ((a : Answer) → IsBoundedAnswer a → IfSome (go a) IsBoundedAnswer) → IfSome (for_some o go) IsBoundedAnswer
+for_answer-is None go h goes = tt
+for_answer-is (Some a) go h goes = goes a h
 
-with_answers-is : (o : Option (List Answer)) (go : List Answer → Option Answer) → IfSome o (All IsBoundedAnswer) → ((xs : List Answer) → All IsBoundedAnswer xs → IfSome (go xs) IsBoundedAnswer) → IfSome (with_answers o go) IsBoundedAnswer
-with_answers-is None go h goes = tt
-with_answers-is (Some xs) go h goes = goes xs h
+for_answers-is : (o : Option (List Answer)) (go : List Answer → Option Answer) → IfSome o (All IsBoundedAnswer) → ((xs : List Answer) → All IsBoundedAnswer xs → IfSome (go xs) IsBoundedAnswer) → IfSome (for_some o go) IsBoundedAnswer
+for_answers-is None go h goes = tt
+for_answers-is (Some xs) go h goes = goes xs h
 
-in_front-is : (o : Option Answer) (rest : Option (List Answer)) → IfSome o IsBoundedAnswer → IfSome rest (All IsBoundedAnswer) → IfSome (with_answer o (λ x. in_front x rest)) (All IsBoundedAnswer)
+in_front-is : (o : Option Answer) (rest : Option (List Answer)) → IfSome o IsBoundedAnswer → IfSome rest (All IsBoundedAnswer) → IfSome (for_some o (λ x. in_front x rest)) (All IsBoundedAnswer)
 in_front-is None rest h k = tt
 in_front-is (Some a) None h k = tt
 in_front-is (Some a) (Some xs) h k = All-cons IsBoundedAnswer a xs h k
@@ -184,11 +185,11 @@ mutual
   meaning-is E.now s h see = whole-is s.time (omega (arith, see.time))
   meaning-is E.port_value s h see = see.port
   meaning-is (E.counted c) s h see = counted-is c s see
-  meaning-is (E.one u a) s h see = with_answer-is (meaning a s) (one_meaning u) (meaning-is a s h see) (one-is u)
+  meaning-is (E.one u a) s h see = for_answer-is (meaning a s) (one_meaning u) (meaning-is a s h see) (one-is u)
   meaning-is (E.two b a c) s h see =
-      with_answer-is (meaning a s) (λ x. with_answer (meaning c s) (two_meaning b x)) (meaning-is a s h.0 see)
-      (λ x k. with_answer-is (meaning c s) (two_meaning b x) (meaning-is c s h.1 see) (λ y l. two-is b x y))
-  meaning-is (E.call f args) s h see = with_answers-is (meanings args s) (λ xs. call_meaning f xs s) (meanings-are args s h see) (λ xs k. call-is f xs s k see)
+      for_answer-is (meaning a s) (λ x. for_some (meaning c s) (two_meaning b x)) (meaning-is a s h.0 see)
+      (λ x k. for_answer-is (meaning c s) (two_meaning b x) (meaning-is c s h.1 see) (λ y l. two-is b x y))
+  meaning-is (E.call f args) s h see = for_answers-is (meanings args s) (λ xs. call_meaning f xs s) (meanings-are args s h see) (λ xs k. call-is f xs s k see)
 
   meanings-are : (es : Exprs) (s : Sight) → HaveBoundedNumbers es → IsBoundedSight s → IfSome (meanings es s) (All IsBoundedAnswer)
   meanings-are E.nil s h see = All-nil IsBoundedAnswer

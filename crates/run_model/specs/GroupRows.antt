@@ -70,7 +70,7 @@ column n = record { row = 0; column = n; plane = 0 }
 
 -- these columns of a row
 abbrev pub zone : List (ℕ × ℕ) → Region
-zone ranges = record { name = []; boxes = map (λ (r : ℕ × ℕ). (column r.0, column r.1)) ranges }
+zone ranges = record { name = []; ranges = map (λ (r : ℕ × ℕ). (column r.0, column r.1)) ranges }
 
 -- four cells in a row, which see themselves alone
 abbrev pub four_cells : Group

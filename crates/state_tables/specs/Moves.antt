@@ -23,7 +23,11 @@ plain_take t =
 
 -- settings in code as those of the definitions
 abbrev pub plain_settings : TableSettings → PlainSettings
-plain_settings s = record { initial = s.initial; holds = map plain_hold s.holds.items; takes = map plain_take s.takes.items }
+plain_settings s = record {
+  initial = s.initial;
+  holds = map plain_hold s.holds.items;
+  takes = map plain_take s.takes.items;
+}
 
 -- a state in code as one of the definitions
 abbrev pub plain_state : Standing → PlainState

@@ -1,11 +1,12 @@
--- What holds of every letter. All follows from `letter_back`, and nothing has a clause for each.
+-- What holds of every letter. Nothing has a clause for each.
 use Rattle.std.proofs.Common.{◌≡◌, ℕ, ◌==◌, ◌||◌, Bool, true, false, cond, Some}
 use Rattle.std.proofs.Common.{List, [], ◌∷◌, refl, sym, ap, ◌∙◌}
 use Rattle.std.specs.List.{find, list_any, list_all}
 use Rattle.std.proofs.lemmas.Bool.{eqb-true, and_parts}
 use Rattle.text_forms.specs.declared.letter.Letter.{Letter}
-use Rattle.text_forms.specs.declared.letter.Letter.TheVariants.{Y}
-use Rattle.text_forms.specs.Letters.{all_letters, letter_byte, letter_named}
+use Rattle.text_forms.specs.declared.letter.Letter.TheVariants.{Y, S}
+use Rattle.text_forms.specs.declared.letter.Tells.TheVariants.{Moved}
+use Rattle.text_forms.specs.Letters.{all_letters, letter_byte, letter_named, told_by}
 use Rattle.text_forms.proofs.NothingElse.{same_some}
 
 -- a letter that is written is read: its byte names it, and no other; the second clause is checked
@@ -13,6 +14,11 @@ use Rattle.text_forms.proofs.NothingElse.{same_some}
 pub letter_back : (letter : Letter) → letter_named (letter_byte letter) ≡ Some letter
 letter_back Y = refl
 letter_back letter = refl
+
+-- the letter of moves is S alone; the second clause is checked for each other letter
+pub letter_of_moves : (letter : Letter) → told_by letter ≡ Moved → letter ≡ S
+letter_of_moves S e = refl
+letter_of_moves letter e = absurd cc
 
 -- whether two letters have the same byte
 abbrev pub same : Letter → Letter → Bool

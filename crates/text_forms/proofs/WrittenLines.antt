@@ -26,7 +26,9 @@ use Rattle.quantity.specs.ValueTexts.{text5, guessed_value}
 use Rattle.quantity.specs.Names.{is_of_name, is_name}
 use Rattle.text_forms.specs.declared.letter.Letter.{Letter}
 use Rattle.text_forms.specs.declared.letter.Letter.TheVariants.{S}
-use Rattle.text_forms.specs.Letters.{Tells, a_value, a_move, told_by, letter_byte}
+use Rattle.text_forms.specs.declared.letter.Tells.{Tells}
+use Rattle.text_forms.specs.declared.letter.Tells.TheVariants.{Given, Moved}
+use Rattle.text_forms.specs.Letters.{told_by, letter_byte}
 use Rattle.text_forms.specs.LogLine.{LeafName, LogLine, given, moved, leaf_text, at_text}
 use Rattle.text_forms.specs.LogLine.{state_text, next_text}
 use Rattle.text_forms.specs.LogLine.{letter_text, parts_of, with_strokes, line_text, is_leaf}
@@ -311,8 +313,8 @@ of_value letter l h t leaf port text = by (told_by letter) h
   where
     by : (tells : Tells) → is_told_of tells l ≡ true
         → told_in tells letter t leaf port text ≡ given_in letter t leaf port (guessed_value text)
-    by (a_value of_cells_alone) h = refl
-    by a_move h = absurd cc
+    by (Given of_cells_alone) h = refl
+    by Moved h = absurd cc
 
 given_guess : (letter : Letter) (t : ℕ) (l : LeafName) (port : Bytes) (v : Value)
     → GivenFits letter t l port v

@@ -4,6 +4,8 @@ use Rattle.std.specs.Prelude.{ℕ, Bool, true, false, ◌==◌, Option, List, []
 use Rattle.std.specs.List.{find, filter, list_any}
 use Rattle.text_forms.specs.declared.letter.Letter.{Letter}
 use Rattle.text_forms.specs.declared.letter.Letter.TheVariants.{Y, N, X, S}
+use Rattle.text_forms.specs.declared.letter.Tells.{Tells}
+use Rattle.text_forms.specs.declared.letter.Tells.TheVariants.{Given, Moved}
 
 -- all letters, in the order in which the lines of a cycle stand
 abbrev pub all_letters : List Letter
@@ -16,17 +18,13 @@ letter_byte N = 78
 letter_byte X = 88
 letter_byte S = 83
 
--- what lines tell: a value at a port, of cells alone or of all leaves, or that a leaf moved
-pub data Tells : Type 0 where
-  a_value : (of_cells_alone : Bool) → Tells
-  a_move : Tells
-
--- what the lines of a letter tell
+-- what the lines of a letter tell: a value at a port, of cells alone or of all leaves, or that a
+-- leaf moved
 abbrev pub told_by : Letter → Tells
-told_by Y = a_value false
-told_by N = a_value true
-told_by X = a_value false
-told_by S = a_move
+told_by Y = Given false
+told_by N = Given true
+told_by X = Given false
+told_by S = Moved
 
 -- the bytes of all letters
 abbrev pub letter_bytes : List ℕ

@@ -1,6 +1,7 @@
 pub mod Letters
 pub mod LogLine
 pub mod Lines
+pub mod LeafNames
 pub mod Frames
 pub mod StateText
 pub mod LeafStates

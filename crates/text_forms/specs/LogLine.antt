@@ -18,7 +18,9 @@ use Rattle.model_tree.specs.Tree.{Word}
 pub use Rattle.model_tree.specs.LeafTexts.{at_text}
 use Rattle.text_forms.specs.declared.letter.Letter.{Letter}
 use Rattle.text_forms.specs.declared.letter.Letter.TheVariants.{S}
-use Rattle.text_forms.specs.Letters.{Tells, a_value, a_move, told_by, letter_byte, letter_named}
+use Rattle.text_forms.specs.declared.letter.Tells.{Tells}
+use Rattle.text_forms.specs.declared.letter.Tells.TheVariants.{Given, Moved}
+use Rattle.text_forms.specs.Letters.{told_by, letter_byte, letter_named}
 
 -- a leaf's name; a cell's has the group's name and two or three coordinates, an atomic leaf's has
 -- none
@@ -94,9 +96,9 @@ is_time t = nat_le t MAX_TIME
 
 -- whether lines that tell this say a value of the leaf
 abbrev pub is_told_of : Tells → LeafName → Bool
-is_told_of (a_value false) l = true
-is_told_of (a_value true) l = has_place l
-is_told_of a_move l = false
+is_told_of (Given false) l = true
+is_told_of (Given true) l = has_place l
+is_told_of Moved l = false
 
 -- whether lines of this letter say a value of the leaf: N of cells alone, and S of none
 abbrev pub is_letter : Letter → LeafName → Bool
@@ -151,8 +153,8 @@ moved_in (Some t) leaf state next = Some (moved t leaf (guessed_value state) (gu
 
 -- from what it tells, its letter, and what its other parts say
 abbrev pub told_in : Tells → Letter → Option ℕ → LeafName → Bytes → Bytes → Option LogLine
-told_in (a_value of_cells_alone) letter t leaf a b = given_in letter t leaf a (guessed_value b)
-told_in a_move letter t leaf a b = moved_in t leaf a b
+told_in (Given of_cells_alone) letter t leaf a b = given_in letter t leaf a (guessed_value b)
+told_in Moved letter t leaf a b = moved_in t leaf a b
 
 -- from its letter, and what its other parts say
 abbrev pub lettered_in : Option Letter → Option ℕ → LeafName → Bytes → Bytes → Option LogLine

@@ -1,7 +1,10 @@
-use Rattle.cdpp_top.proofs.Letters.{letters_are}
+use Rattle.std.proofs.Common.{ap, ◌∙◌}
+use Rattle.text_forms.specs.Letters.{has_letter}
+use Rattle.text_forms.proofs.LetterBytes.{bytes_are}
+use Rattle.record_text.specs.Chosen.{is_chosen}
 use Rattle.cdpp_top.proofs.outputs.letters_in.Goals as goal
 
 pub returns : goal.returns
 returns c =
-    letters_are c.args.letters.now (record { y = c.has_letter.result; n = c.has_letter-2.result; x = c.has_letter-3.result; s = c.has_letter-4.result }) c.requires
-    c.has_letter.ensures c.has_letter-2.ensures c.has_letter-3.ensures c.has_letter-4.ensures
+    bytes_are (is_chosen c.among.result) c.args.letters.now c.requires
+    (λ k. c.among.ensures k ∙ ap (λ bytes. has_letter bytes k) c.as_bytes.ensures.value)

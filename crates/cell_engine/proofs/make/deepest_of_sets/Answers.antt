@@ -2,7 +2,7 @@ use Rattle.std.proofs.Common.{◌≡◌, List, max, subst, arith, rules}
 use Rattle.std.specs.List.{All}
 use Rattle.std.proofs.lemmas.List.{take_all}
 use Rattle.std.proofs.lemmas.List.Elements.{All-map}
-use Rattle.rule_eval.specs.RuleCodes.{Codes}
+use Rattle.rule_forms.specs.RuleCodes.{Codes}
 use Rattle.cell_engine.proofs.Made.{NeedsAtMost, sets_need_more}
 use Rattle.cell_engine.proofs.make.deepest_of_sets.Goals as goal
 

@@ -8,7 +8,7 @@ use Rattle.rule_tree.specs.Chosen.{chosen}
 use Rattle.rule_tree.specs.Meaning.{Sight}
 use Rattle.rule_eval.specs.Evaluated.{Evaluates}
 use Rattle.rule_eval.specs.Seen.{sight_of}
-use Rattle.rule_eval.specs.declared.given.Given.{Given}
+use Rattle.rule_forms.specs.declared.given.Given.{Given}
 use Rattle.cell_grid.specs.Space.{cell_count}
 use Rattle.cell_table.specs.Told.{cell_at}
 use Rattle.cell_engine.specs.Layout.{Layout}

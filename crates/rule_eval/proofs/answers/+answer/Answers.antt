@@ -1,24 +1,25 @@
-use Rattle.std.proofs.Common.{◌≡◌, ◌+◌, ◌<◌, ◌≤◌, Option, Some, None, List, [], ◌∷◌, ◌++◌, length, drop, vec_len, vec_capacity, subst, sym, ap, ◌∙◌, rules, arith, refl}
+use Rattle.std.proofs.Common.{◌≡◌, ◌+◌, ◌≤◌, Option, Some, None, List, [], ◌∷◌, ◌++◌, length, drop, vec_len, vec_capacity, subst, sym, ap, ◌∙◌, rules, arith, refl}
 use Rattle.std.proofs.lemmas.Grind.{common_steps}
 use Rattle.std.specs.Result.{result_ok}
 use Rattle.quantity.specs.declared.value.Value.{Value}
 use Rattle.quantity.specs.declared.truth.Tri.{Tri}
+use Rattle.quantity.specs.Written.{for_some}
 use Rattle.rule_tree.specs.declared.outcome.Answer.{Answer}
 use Rattle.rule_tree.specs.declared.outcome.Answer.TheVariants.{Logic}
 use Rattle.rule_tree.specs.Expression as E
 use Rattle.rule_tree.specs.Expression.{Expr}
-use Rattle.rule_tree.specs.Meaning.{call_meaning, as_answer, with_answers, meaning, meanings}
-use Rattle.rule_eval.specs.declared.forms.PortAt.{PortAt}
-use Rattle.rule_eval.specs.declared.forms.Form.{Form}
-use Rattle.rule_eval.specs.declared.forms.Form.TheViews.{the_lemmas}
+use Rattle.rule_tree.specs.Meaning.{call_meaning, as_answer, meaning, meanings}
+use Rattle.rule_forms.specs.declared.forms.PortAt.{PortAt}
+use Rattle.rule_forms.specs.declared.forms.Form.{Form}
+use Rattle.rule_forms.specs.declared.forms.Form.TheViews.{the_lemmas}
 use Rattle.rule_eval.specs.Stacked.{stacked}
 use Rattle.rule_eval.specs.Seen.{neighbours_of, seen}
-use Rattle.rule_eval.specs.Code.{code_of, codes_of}
-use Rattle.rule_eval.specs.Depth.{depth_from}
-use Rattle.rule_eval.specs.Forms.{expr_of_form, exprs_of_forms}
+use Rattle.rule_forms.specs.Code.{code_of, codes_of}
+use Rattle.rule_forms.specs.Depth.{depth_from}
+use Rattle.rule_forms.specs.Forms.{expr_of_form, exprs_of_forms}
 use Rattle.rule_eval.specs.Sums.{port_value_at, sum_from}
-use Rattle.rule_eval.proofs.Stacks.{slice_rest}
-use Rattle.rule_eval.proofs.FormTrees.{form_call}
+use Rattle.rule_forms.proofs.Stacks.{slice_rest}
+use Rattle.rule_forms.proofs.FormTrees.{form_call}
 use Rattle.rule_eval.proofs.FormSums.{sum_means}
 use Rattle.rule_eval.proofs.FormTests.{test_means}
 use Rattle.rule_eval.proofs.Rooms.{operand_room, left_room, right_room, arguments_room, first_room, rest_room, above_room, moved_room, same_height, one_higher}
@@ -66,7 +67,7 @@ answer-returns-in_err-stack_answers-in-Call-clause-value t c =
     let is = ap expr_of_form c.in-Call.is ∙ form_call f c.in-Call.arguments in
     let given = ap (λ (fs : List Form). meanings (exprs_of_forms fs) s) c.deref-in-Call.ensures.value in
     let too_large = no_arguments c.args.answers.now.items (meanings (exprs_of_forms c.deref-in-Call.result.now) s) c.in_err-stack_answers-in-Call.ensures.value in
-    let none : meaning (expr_of_form c.args.form.now) s ≡ None = ap (λ (e : Expr). meaning e s) is ∙ ap (λ (o : Option (List Answer)). with_answers o (λ xs. call_meaning f xs s)) (sym given ∙ too_large) in
+    let none : meaning (expr_of_form c.args.form.now) s ≡ None = ap (λ (e : Expr). meaning e s) is ∙ ap (λ (o : Option (List Answer)). for_some o (λ xs. call_meaning f xs s)) (sym given ∙ too_large) in
     let stops : result_ok c.from_residual-in_err-stack_answers-in-Call.result ≡ None = first_of (search rules, grind (arith, common_steps)) in
     stops ∙ sym none
 
@@ -98,7 +99,7 @@ answer-returns-in_ok-stack_answers-in-Call-clause-value t c =
     let height : length before.items ≡ k = sym before.ok.0 ∙ sym c.len-below.ensures in
     let slice = slice_rest c.deref-in-Call-2.result.now k ∙ ap (drop k) c.deref-in-Call-2.ensures.value in
     let arguments = sym given ∙ above ∙ ap (λ n. Some (drop n now.items)) height ∙ ap Some (sym slice) in
-    sym (ap (λ (e : Expr). meaning e s) is ∙ ap (λ (o : Option (List Answer)). with_answers o (λ xs. call_meaning f xs s)) arguments ∙ c.apply_function-made.ensures c.args.variables.now)
+    sym (ap (λ (e : Expr). meaning e s) is ∙ ap (λ (o : Option (List Answer)). for_some o (λ xs. call_meaning f xs s)) arguments ∙ c.apply_function-made.ensures c.args.variables.now)
 
 pub stack_answers-answer-requires : goal.stack_answers-answer-requires
 stack_answers-answer-requires t c =

@@ -2,9 +2,9 @@ use Rattle.std.proofs.Common.{◌≡◌, ◌≤◌, drop, vec_len, vec_capacity}
 use Rattle.rule_tree.specs.Meaning.{meanings}
 use Rattle.rule_eval.specs.Seen.{seen}
 use Rattle.rule_eval.specs.Kept.{AreCounts}
-use Rattle.rule_eval.specs.Code.{codes_of}
-use Rattle.rule_eval.specs.Depth.{depth_from}
-use Rattle.rule_eval.specs.Forms.{exprs_of_forms}
+use Rattle.rule_forms.specs.Code.{codes_of}
+use Rattle.rule_forms.specs.Depth.{depth_from}
+use Rattle.rule_forms.specs.Forms.{exprs_of_forms}
 use Rattle.rule_eval.specs.Stacked.{stacked}
 use Rattle.rule_eval.proofs.answers.+answer.Given as goal
 

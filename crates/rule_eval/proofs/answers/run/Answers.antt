@@ -1,6 +1,6 @@
 use Rattle.std.proofs.Common.{sym, ap, ◌∙◌}
-use Rattle.rule_eval.specs.Forms.{expr_of_form}
-use Rattle.rule_eval.specs.Ran.{or_stop}
+use Rattle.rule_forms.specs.Forms.{expr_of_form}
+use Rattle.rule_forms.specs.Ran.{or_stop}
 use Rattle.rule_eval.specs.Seen.{seen}
 use Rattle.rule_eval.proofs.ByTrees.{answer_is}
 use Rattle.rule_eval.proofs.answers.run.Goals as goal

@@ -1,7 +1,7 @@
 use Rattle.std.proofs.Common.{◌≡◌, drop, vec_capacity}
 use Rattle.rule_eval.specs.Kept.{AreCounts}
 use Rattle.rule_eval.specs.Seen.{sight_of}
-use Rattle.rule_eval.specs.ByCode.{first_by_code}
+use Rattle.rule_forms.specs.ByCode.{first_by_code}
 use Rattle.rule_eval.proofs.evaluation.first_true.Given as goal
 
 abbrev pub invariant-loop-rule : goal.invariant-loop-rule

@@ -1,9 +1,9 @@
 use Rattle.std.proofs.Common.{◌≡◌, ◌≤◌, map, drop, vec_capacity}
 use Rattle.rule_eval.specs.Kept.{AreCounts}
 use Rattle.rule_eval.specs.Seen.{sight_of}
-use Rattle.rule_eval.specs.RuleCodes.{deepest}
-use Rattle.rule_eval.specs.Numbered.{plain}
-use Rattle.rule_eval.specs.ByCode.{given_by_code, no_values}
+use Rattle.rule_forms.specs.RuleCodes.{deepest}
+use Rattle.rule_forms.specs.Numbered.{plain}
+use Rattle.rule_forms.specs.ByCode.{given_by_code, no_values}
 use Rattle.rule_eval.proofs.evaluation.give_values.Given as goal
 
 abbrev pub invariant-loop-give : goal.invariant-loop-give

@@ -1,9 +1,9 @@
 use Rattle.std.proofs.Common.{◌≡◌, ◌≤◌, map, drop, vec_capacity}
 use Rattle.rule_eval.specs.Kept.{AreCounts}
 use Rattle.rule_eval.specs.Seen.{seen}
-use Rattle.rule_eval.specs.RuleCodes.{deepest}
-use Rattle.rule_eval.specs.Numbered.{plain}
-use Rattle.rule_eval.specs.ByCode.{set_by_code}
+use Rattle.rule_forms.specs.RuleCodes.{deepest}
+use Rattle.rule_forms.specs.Numbered.{plain}
+use Rattle.rule_forms.specs.ByCode.{set_by_code}
 use Rattle.rule_eval.proofs.evaluation.set_variables.Given as goal
 
 abbrev pub invariant-loop-set : goal.invariant-loop-set

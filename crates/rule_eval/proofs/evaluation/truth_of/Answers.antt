@@ -1,12 +1,12 @@
 use Rattle.std.proofs.Common.{Some, sym, ap, ◌∙◌}
 use Rattle.quantity.specs.declared.truth.Tri.{Tri}
 use Rattle.rule_tree.specs.declared.outcome.Answer.TheVariants.{Logic}
-use Rattle.rule_eval.specs.declared.forms.Form.{Form}
+use Rattle.rule_forms.specs.declared.forms.Form.{Form}
 use Rattle.rule_eval.specs.Seen.{sight_of}
-use Rattle.rule_eval.specs.Code.{code_of}
-use Rattle.rule_eval.specs.Ran.{answer_of}
-use Rattle.rule_eval.specs.ByCode.{truth_or_stop}
-use Rattle.rule_eval.specs.Forms.{expr_of_test, expr_of_form}
+use Rattle.rule_forms.specs.Code.{code_of}
+use Rattle.rule_forms.specs.Ran.{answer_of}
+use Rattle.rule_forms.specs.ByCode.{truth_or_stop}
+use Rattle.rule_forms.specs.Forms.{expr_of_test, expr_of_form}
 use Rattle.rule_eval.proofs.ByTrees.{answer_is}
 use Rattle.rule_eval.proofs.FormTests.{test_means}
 use Rattle.rule_eval.proofs.evaluation.truth_of.Goals as goal

@@ -1,7 +1,7 @@
 use Rattle.std.proofs.Common.{◌≡◌, ◌≤◌, ◌*◌, ◌∙◌, ℕ, List, length, map, ap, sym, subst, arith}
 use Rattle.std.specs.List.{All}
 use Rattle.std.proofs.lemmas.Nat.{mul-le}
-use Rattle.rule_eval.specs.RuleCodes.{Codes}
+use Rattle.rule_forms.specs.RuleCodes.{Codes}
 use Rattle.model_tree.specs.Stands.{group_of}
 use Rattle.cell_table.specs.Table.{Table}
 use Rattle.cell_engine.specs.Layout.{Layout}

@@ -12,7 +12,7 @@ pub returns-in_default-next_time-clause-goes : goal.returns-in_default-next_time
 returns-in_default-next_time-clause-goes g c =
     let s = c.args.self.now in
     let none : s.stopped ≡ None = sym (ap (λ (x : Standing). x.stopped) c.self.view_is) ∙ c.in_default.is in
-    goes-on s.stopped s (Ok Done) s c.clear.new.records none (done-where-none (tree_in s) s.end s.limit s.state (sym c.in_default-next_time.ensures), refl, c.clear.ensures)
+    goes-on s.stopped s (Ok Done) s c.clear.new.self none (done-where-none (tree_in s) s.end s.limit s.state (sym c.in_default-next_time.ensures), refl, c.clear.ensures)
 
 pub returns-then-ms-clause-goes : goal.returns-then-ms-clause-goes
 returns-then-ms-clause-goes g c =
@@ -21,7 +21,7 @@ returns-then-ms-clause-goes g c =
     let none : s.stopped ≡ None = sym (ap (λ (x : Standing). x.stopped) c.self.view_is) ∙ c.in_default.is in
     let past : c.self.inside.end < t = omega arith in
     let done = done-past-end (tree_in s) s.end s.limit s.state t (sym c.in-Some-next_time.ensures) (subst (λ (x : Standing). x.end < t) c.self.view_is past) in
-    goes-on s.stopped s (Ok Done) s c.clear.new.records none (done, refl, c.clear.ensures)
+    goes-on s.stopped s (Ok Done) s c.clear.new.self none (done, refl, c.clear.ensures)
 
 pub returns-then-self-had-clause-goes : goal.returns-then-self-had-clause-goes
 returns-then-self-had-clause-goes g c =
@@ -32,7 +32,7 @@ returns-then-self-had-clause-goes g c =
     let next : next_instant s.state ≡ Some t = ap (λ (x : Standing). next_instant x.state) c.self.view_is ∙ sym c.in-Some-next_time.ensures in
     let within : t ≤ i.end = omega arith in
     let full = subst (λ (k : ℕ). i.limit ≤ k) c.cycles_had-had.ensures c.if-self-had.true in
-    let steps : Steps s (Err (TooManyCycles t)) n c.clear.new.records =
+    let steps : Steps s (Err (TooManyCycles t)) n c.clear.new.self =
     record {
       next = too-many (tree_in s) i.end i.limit s.state t next within full;
       empty = c.clear.ensures;
@@ -40,8 +40,8 @@ returns-then-self-had-clause-goes g c =
       stopped = refl;
     }
     in
-    subst (λ (x : Standing). Goes x.stopped x (Err (TooManyCycles t)) n c.clear.new.records) c.self.view_is
-    (goes-on i.stopped s (Err (TooManyCycles t)) n c.clear.new.records c.in_default.is steps)
+    subst (λ (x : Standing). Goes x.stopped x (Err (TooManyCycles t)) n c.clear.new.self) c.self.view_is
+    (goes-on i.stopped s (Err (TooManyCycles t)) n c.clear.new.self c.in_default.is steps)
 
 pub returns-clause-goes : goal.returns-clause-goes
 returns-clause-goes g c =

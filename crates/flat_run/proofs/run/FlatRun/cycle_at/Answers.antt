@@ -66,7 +66,7 @@ returns-in-Err-clause-steps g c =
     }
     in
     let n = standing c.run_cycle-result.new.leaves c.run_cycle-result.new.events i.last i.count i.end i.limit (Some c.stop_of.result) in
-    let records = c.clear.new.records in
+    let records = c.clear.new.self in
     let keeps : Keeps s n = record { model = c.in-Err.ensures.model; settings = c.in-Err.ensures.settings; end = refl; limit = refl } in
     let steps : Steps s (Err (stop_of_halt t c.in-Err.halt)) n records =
     halts-at c.a_cycle_is_what_its_leaves_make_of_it.ensures.next _ s n t c.run_cycle-result.new.leaves.states (g.Q.TimeQueue.waiting c.run_cycle-result.new.queue)

@@ -1,0 +1,10 @@
+pub mod Code
+pub mod Machine
+pub mod Depth
+pub mod Ran
+pub mod RuleCodes
+pub mod Forms
+pub mod Numbered
+pub mod ByCode
+pub mod Known
+pub mod WholeNumbers

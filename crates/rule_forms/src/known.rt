@@ -1,0 +1,88 @@
+// What is known of a rule before it is evaluated.
+ghost use Rattle.std.specs.Prelude.{◌≡◌, ◌≤◌, IfOk, IfSome, List, Ok, map};
+ghost use Rattle.quantity.specs.declared.bounds.TheConstants.{MAX_DELAY};
+ghost use Rattle.rule_tree.specs.Meaning.{Sight};
+ghost use Rattle.rule_forms.specs.Code.{code_of};
+ghost use Rattle.rule_forms.specs.Forms.{expr_of_form};
+ghost use Rattle.rule_forms.specs.Numbered.{plain, codes_of_forms};
+ghost use Rattle.rule_forms.specs.ByCode.{no_values, given_by_code, delay_in};
+ghost use Rattle.rule_forms.specs.Known.{AlwaysWaits, AlwaysMakes};
+ghost use Rattle.rule_forms.specs.declared.forms.Form.{Form as AnyForm};
+
+use crate::forms::{Form, plain_number};
+use crate::given::Given;
+use crate::numbered::NumberedForm;
+use crate::whole_numbers::whole_number;
+use quantity::{Time, Value};
+use rule_tree::RuleStop;
+
+/// What a rule gives, and after which delay, where both are the same whatever a cell sees.
+#[derive(Clone, Copy)]
+pub struct Constant {
+    pub given: Given,
+    pub delay: Time,
+}
+
+/// All that a rule in these forms gives, where it is the same whatever a cell sees and nothing is
+/// set.
+pub(crate) fn constant_of(
+    gives: &[NumberedForm],
+    delay: &Form,
+    sets: &[NumberedForm],
+) -> Option<Constant>
+    ensures { IfSome result (λ c. (condition : AnyForm)
+        → AlwaysMakes (codes_of_forms gives.now delay.now condition sets.now) c) }
+{
+    if !sets.is_empty() {
+        return None;
+    }
+    let delay = constant_delay(delay)?;
+    let given = constant_values(gives)?;
+    Some(Constant { given, delay })
+}
+
+/// The delay of a rule, where it is the same whatever a cell sees.
+pub(crate) fn constant_delay(form: &Form) -> Option<Time>
+    ensures { IfSome result (AlwaysWaits (code_of (expr_of_form form.now))) }
+{
+    let value = plain_number(form)?;
+    match delay_in(&value) {
+        Ok(delay) => Some(delay),
+        Err(_) => None,
+    }
+}
+
+/// The values that a rule gives, where they are numbers.
+fn constant_values(gives: &[NumberedForm]) -> Option<Given>
+    ensures { IfSome result (λ given. (s : Sight)
+        → given_by_code (map plain gives.now) s no_values ≡ Ok given.values) }
+{
+    let mut given = Given { values: [None; 4] };
+    for give in gives {
+        let value = plain_number(&give.form)?;
+        given.put(give.number, value);
+    }
+    Some(given)
+}
+
+/// A delay, if it is a whole number of milliseconds that is not too large.
+#[tactic(auto, using(crate::proofs::WholeNumbers::delay_is))]
+pub fn delay_in(value: &Value) -> Result<Time, RuleStop>
+    ensures value { result ≡ delay_in value.now }
+    ensures bounded { IfOk result (λ ms. ms ≤ MAX_DELAY) }
+{
+    match whole_number(*value) {
+        Some(ms) if ms <= 359_999_999 => Ok(time(ms)),
+        _ => Err(RuleStop::BadDelay(*value)),
+    }
+}
+
+fn time(ms: u64) -> Time
+    requires { ms ≤ MAX_DELAY }
+    ensures { result ≡ ms }
+{
+    match Time::new(ms as u32) {
+        Some(time) => time,
+        None => unreachable!(),
+    }
+}

@@ -1,0 +1,144 @@
+// A rule as it is evaluated.
+ghost use Rattle.std.specs.Prelude.{◌≡◌, ◌≤◌, IfOk, IfSome, map};
+ghost use Rattle.rule_tree.specs.Expression.{rule_of};
+ghost use Rattle.rule_forms.specs.Code.{code_of};
+ghost use Rattle.rule_forms.specs.Forms.{expr_of_form};
+ghost use Rattle.rule_forms.specs.RuleCodes.{codes_of, rule_depth, rule_nodes};
+ghost use Rattle.rule_forms.specs.Numbered.{plain, codes_of_forms};
+ghost use Rattle.rule_forms.specs.Known.{AlwaysWaits, AlwaysMakes};
+
+use crate::depth::depth_of_rule;
+use crate::forms::Form;
+use crate::known::{Constant, constant_delay, constant_of};
+use crate::lowering::form_of;
+use crate::numbered::{NumberedForm, forms_of_gives, forms_of_sets};
+use quantity::{OutOfMemory, Time};
+use rule_tree::RuleTree;
+use std::alloc::Global;
+use std::marker::Model;
+
+/// A rule as it is evaluated. It is seen as its postfix code, which is evaluated on a stack.
+#[derive(Drop)]
+pub struct RuleCode {
+    gives: Vec<NumberedForm>,
+    delay: Form,
+    condition: Form,
+    sets: Vec<NumberedForm>,
+    // The delay, where it is the same whatever a cell sees.
+    constant_delay: Option<Time>,
+    // All that is given, where it is the same whatever a cell sees and nothing is set.
+    constant: Option<Constant>,
+    depth: usize,
+}
+
+impl Model for RuleCode {
+    ghost use Rattle.rule_forms.specs.RuleCodes.{Codes};
+    ghost use Rattle.rule_forms.specs.Numbered.{codes_of_forms};
+    ghost use Rattle.rule_forms.specs.Known.{IsKnown};
+
+    ghost Value = { Codes };
+
+    ghost view = { λ r. codes_of_forms r.gives.items r.delay r.condition r.sets.items };
+
+    ghost invariant = { λ r.
+        IsKnown (codes_of_forms r.gives.items r.delay r.condition r.sets.items)
+        r.depth r.constant_delay r.constant };
+}
+
+impl RuleCode {
+    /// The code that stands for a rule's tree: for each of its expressions the postfix code, in the
+    /// tree's order.
+    pub fn make(alloc: Global, tree: &RuleTree) -> Result<RuleCode, OutOfMemory>
+        ensures codes { IfOk result (λ code. code ≡ codes_of (rule_of tree.now)) }
+        ensures depth { IfOk result (λ code. rule_depth code ≤ rule_nodes (rule_of tree.now)) }
+    {
+        let depth = depth_of_rule(alloc, tree)?;
+        let gives = forms_of_gives(alloc, &tree.gives)?;
+        let delay = form_of(alloc, &tree.delay)?;
+        let condition = form_of(alloc, &tree.condition)?;
+        let sets = forms_of_sets(alloc, &tree.sets)?;
+        Ok(RuleCode::of(gives, delay, condition, sets, depth))
+    }
+
+    fn of(
+        gives: Vec<NumberedForm>,
+        delay: Form,
+        condition: Form,
+        sets: Vec<NumberedForm>,
+        depth: usize,
+    ) -> RuleCode
+        requires { depth ≡ rule_depth (codes_of_forms gives.items delay condition sets.items) }
+        ensures { result ≡ codes_of_forms gives.items delay condition sets.items }
+    {
+        let constant_delay = constant_delay(&delay);
+        let constant = constant_of(&gives, &delay, &sets);
+        RuleCode {
+            gives,
+            delay,
+            condition,
+            sets,
+            constant_delay,
+            constant,
+            depth,
+        }
+    }
+
+    /// The forms of the values that it gives, each for a port.
+    #[inline(always)]
+    pub fn gives(&self) -> &[NumberedForm]
+        ensures { map plain result.now ≡ self.now.gives }
+    {
+        &self.gives
+    }
+
+    /// The form of its delay.
+    #[inline(always)]
+    pub fn delay(&self) -> &Form
+        ensures { code_of (expr_of_form result.now) ≡ self.now.delay }
+    {
+        &self.delay
+    }
+
+    /// The form of its condition.
+    #[inline(always)]
+    pub fn condition(&self) -> &Form
+        ensures { code_of (expr_of_form result.now) ≡ self.now.condition }
+    {
+        &self.condition
+    }
+
+    /// The forms of the values that it sets, each for a variable.
+    #[inline(always)]
+    pub fn sets(&self) -> &[NumberedForm]
+        ensures { map plain result.now ≡ self.now.sets }
+    {
+        &self.sets
+    }
+
+    /// Its delay, where that is the same whatever a cell sees.
+    #[inline(always)]
+    pub fn constant_delay(&self) -> Option<Time>
+        ensures { IfSome result (AlwaysWaits self.now.delay) }
+    {
+        self.constant_delay
+    }
+
+    /// All that it gives, where that is the same whatever a cell sees and nothing is set.
+    #[inline(always)]
+    pub fn constant(&self) -> Option<&Constant>
+        ensures { IfSome result (λ c. AlwaysMakes self.now c.now) }
+    {
+        match &self.constant {
+            Some(constant) => Some(constant),
+            None => None,
+        }
+    }
+
+    /// The most answers that stand on the stack at once while a part of the rule is evaluated: at
+    /// most the number of nodes of the rule's trees.
+    pub fn depth(&self) -> usize
+        ensures { result ≡ rule_depth self.now }
+    {
+        self.depth
+    }
+}
