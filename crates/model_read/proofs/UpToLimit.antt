@@ -1,8 +1,6 @@
 -- The phases up to the limit of links, and those behind it.
-use Rattle.std.proofs.Common.{◌≡◌, ◌≤◌, Option, Some, None, List, [], ◌∷◌, ◌++◌, length, refl, ap, ◌∙◌, cond, true, false, arith, tests}
-use Rattle.std.specs.List.{AllByRecursion}
+use Rattle.std.proofs.Common.{◌≡◌, ◌≤◌, Option, Some, None, List, [], ◌∷◌, length, refl, ap, ◌∙◌, cond, true, false, arith, tests}
 use Rattle.std.specs.Option.{option_or}
-use Rattle.std.proofs.lemmas.Option.{none-some}
 use Rattle.quantity.specs.Bytes.{Bytes}
 use Rattle.source_text.specs.Lines.{Files}
 use Rattle.ma_lines.specs.Sections.{Section, sections_of}
@@ -14,17 +12,9 @@ use Rattle.model_text.specs.Drawings.{Drawing}
 use Rattle.model_text.specs.Accepted.{first_of, FirstPhaseDecides}
 use Rattle.model_text.specs.BuildLaws.{PassedLinks}
 use Rattle.model_text.specs.ModelOf.{refuses, unless, routes_refused, with_files, model_in, after_lines, model_of}
-use Rattle.model_read.specs.Order.{up_to_limit}
+use Rattle.model_judged.specs.Order.{up_to_limit}
+use Rattle.model_judged.proofs.First.{none_first, some_first}
 use Rattle.model_read.specs.Whole.{behind_limit}
-
-pub none_first : (os ps : List (Option Refusal)) → AllByRecursion (λ o. o ≡ None) os → first_of (os ++ ps) ≡ first_of ps
-none_first [] ps h = refl
-none_first (o ∷ os) ps h = ap (λ x. option_or x (first_of (os ++ ps))) h.0 ∙ none_first os ps h.1
-
-pub some_first : (os ps : List (Option Refusal)) (r : Refusal) → first_of os ≡ Some r → first_of (os ++ ps) ≡ Some r
-some_first [] ps r e = absurd (none-some r e)
-some_first (None ∷ os) ps r e = some_first os ps r e
-some_first (Some x ∷ os) ps r e = e
 
 alone : (o : Option Refusal) → option_or o None ≡ o
 alone None = refl

@@ -1,4 +1,3 @@
-pub mod Order
 pub mod Ends
 pub mod Read
 pub mod Whole

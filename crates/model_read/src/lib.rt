@@ -3,9 +3,7 @@
 
 pub mod drawing;
 pub mod ends;
-pub mod phases;
 pub mod read;
-mod stages;
 
 pub use drawing::Drawing;
 pub use model_files::ModelRefusal;

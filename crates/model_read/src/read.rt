@@ -13,11 +13,11 @@ ghost use Rattle.model_read.specs.Whole.{found_of, looked_of, of_name, refusal_o
 
 use crate::drawing::Drawing;
 use crate::ends::finish;
-use crate::phases::judge;
 use atomic_face::{AtomicModel, Stock};
 use ma_lines::laws::texts_are_plain;
 use ma_lines::{LineRefusal, Lines, Sections};
 use model_files::{ModelRefusal, read_file};
+use model_judged::judge;
 use model_text::Kind;
 use model_text::accepted::first_phase_decides;
 use model_tree::Model;
