@@ -4,13 +4,13 @@ ghost use Rattle.quantity.specs.declared.bounds.TheConstants.{MAX_DELAY};
 
 use atomic_face::PortNo;
 use atomic_face::words::{number, time};
-use quantity::{Time, Value};
+use quantity::{MAX_DELAY, Time, Value};
 
 /// So many milliseconds, up to the greatest delay.
 pub(crate) fn at(ms: u32) -> Time
     ensures { result ≤ MAX_DELAY }
 {
-    time(ms.min(359_999_999))
+    time(ms.min(MAX_DELAY))
 }
 
 /// A whole number at an input.

@@ -1,6 +1,6 @@
 // The store of a group of one cell, call by call: each call is run once with ample memory, at values
 // worked out by hand.
-ghost use Rattle.std.specs.Prelude.{◌≡◌, ◌<◌, IfOk};
+ghost use Rattle.std.specs.Prelude.{◌≡◌, ◌<◌, ◌≤◌, IfOk, length};
 ghost use Rattle.quantity.specs.declared.bounds.TheConstants.{MAX_DELAY};
 ghost use Rattle.model_read.specs.Read.{IsReady};
 
@@ -39,7 +39,7 @@ localtransition : r
 ";
 
 /// What its only port gave and computed last, and the values that wait there, each with its time.
-#[derive(Drop)]
+#[derive(Clone, Copy)]
 struct Wanted<'a> {
     emitted: u8,
     computed: u8,
@@ -86,20 +86,28 @@ fn store_of(
     Ok(CellStore::new(alloc, group)?)
 }
 
-/// The store of the one cell, whose group has these further lines.
-fn one_cell(alloc: Global, lines: &str, variables: usize) -> Result<CellStore, Fail>
-    ensures ports { IfOk result (λ s. s.layout.ports ≡ 0) }
-    ensures variables { IfOk result (λ s. s.layout.variables ≡ variables) }
+/// The text of the model of one cell, whose group has these further lines.
+fn text_of(alloc: Global, lines: &str) -> Result<Vec<u8>, Fail>
+    ensures { IfOk result (λ text. length text.items ≤ 1000) }
 {
-    let mut room = MemoryRoom::new(alloc, 4096);
-    let boxes: Vec<CounterModel> = Vec::new(alloc);
-    let mut stock = Stock::new(alloc, boxes)?;
     let mut text = Vec::new(alloc);
     text.extend_from_slice(ONE_CELL.as_bytes())?;
     text.extend_from_slice(lines.as_bytes())?;
     if text.len() > 1000 {
         return Err(Fail::new("a long text"));
     }
+    Ok(text)
+}
+
+/// The store of the one cell, whose group has these further lines.
+fn one_cell(alloc: Global, lines: &str, variables: usize) -> Result<CellStore, Fail>
+    ensures ports { IfOk result (λ s. s.layout.ports ≡ 0) }
+    ensures variables { IfOk result (λ s. s.layout.variables ≡ variables) }
+{
+    let text = text_of(alloc, lines)?;
+    let boxes: Vec<CounterModel> = Vec::new(alloc);
+    let mut stock = Stock::new(alloc, boxes)?;
+    let mut room = MemoryRoom::new(alloc, 4096);
     let Ok((model, routes)) = read_model_bytes(alloc, &mut room, &text, &mut stock, None) else {
         return Err(Fail::new("refused"));
     };
@@ -201,23 +209,23 @@ fn is_put(rt: &(impl Abort + AllocGlobal), store: &mut CellStore) -> Result<(), 
 /// A cell that takes and gives.
 fn takes_and_gives<L: Ledger>(
     rt: &(impl Abort + AllocGlobal),
+    store: &mut CellStore,
     steps: &mut Steps<L>,
 ) -> Result<(), Fail> {
-    let mut store = one_cell(rt.alloc(), "", 0)?;
     let mut wanted = Wanted {
         emitted: b'?',
         computed: b'0',
         pairs: &[(0, b'0')],
     };
-    stands(rt, &store, steps, &wanted)?;
-    takes(rt, &mut store, steps)?;
+    stands(rt, store, steps, &wanted)?;
+    takes(rt, store, steps)?;
     wanted.computed = b'1';
     wanted.pairs = &[(0, b'0'), (110, b'1')];
-    stands(rt, &store, steps, &wanted)?;
-    gives(rt, &mut store, steps)?;
+    stands(rt, store, steps, &wanted)?;
+    gives(rt, store, steps)?;
     wanted.emitted = b'0';
     wanted.pairs = &[(110, b'1')];
-    stands(rt, &store, steps, &wanted)
+    stands(rt, store, steps, &wanted)
 }
 
 /// A cell that is given a state.
@@ -237,9 +245,10 @@ fn has_variable<L: Ledger>(
     rt: &(impl Abort + AllocGlobal),
     steps: &mut Steps<L>,
 ) -> Result<(), Fail> {
+    let seven = digit(b'7')?;
     let store = one_cell(rt.alloc(), "statevariables : n\nstatevalues : 7\n", 1)?;
     assert_eq!(rt; store.cells(), 1);
-    assert_eq!(rt; store.variable(0, 0, steps), digit(b'7')?);
+    assert_eq!(rt; store.variable(0, 0, steps), seven);
     Ok(())
 }
 
@@ -250,7 +259,8 @@ fn answers<L: Ledger>(rt: &(impl Abort + AllocGlobal), blank: Blank) -> Result<(
     requires some { 0 < L.parts }
 {
     let mut steps: Steps<L> = Steps::new(blank);
-    takes_and_gives(rt, &mut steps)?;
+    let mut store = one_cell(rt.alloc(), "", 0)?;
+    takes_and_gives(rt, &mut store, &mut steps)?;
     has_state(rt, &mut steps)?;
     has_variable(rt, &mut steps)
 }

@@ -4,7 +4,7 @@ ghost use Rattle.delay_lines.specs.Places.{look_in};
 ghost use Rattle.delay_lines.specs.Nodes.{BelongsAt, IsOrdered, last_left, last_link, last_time, last_with, node_of, pairs_from};
 
 use crate::pool::Pool;
-use quantity::{OutOfMemory, Time, Value};
+use quantity::{MAX_TIME, OutOfMemory, Time, Value};
 
 /// A pair of a list, and the number of the node of the next pair.
 #[derive(Clone, Copy)]
@@ -20,7 +20,7 @@ impl Node {
         ensures node { result ≡ node_of (at, value) next }
         ensures time { at ≤ last_time }
     {
-        prove!(at.ms() <= 719_999_998);
+        prove!(at.ms() <= MAX_TIME);
         Node {
             pair: (at, value),
             next,

@@ -18,7 +18,7 @@ ghost use Rattle.flat_run.specs.Changes.{StartsFrom, CanPut, with_leaf_state, wi
 
 use crate::cycle::{cycles_had, run_cycle, stop_of};
 use crate::put::{least_time, set_next};
-use crate::start::{routes_are_ready, wait_all};
+use crate::start::{empty_lists, routes_are_ready, wait_all};
 use crate::{Progress, Stop};
 use atomic_face::{AtomicModel, RestoreRefusal, Stock};
 use cell_engine::{CellState, Steps};
@@ -113,16 +113,16 @@ impl<Q: TimeQueue, M: AtomicModel> FlatRun<Q, M> {
     {
         routes_are_ready();
         run_model::laws::records_name_what_there_is();
-        let number = model.leaves();
+        let lists = empty_lists(alloc, model.leaves())?;
         let watchers = Watchers::new(alloc, &model)?;
         let leaves = FlatLeaves::new(alloc, model, stock)?;
         let mut queue = queue;
         wait_all(&leaves, &mut queue);
         Ok(FlatRun {
-            woken: BitSet::with_leaves(alloc, number)?,
-            touched: BitSet::with_leaves(alloc, number)?,
-            due: Vec::with_capacity(alloc, number as usize)?,
-            moving: Vec::with_capacity(alloc, number as usize)?,
+            woken: lists.woken,
+            touched: lists.touched,
+            due: lists.due,
+            moving: lists.moving,
             inputs: Vec::new(alloc),
             room: Room::none(alloc),
             leaves,

@@ -43,7 +43,7 @@ rule : 0 100 { t }
 ";
 
 /// What a call of `cycle` answers: the instant of a cycle, if there is one, and what it records.
-#[derive(Drop)]
+#[derive(Clone, Copy)]
 struct Wanted<'a> {
     at: Option<u32>,
     /// Values at the ports `out`, by leaf.
@@ -82,13 +82,13 @@ fn begun(
 
 /// The run of the ring.
 fn ring_run(alloc: Global) -> Result<Run, Fail> {
-    let mut room = MemoryRoom::new(alloc, 4096);
-    let boxes: Vec<CounterModel> = Vec::new(alloc);
-    let mut stock = Stock::new(alloc, boxes)?;
     let text = RING.as_bytes();
     if text.len() > 1000 {
         return Err(Fail::new("a long text"));
     }
+    let boxes: Vec<CounterModel> = Vec::new(alloc);
+    let mut stock = Stock::new(alloc, boxes)?;
+    let mut room = MemoryRoom::new(alloc, 4096);
     let Ok((model, routes)) = read_model_bytes(alloc, &mut room, text, &mut stock, None) else {
         return Err(Fail::new("refused"));
     };
@@ -151,15 +151,18 @@ fn goes<L: Ledger>(
 }
 
 /// Three calls, of which the third finds the run done.
-fn three_calls<L: Ledger>(rt: &(impl Abort + AllocGlobal), blank: Blank) -> Result<(), Fail>
+fn three_calls<L: Ledger>(
+    rt: &(impl Abort + AllocGlobal),
+    run: &mut Run,
+    blank: Blank,
+) -> Result<(), Fail>
     requires name { blank.name ≡ L.name }
     requires parts { blank.parts ≡ L.parts }
     requires some { 0 < L.parts }
 {
     let mut steps: Steps<L> = Steps::new(blank);
     let mut records = Records::none(rt.alloc());
-    let mut run = ring_run(rt.alloc())?;
-    for wanted in [
+    for wanted in &[
         Wanted {
             at: Some(0),
             given: &[(0, b'0'), (1, b'1'), (2, b'0')],
@@ -180,13 +183,14 @@ fn three_calls<L: Ledger>(rt: &(impl Abort + AllocGlobal), blank: Blank) -> Resu
             moved: &[],
         },
     ] {
-        goes(rt, &mut run, &mut records, &mut steps, &wanted)?;
+        goes(rt, run, &mut records, &mut steps, wanted)?;
     }
     Ok(())
 }
 
 #[test]
 fn a_run_goes_call_by_call(rt: HostRuntime) -> Result<(), Fail> {
+    let mut run = ring_run(rt.alloc())?;
     let blank = Blank::new(1);
-    three_calls::<Brand>(&rt, blank)
+    three_calls::<Brand>(&rt, &mut run, blank)
 }

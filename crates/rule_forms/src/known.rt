@@ -13,7 +13,7 @@ use crate::forms::{Form, plain_number};
 use crate::given::Given;
 use crate::numbered::NumberedForm;
 use crate::whole_numbers::whole_number;
-use quantity::{Time, Value};
+use quantity::{MAX_DELAY, Time, Value};
 use rule_tree::RuleStop;
 
 /// What a rule gives, and after which delay, where both are the same whatever a cell sees.
@@ -72,7 +72,7 @@ pub fn delay_in(value: &Value) -> Result<Time, RuleStop>
     ensures bounded { IfOk result (λ ms. ms ≤ MAX_DELAY) }
 {
     match whole_number(*value) {
-        Some(ms) if ms <= 359_999_999 => Ok(time(ms)),
+        Some(ms) if ms <= u64::from(MAX_DELAY) => Ok(time(ms)),
         _ => Err(RuleStop::BadDelay(*value)),
     }
 }
