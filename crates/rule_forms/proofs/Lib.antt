@@ -2,6 +2,7 @@ mod Calls
 pub mod Stacks
 pub mod Depths
 mod Beforehand
+mod Alone
 pub mod Stands
 pub mod Deepest
 pub mod FormTrees

@@ -1,12 +1,12 @@
 // What is known of a rule before it is evaluated.
-ghost use Rattle.std.specs.Prelude.{◌≡◌, ◌≤◌, IfOk, IfSome, List, Ok, map};
+ghost use Rattle.std.specs.Prelude.{◌≡◌, ◌≤◌, IfOk, IfSome, is_some, List, Ok, map};
 ghost use Rattle.quantity.specs.declared.bounds.TheConstants.{MAX_DELAY};
 ghost use Rattle.rule_tree.specs.Meaning.{Sight};
 ghost use Rattle.rule_forms.specs.Code.{code_of};
 ghost use Rattle.rule_forms.specs.Forms.{expr_of_form};
 ghost use Rattle.rule_forms.specs.Numbered.{plain, codes_of_forms};
 ghost use Rattle.rule_forms.specs.ByCode.{no_values, given_by_code, delay_in};
-ghost use Rattle.rule_forms.specs.Known.{AlwaysWaits, AlwaysMakes};
+ghost use Rattle.rule_forms.specs.Known.{AlwaysWaits, AlwaysMakes, are_numbers, delay_alone, is_constant};
 ghost use Rattle.rule_forms.specs.declared.forms.Form.{Form as AnyForm};
 
 use crate::forms::{Form, plain_number};
@@ -30,8 +30,10 @@ pub(crate) fn constant_of(
     delay: &Form,
     sets: &[NumberedForm],
 ) -> Option<Constant>
-    ensures { IfSome result (λ c. (condition : AnyForm)
+    ensures always { IfSome result (λ c. (condition : AnyForm)
         → AlwaysMakes (codes_of_forms gives.now delay.now condition sets.now) c) }
+    ensures each { (condition : AnyForm) → is_some result
+        ≡ is_constant (codes_of_forms gives.now delay.now condition sets.now) }
 {
     if !sets.is_empty() {
         return None;
@@ -43,7 +45,8 @@ pub(crate) fn constant_of(
 
 /// The delay of a rule, where it is the same whatever a cell sees.
 pub(crate) fn constant_delay(form: &Form) -> Option<Time>
-    ensures { IfSome result (AlwaysWaits (code_of (expr_of_form form.now))) }
+    ensures always { IfSome result (AlwaysWaits (code_of (expr_of_form form.now))) }
+    ensures each { result ≡ delay_alone (code_of (expr_of_form form.now)) }
 {
     let value = plain_number(form)?;
     match delay_in(&value) {
@@ -54,8 +57,9 @@ pub(crate) fn constant_delay(form: &Form) -> Option<Time>
 
 /// The values that a rule gives, where they are numbers.
 fn constant_values(gives: &[NumberedForm]) -> Option<Given>
-    ensures { IfSome result (λ given. (s : Sight)
+    ensures always { IfSome result (λ given. (s : Sight)
         → given_by_code (map plain gives.now) s no_values ≡ Ok given.values) }
+    ensures each { is_some result ≡ are_numbers (map plain gives.now) }
 {
     let mut given = Given { values: [None; 4] };
     for give in gives {

@@ -1,11 +1,11 @@
 // A rule as it is evaluated.
-ghost use Rattle.std.specs.Prelude.{◌≡◌, ◌≤◌, IfOk, IfSome, map};
+ghost use Rattle.std.specs.Prelude.{◌≡◌, ◌≤◌, IfOk, IfSome, is_some, map};
 ghost use Rattle.rule_tree.specs.Expression.{rule_of};
 ghost use Rattle.rule_forms.specs.Code.{code_of};
 ghost use Rattle.rule_forms.specs.Forms.{expr_of_form};
 ghost use Rattle.rule_forms.specs.RuleCodes.{codes_of, rule_depth, rule_nodes};
 ghost use Rattle.rule_forms.specs.Numbered.{plain, codes_of_forms};
-ghost use Rattle.rule_forms.specs.Known.{AlwaysWaits, AlwaysMakes};
+ghost use Rattle.rule_forms.specs.Known.{AlwaysWaits, AlwaysMakes, delay_alone, is_constant};
 
 use crate::depth::depth_of_rule;
 use crate::forms::Form;
@@ -115,18 +115,21 @@ impl RuleCode {
         &self.sets
     }
 
-    /// Its delay, where that is the same whatever a cell sees.
+    /// Its delay, where its text is a number: that is the same whatever a cell sees.
     #[inline(always)]
     pub fn constant_delay(&self) -> Option<Time>
-        ensures { IfSome result (AlwaysWaits self.now.delay) }
+        ensures always { IfSome result (AlwaysWaits self.now.delay) }
+        ensures each { result ≡ delay_alone self.now.delay }
     {
         self.constant_delay
     }
 
-    /// All that it gives, where that is the same whatever a cell sees and nothing is set.
+    /// All that it gives, where its values and its delay are numbers and nothing is set: that is the
+    /// same whatever a cell sees.
     #[inline(always)]
     pub fn constant(&self) -> Option<&Constant>
-        ensures { IfSome result (λ c. AlwaysMakes self.now c.now) }
+        ensures always { IfSome result (λ c. AlwaysMakes self.now c.now) }
+        ensures each { is_some result ≡ is_constant self.now }
     {
         match &self.constant {
             Some(constant) => Some(constant),
