@@ -1,6 +1,7 @@
 -- What rules make by their codes, step by step.
-use Rattle.std.proofs.Common.{◌≡◌, ℕ, ◌+◌, ◌<◌, Option, Some, Ok, Err, List, length, map, drop, get_or, set, max, refl, sym, ap, subst}
+use Rattle.std.proofs.Common.{◌≡◌, ℕ, ◌+◌, ◌<◌, Option, Some, Ok, Err, List, length, map, drop, get_or, set, max, refl, sym, ◌∙◌, ap, subst, ◌⊎◌, inl, inr}
 use Rattle.std.specs.declared.result.Result.{Result}
+use Rattle.quantity.specs.declared.truth.Tri.{Tri}
 use Rattle.quantity.specs.declared.value.Value.{Value}
 use Rattle.rule_tree.specs.declared.outcome.RuleStop.{RuleStop}
 use Rattle.rule_tree.specs.Meaning.{Sight}
@@ -12,7 +13,7 @@ use Rattle.rule_forms.specs.Forms.{expr_of_form}
 use Rattle.rule_forms.specs.Depth.{depth_of}
 use Rattle.rule_forms.specs.RuleCodes.{Codes, deepest}
 use Rattle.rule_forms.specs.Numbered.{plain}
-use Rattle.rule_forms.specs.ByCode.{number_by_code, truth_by_code, given_by_code, set_by_code, made_of, made_by_code, first_by_code, if_holds}
+use Rattle.rule_forms.specs.ByCode.{Outcome, number_by_code, truth_by_code, given_by_code, set_by_code, made_of, made_by_code, first_by_code, if_holds}
 use Rattle.rule_eval.specs.Evaluated.{Makes, GivesValues, SetsVariables}
 use Rattle.rule_forms.proofs.Stacks.{drop_here}
 
@@ -33,6 +34,42 @@ deepest_here codes i x h is = ap (λ (xs : List NumberedForm). deepest (map plai
 pub first_here : (rules : List Codes) (i : ℕ) (r : Codes) (s : Sight) → i < length rules → r ≡ get_or rules i r
     → first_by_code (drop i rules) s ≡ after (truth_by_code r.condition s) (λ t. if_holds t (made_by_code r s) (first_by_code (drop (i + 1) rules) s))
 first_here rules i r s h is = ap (λ (rs : List Codes). first_by_code rs s) (drop_here rules i r h is)
+
+-- ---- the same, by what the evaluated code gives
+
+pub give_goes : (gives : List NumberedForm) (i : ℕ) (g : NumberedForm) (s : Sight) (values : List (Option Value)) (v : Value) → i < length gives → g ≡ get_or gives i g → Ok v ≡ number_by_code (code_of (expr_of_form g.form)) s
+    → given_by_code (map plain (drop i gives)) s values ≡ given_by_code (map plain (drop (i + 1) gives)) s (set values g.number (Some v))
+give_goes gives i g s values v h is n =
+    give_here gives i g s values h is ∙ ap (λ r. after r (λ w. given_by_code (map plain (drop (i + 1) gives)) s (set values g.number (Some w)))) (sym n)
+
+pub give_stops : (gives : List NumberedForm) (i : ℕ) (g : NumberedForm) (s : Sight) (values : List (Option Value)) (stop : RuleStop) → i < length gives → g ≡ get_or gives i g → Err stop ≡ number_by_code (code_of (expr_of_form g.form)) s
+    → given_by_code (map plain (drop i gives)) s values ≡ Err stop
+give_stops gives i g s values stop h is n =
+    give_here gives i g s values h is ∙ ap (λ r. after r (λ w. given_by_code (map plain (drop (i + 1) gives)) s (set values g.number (Some w)))) (sym n)
+
+pub set_goes : (sets : List NumberedForm) (i : ℕ) (x : NumberedForm) (s : Sight) (v : Value) → i < length sets → x ≡ get_or sets i x → Ok v ≡ number_by_code (code_of (expr_of_form x.form)) s
+    → set_by_code (map plain (drop i sets)) s ≡ set_by_code (map plain (drop (i + 1) sets)) (record s { variables = set s.variables x.number v })
+set_goes sets i x s v h is n =
+    set_here sets i x s h is ∙ ap (λ r. after r (λ w. set_by_code (map plain (drop (i + 1) sets)) (record s { variables = set s.variables x.number w }))) (sym n)
+
+pub set_stops : (sets : List NumberedForm) (i : ℕ) (x : NumberedForm) (s : Sight) (stop : RuleStop) → i < length sets → x ≡ get_or sets i x → Err stop ≡ number_by_code (code_of (expr_of_form x.form)) s
+    → set_by_code (map plain (drop i sets)) s ≡ Err stop
+set_stops sets i x s stop h is n =
+    set_here sets i x s h is ∙ ap (λ r. after r (λ w. set_by_code (map plain (drop (i + 1) sets)) (record s { variables = set s.variables x.number w }))) (sym n)
+
+pub rule_holds : (rules : List Codes) (i : ℕ) (r : Codes) (s : Sight) (t : Tri) (later : Outcome) → i < length rules → r ≡ get_or rules i r → Ok t ≡ truth_by_code r.condition s
+    → if_holds t (made_by_code r s) (first_by_code (drop (i + 1) rules) s) ≡ later → first_by_code (drop i rules) s ≡ later
+rule_holds rules i r s t later h is c goes =
+    first_here rules i r s h is ∙ ap (λ o. after o (λ u. if_holds u (made_by_code r s) (first_by_code (drop (i + 1) rules) s))) (sym c) ∙ goes
+
+pub rule_stops : (rules : List Codes) (i : ℕ) (r : Codes) (s : Sight) (stop : RuleStop) → i < length rules → r ≡ get_or rules i r → Err stop ≡ truth_by_code r.condition s → first_by_code (drop i rules) s ≡ Err stop
+rule_stops rules i r s stop h is c =
+    first_here rules i r s h is ∙ ap (λ o. after o (λ u. if_holds u (made_by_code r s) (first_by_code (drop (i + 1) rules) s))) (sym c)
+
+-- what is not true leaves it to the later rules
+pub left_to : (t : Tri) (now later : Outcome) → (t ≡ Tri.False) ⊎ (t ≡ Tri.Undef) → if_holds t now later ≡ later
+left_to t now later (inl is) = ap (λ u. if_holds u now later) is
+left_to t now later (inr is) = ap (λ u. if_holds u now later) is
 
 -- ---- the parts of what a rule makes
 

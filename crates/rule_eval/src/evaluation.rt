@@ -47,7 +47,6 @@ pub fn evaluate(
     first_true(rules, view, changed, &mut counts, &mut stack.answers)
 }
 
-#[tactic(auto, using(crate::proofs::Making::first_here, rule_forms::proofs::Stacks::drop_end))]
 #[inline(always)]
 fn first_true(
     rules: &[RuleCode],
@@ -210,7 +209,6 @@ fn delay_of(
     delay_in(&value)
 }
 
-#[tactic(auto, using(crate::proofs::Making::give_here, crate::proofs::Making::deepest_here, rule_forms::proofs::Stacks::drop_end))]
 fn give_values(
     gives: &[NumberedForm],
     view: &View,
@@ -233,7 +231,6 @@ fn give_values(
     Ok(given)
 }
 
-#[tactic(auto, using(crate::proofs::Making::set_here, crate::proofs::Making::deepest_here, rule_forms::proofs::Stacks::drop_end))]
 fn set_variables(
     sets: &[NumberedForm],
     view: &View,

@@ -1,14 +1,17 @@
-use Rattle.std.proofs.Common.{◌≡◌, ◌+◌, ◌≤◌, Option, Some, None, List, [], ◌∷◌, ◌++◌, length, drop, vec_len, vec_capacity, subst, sym, ap, ◌∙◌, rules, arith, refl}
+use Rattle.std.proofs.Common.{◌≡◌, ◌+◌, ◌≤◌, Option, Some, None, Err, List, [], ◌∷◌, ◌++◌, length, drop, vec_len, vec_capacity, subst, sym, ap, ◌∙◌, rules, arith, refl}
 use Rattle.std.proofs.lemmas.Grind.{common_steps}
+use Rattle.std.specs.declared.result.Result.{Result}
 use Rattle.std.specs.Result.{result_ok}
 use Rattle.quantity.specs.declared.value.Value.{Value}
 use Rattle.quantity.specs.declared.truth.Tri.{Tri}
 use Rattle.quantity.specs.Written.{for_some}
 use Rattle.rule_tree.specs.declared.outcome.Answer.{Answer}
-use Rattle.rule_tree.specs.declared.outcome.Answer.TheVariants.{Logic}
+use Rattle.rule_tree.specs.declared.outcome.Answer.TheVariants.{Num, Logic}
+use Rattle.rule_tree.specs.declared.node.Unary.{Unary}
+use Rattle.rule_tree.specs.declared.node.Binary.{Binary}
 use Rattle.rule_tree.specs.Expression as E
 use Rattle.rule_tree.specs.Expression.{Expr}
-use Rattle.rule_tree.specs.Meaning.{call_meaning, as_answer, meaning, meanings}
+use Rattle.rule_tree.specs.Meaning.{Sight, call_meaning, as_answer, value_at, whole, one_meaning, two_meaning, meaning, meanings}
 use Rattle.rule_forms.specs.declared.forms.PortAt.{PortAt}
 use Rattle.rule_forms.specs.declared.forms.Form.{Form}
 use Rattle.rule_forms.specs.declared.forms.Form.TheViews.{the_lemmas}
@@ -25,6 +28,18 @@ use Rattle.rule_eval.proofs.FormTests.{test_means}
 use Rattle.rule_eval.proofs.Rooms.{operand_room, left_room, right_room, arguments_room, first_room, rest_room, above_room, moved_room, same_height, one_higher}
 use Rattle.rule_eval.proofs.Arguments.{forms_here, stacked_here, arguments_above, no_arguments}
 use Rattle.rule_eval.proofs.answers.+answer.Goals as goal
+
+-- operators over what their operands answer
+
+one_means : (u : Unary) (a : Expr) (s : Sight) (o : Option Answer) → o ≡ meaning a s → meaning (E.one u a) s ≡ for_some o (one_meaning u)
+one_means u a s o is = ap (λ (p : Option Answer). for_some p (one_meaning u)) (sym is)
+
+two_means : (b : Binary) (a c : Expr) (s : Sight) (x : Answer) (o : Option Answer) → Some x ≡ meaning a s → o ≡ meaning c s → meaning (E.two b a c) s ≡ for_some o (two_meaning b x)
+two_means b a c s x o left right =
+    ap (λ (p : Option Answer). for_some p (λ y. for_some (meaning c s) (two_meaning b y))) (sym left) ∙ ap (λ (p : Option Answer). for_some p (two_meaning b x)) (sym right)
+
+left_stops : (b : Binary) (a c : Expr) (s : Sight) → None ≡ meaning a s → meaning (E.two b a c) s ≡ None
+left_stops b a c s none = ap (λ (p : Option Answer). for_some p (λ y. for_some (meaning c s) (two_meaning b y))) (sym none)
 
 pub answer-answer-requires : goal.answer-answer-requires
 answer-answer-requires t c =
@@ -100,6 +115,78 @@ answer-returns-in_ok-stack_answers-in-Call-clause-value t c =
     let slice = slice_rest c.deref-in-Call-2.result.now k ∙ ap (drop k) c.deref-in-Call-2.ensures.value in
     let arguments = sym given ∙ above ∙ ap (λ n. Some (drop n now.items)) height ∙ ap Some (sym slice) in
     sym (ap (λ (e : Expr). meaning e s) is ∙ ap (λ (o : Option (List Answer)). for_some o (λ xs. call_meaning f xs s)) arguments ∙ c.apply_function-made.ensures c.args.variables.now)
+
+pub answer-returns-in-Number-clause-value : goal.answer-returns-in-Number-clause-value
+answer-returns-in-Number-clause-value t c =
+    let s = seen c.args.view.now c.args.variables.now in
+    sym (ap (λ (f : Form). meaning (expr_of_form f) s) c.in-Number.is)
+
+pub answer-returns-in-Neighbour-clause-value : goal.answer-returns-in-Neighbour-clause-value
+answer-returns-in-Neighbour-clause-value t c =
+    let s = seen c.args.view.now c.args.variables.now in
+    ap (λ (v : Value). Some (Num v)) c.neighbour.ensures ∙ sym (ap (λ (f : Form). meaning (expr_of_form f) s) c.in-Neighbour.is)
+
+pub answer-returns-in-Variable-clause-value : goal.answer-returns-in-Variable-clause-value
+answer-returns-in-Variable-clause-value t c =
+    let s = seen c.args.view.now c.args.variables.now in
+    ap (λ (v : Value). Some (Num v)) (c.value_at.ensures ∙ ap (value_at c.args.variables.now) c.from.ensures) ∙ sym (ap (λ (f : Form). meaning (expr_of_form f) s) c.in-Variable.is)
+
+pub answer-returns-in-Now-clause-value : goal.answer-returns-in-Now-clause-value
+answer-returns-in-Now-clause-value t c =
+    let s = seen c.args.view.now c.args.variables.now in
+    ap (λ (v : Value). Some (Num v)) (c.whole.ensures ∙ ap whole (c.from-in-Now.ensures ∙ c.ms.ensures.value)) ∙ sym (ap (λ (f : Form). meaning (expr_of_form f) s) c.in-Now.is)
+
+pub answer-returns-in-Counted-clause-value : goal.answer-returns-in-Counted-clause-value
+answer-returns-in-Counted-clause-value t c =
+    let s = seen c.args.view.now c.args.variables.now in
+    ap (λ (v : Value). Some (Num v)) c.number_counted.ensures.value ∙ sym (ap (λ (f : Form). meaning (expr_of_form f) s) c.in-Counted.is)
+
+pub answer-returns-in_err-a-in-One-clause-value : goal.answer-returns-in_err-a-in-One-clause-value
+answer-returns-in_err-a-in-One-clause-value t c =
+    let s = seen c.args.view.now c.args.variables.now in
+    let own = c.in_err-a-in-One.ensures.value ∙ ap (λ (f : Form). meaning (expr_of_form f) s) c.deref-in-One.ensures in
+    let stops : c.from_residual.result ≡ Err c.in_err-a-in-One.field-0.0 = search rules in
+    ap result_ok stops
+    ∙ sym (ap (λ (f : Form). meaning (expr_of_form f) s) c.in-One.is ∙ one_means c.in-One.operator (expr_of_form c.in-One.a.value) s None own)
+
+pub answer-returns-in_ok-a-in-One-clause-value : goal.answer-returns-in_ok-a-in-One-clause-value
+answer-returns-in_ok-a-in-One-clause-value t c =
+    let s = seen c.args.view.now c.args.variables.now in
+    let own = c.in_ok-a-in-One.ensures.value ∙ ap (λ (f : Form). meaning (expr_of_form f) s) c.deref-in-One.ensures in
+    sym (ap (λ (f : Form). meaning (expr_of_form f) s) c.in-One.is ∙ one_means c.in-One.operator (expr_of_form c.in-One.a.value) s (Some c.in_ok-a-in-One.a) own ∙ c.apply_unary.ensures)
+
+pub answer-returns-in_err-a-in-Two-clause-value : goal.answer-returns-in_err-a-in-Two-clause-value
+answer-returns-in_err-a-in-Two-clause-value t c =
+    let s = seen c.args.view.now c.args.variables.now in
+    let own = c.in_err-a-in-Two.ensures.value ∙ ap (λ (f : Form). meaning (expr_of_form f) s) c.deref-in-Two.ensures in
+    let stops : c.from_residual-in_err-a-in-Two.result ≡ Err c.in_err-a-in-Two.field-0.0 = search rules in
+    ap result_ok stops
+    ∙ sym (ap (λ (f : Form). meaning (expr_of_form f) s) c.in-Two.is ∙ left_stops c.in-Two.operator (expr_of_form c.in-Two.a.value) (expr_of_form c.in-Two.c.value) s own)
+
+pub answer-returns-in-Some-clause-value : goal.answer-returns-in-Some-clause-value
+answer-returns-in-Some-clause-value t c =
+    let s = seen c.args.view.now c.args.variables.now in
+    let left = c.in_ok-a-in-Two.ensures.value ∙ ap (λ (f : Form). meaning (expr_of_form f) s) c.deref-in-Two.ensures in
+    let right = sym (ap (λ (e : Expr). meaning e s) c.in-Some.ensures.value) ∙ ap (λ (f : Form). meaning (expr_of_form f) s) c.deref-in-Two-2.ensures in
+    c.apply_binary.ensures
+    ∙ sym (ap (λ (f : Form). meaning (expr_of_form f) s) c.in-Two.is ∙ two_means c.in-Two.operator (expr_of_form c.in-Two.a.value) (expr_of_form c.in-Two.c.value) s c.in_ok-a-in-Two.a (Some (Num c.in-Some.number)) left right)
+
+pub answer-returns-in_err-c-in-None-clause-value : goal.answer-returns-in_err-c-in-None-clause-value
+answer-returns-in_err-c-in-None-clause-value t c =
+    let s = seen c.args.view.now c.args.variables.now in
+    let left = c.in_ok-a-in-Two.ensures.value ∙ ap (λ (f : Form). meaning (expr_of_form f) s) c.deref-in-Two.ensures in
+    let right = c.in_err-c-in-None.ensures.value ∙ ap (λ (f : Form). meaning (expr_of_form f) s) c.deref-in-None.ensures in
+    let stops : c.from_residual-in_err-c-in-None.result ≡ Err c.in_err-c-in-None.field-0.0 = search rules in
+    ap result_ok stops
+    ∙ sym (ap (λ (f : Form). meaning (expr_of_form f) s) c.in-Two.is ∙ two_means c.in-Two.operator (expr_of_form c.in-Two.a.value) (expr_of_form c.in-Two.c.value) s c.in_ok-a-in-Two.a None left right)
+
+pub answer-returns-in_ok-c-in-None-clause-value : goal.answer-returns-in_ok-c-in-None-clause-value
+answer-returns-in_ok-c-in-None-clause-value t c =
+    let s = seen c.args.view.now c.args.variables.now in
+    let left = c.in_ok-a-in-Two.ensures.value ∙ ap (λ (f : Form). meaning (expr_of_form f) s) c.deref-in-Two.ensures in
+    let right = c.in_ok-c-in-None.ensures.value ∙ ap (λ (f : Form). meaning (expr_of_form f) s) c.deref-in-None.ensures in
+    c.apply_binary-in-None.ensures
+    ∙ sym (ap (λ (f : Form). meaning (expr_of_form f) s) c.in-Two.is ∙ two_means c.in-Two.operator (expr_of_form c.in-Two.a.value) (expr_of_form c.in-Two.c.value) s c.in_ok-a-in-Two.a (Some c.in_ok-c-in-None.c) left right)
 
 pub stack_answers-answer-requires : goal.stack_answers-answer-requires
 stack_answers-answer-requires t c =
