@@ -11,3 +11,4 @@ pub mod Looking
 pub mod Ruling
 pub mod Takes
 pub mod Moving
+pub mod Grown

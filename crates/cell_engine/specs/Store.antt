@@ -36,3 +36,10 @@ abbrev pub IsAtDesk : Layout → Table → Desk → Type 0
 IsAtDesk l t d =
     IsReady l t (length d.neighbours.items) (length d.seen.items)
     (length d.changed.items) d.stack.depth
+
+-- a desk for so many neighbours and ports, and for what the rules of a layout set and need
+pub record HasRoom (places width : ℕ) (l : Layout) (d : Desk) : Type 0 where
+  pub neighbours : length d.neighbours.items ≡ places
+  pub seen : length d.seen.items ≡ places * width
+  pub changed : length d.changed.items ≡ l.variables
+  pub depth : All (λ rules. All (λ rule. rule_depth rule ≤ d.stack.depth) rules) l.codes

@@ -15,15 +15,15 @@ ghost use Rattle.cell_table.specs.Saved.{cell_of_saved};
 ghost use Rattle.cell_engine.specs.Cells.{Cells, with_cell, computed_at, Computes, CanBePut};
 
 use crate::bag::advance;
-use crate::desk::Desk;
-use crate::make::{deepest_of_sets, plan_of, table_of};
+use crate::desk::{Desk, desk_for};
+use crate::make::{plan_of, table_of};
 use crate::plan::Plan;
 use crate::{Cell, CellState, CellStop, Steps};
 use atomic_face::PortNo;
 use cell_table::CellTable;
 use model_tree::CellGroup;
 use quantity::{Name, OutOfMemory, Time, Value};
-use rule_eval::{Given, Stack};
+use rule_eval::Given;
 use std::alloc::Global;
 use std::marker::Model;
 use std::sync::ledger::Ledger;
@@ -57,13 +57,7 @@ impl CellStore {
     {
         let plan = plan_of(alloc, group)?;
         let table = table_of(alloc, group)?;
-        let places = group.offsets.len();
-        let desk = Desk {
-            neighbours: vec![in alloc; None; places]?,
-            seen: vec![in alloc; Value::Undefined; places * table.width()]?,
-            changed: vec![in alloc; Value::Undefined; plan.variables]?,
-            stack: Stack::for_depth(alloc, deepest_of_sets(&plan.codes))?,
-        };
+        let desk = desk_for(alloc, &plan, group.offsets.len(), table.width())?;
         Ok(CellStore { plan, table, desk })
     }
 
