@@ -130,6 +130,16 @@ hold_key names before e f = (
   ap (λ b. cond b (line_unless (is_new_hold before (hold_in names e)) e) []) f,
 )
 
+-- a hold that was read is the next one
+pub one_more : (names : List Bytes) (before : List HoldWords) (e : Param) (holds : List (Option Hold)) (h : Option HoldWords) → bytes_eq e.key (codes "hold") ≡ true → h ≡ hold_in names e → HasHolds holds (before ++ option_to_list h) → HasHolds holds (holds_with names before e)
+one_more names before e holds h f same has =
+    subst (HasHolds holds) (ap (λ o. before ++ option_to_list o) same ∙ sym (hold_key names before e f).0) has
+
+-- the line of a hold, when it is known whether it is new
+pub hold_line : (names : List Bytes) (before : List HoldWords) (e : Param) (h : Option HoldWords) (new : Bool) → bytes_eq e.key (codes "hold") ≡ true → h ≡ hold_in names e → new ≡ is_new_hold before h → line_unless new e ≡ hold_lines names before e
+hold_line names before e h new f same is =
+    ap (λ b. line_unless b e) (is ∙ ap (is_new_hold before) same) ∙ sym (hold_key names before e f).1
+
 -- ---- all parameters
 
 lines_step : (names : List Bytes) (before : List HoldWords) (e : Param) (rest : List Param) → holds_off names before (with_key (codes "hold") (e ∷ rest)) ≡ hold_lines names before e ++ holds_off names (holds_with names before e) (with_key (codes "hold") rest)

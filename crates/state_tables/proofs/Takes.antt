@@ -1,5 +1,5 @@
 -- Takes, parameter by parameter.
-use Rattle.std.proofs.Common.{◌≡◌, ℕ, Option, None, List, [], ◌∷◌, ◌++◌, refl, sym, ap, ◌∙◌, append_assoc}
+use Rattle.std.proofs.Common.{◌≡◌, ℕ, true, false, cond, Option, None, Some, List, [], ◌∷◌, ◌++◌, refl, sym, ap, ◌∙◌, append_assoc}
 use Rattle.std.specs.Prelude.{ℤ, codes}
 use Rattle.std.proofs.lemmas.List.{append-nil}
 use Rattle.std.proofs.lemmas.List.Concat.{flat_map-append}
@@ -35,6 +35,27 @@ lines_step : (names : List Bytes) (e : Param) (rest : List Param) → take_lines
 lines_step names e rest =
     ap (flat_map (λ (e : Param). line_unless (is_some (take_in names e)) e)) (key_step (codes "take") e rest)
     ∙ flat_map-append (λ (e : Param). line_unless (is_some (take_in names e)) e) (with_key (codes "take") (e ∷ [])) (with_key (codes "take") rest)
+
+pub other_key : (names : List Bytes) (e : Param) → bytes_eq e.key (codes "take") ≡ false → (take_numbers names (e ∷ []) ≡ []) × (take_lines names (e ∷ []) ≡ [])
+other_key names e f = (
+  ap (λ b. flat_map (λ (ws : List ℤ). ws) (filter_map (take_in names) (cond b (e ∷ []) []))) f,
+  ap (λ b. flat_map (λ (e : Param). line_unless (is_some (take_in names e)) e) (cond b (e ∷ []) [])) f,
+)
+
+-- no numbers, or those of one take
+abbrev pub numbers_there : Option (List ℤ) → List ℤ
+numbers_there None = []
+numbers_there (Some ws) = ws
+
+pub take_key : (names : List Bytes) (e : Param) (take : Option (List ℤ)) → bytes_eq e.key (codes "take") ≡ true → take ≡ take_in names e → (take_numbers names (e ∷ []) ≡ numbers_there take) × (take_lines names (e ∷ []) ≡ line_unless (is_some take) e)
+take_key names e take f same = (
+  ap (λ b. flat_map (λ (ws : List ℤ). ws) (filter_map (take_in names) (cond b (e ∷ []) []))) f ∙ one (take_in names e) ∙ ap numbers_there (sym same),
+  ap (λ b. flat_map (λ (e : Param). line_unless (is_some (take_in names e)) e) (cond b (e ∷ []) [])) f ∙ append-nil (line_unless (is_some (take_in names e)) e) ∙ ap (λ t. line_unless (is_some t) e) (sym same),
+)
+  where
+    one : (t : Option (List ℤ)) → flat_map (λ (ws : List ℤ). ws) (filter_map (λ (o : Option (List ℤ)). o) (t ∷ [])) ≡ numbers_there t
+    one None = refl
+    one (Some ws) = append-nil ws
 
 -- the takes of the parameters before the rest are read
 pub record SoFar (names : List Bytes) (es rest : List Param) (takes : List Take) (first : Option ℕ) : Type 0 where
