@@ -42,6 +42,10 @@ two_first (x ∷ y ∷ ws) d h =
     let n : length (x ∷ y ∷ ws) - 2 ≡ length ws = omega arith in
     ap (λ vs. x ∷ y ∷ vs) (sym (take_all (length (x ∷ y ∷ ws) - 2) ws (omega arith)))
 
+-- words are their first two, as they were read, and the others
+pub two_and_others : (words : List ℤ) (x y d : ℤ) → 2 ≤ length words → x ≡ get_or words 0 d → y ≡ get_or words 1 d → words ≡ x ∷ y ∷ take (length words - 2) (drop 2 words)
+two_and_others words x y d h e f = rw (e, f) (two_first words d h)
+
 pub first_is_pair : (before : ℕ) (p : ℕ × Value) (words : List ℤ) (x y d : ℤ) → 2 ≤ length words → x ≡ get_or words 0 d → y ≡ get_or words 1 d → ReadsPair before x y (Some p) → HasPair before words p (take (length words - 2) (drop 2 words))
 first_is_pair before p words x y d lt e f h =
     starts_with_pair before p x y words (take (length words - 2) (drop 2 words)) (two_first words d lt ∙ ap (λ z. z ∷ get_or words 1 d ∷ take (length words - 2) (drop 2 words)) (sym e) ∙ ap (λ z. x ∷ z ∷ take (length words - 2) (drop 2 words)) (sym f)) h

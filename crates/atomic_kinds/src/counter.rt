@@ -71,22 +71,14 @@ impl AtomicModel for CounterModel {
         let [total, due] = words else {
             return Err(RestoreRefusal::BadState);
         };
-        let Some(total) = value_of(*total) else {
-            return Err(RestoreRefusal::BadState);
-        };
-        let Some(due) = due_of(*due) else {
-            return Err(RestoreRefusal::BadState);
-        };
-        self.total = total;
-        self.due = due;
-        Ok(())
+        self.take_state(*total, *due)
     }
 }
 
 impl CounterModel {
-    ghost use Rattle.std.specs.Prelude.{[]};
+    ghost use Rattle.std.specs.Prelude.{[], ◌∷◌};
     ghost use Rattle.atomic_face.specs.declared.class.Class.TheVariants.{Counter};
-    ghost use Rattle.atomic_face.specs.Moves.{started};
+    ghost use Rattle.atomic_face.specs.Moves.{started, RestoreGives};
     ghost use Rattle.atomic_face.specs.Settings.{settings_of};
     ghost use Rattle.atomic_kinds.specs.Counter.{due_after, held_counter, Counts, CountsAll};
 
@@ -134,6 +126,22 @@ impl CounterModel {
         } else {
             self.due
         }
+    }
+
+    // The state of these two numbers, if they are one.
+    fn take_state(&mut self, total: i64, due: i64) -> Result<(), RestoreRefusal>
+        ensures { RestoreGives (total ∷ due ∷ []) (held_counter self.old) (held_counter self.new)
+            result }
+    {
+        let Some(total) = value_of(total) else {
+            return Err(RestoreRefusal::BadState);
+        };
+        let Some(due) = due_of(due) else {
+            return Err(RestoreRefusal::BadState);
+        };
+        self.total = total;
+        self.due = due;
+        Ok(())
     }
 }
 

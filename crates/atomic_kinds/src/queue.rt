@@ -85,22 +85,16 @@ impl AtomicModel for QueueModel {
         let [phase, due, waiting @ ..] = words else {
             return Err(RestoreRefusal::BadState);
         };
-        let Some(phase) = phase_of(*phase, *due, waiting) else {
-            return Err(RestoreRefusal::BadState);
-        };
-        let waiting = values_of(alloc, waiting)?;
-        self.phase = phase;
-        self.waiting = waiting;
-        Ok(())
+        self.take_state(alloc, *phase, *due, waiting)
     }
 }
 
 impl QueueModel {
-    ghost use Rattle.std.specs.Prelude.{[], Option};
+    ghost use Rattle.std.specs.Prelude.{[], ◌∷◌, Option};
     ghost use Rattle.atomic_face.specs.declared.class.Class.TheVariants.{Queue};
     ghost use Rattle.atomic_face.specs.Queue.{queue_next, queue_internal, queue_input, queue_inputs, queue_closing};
     ghost use Rattle.atomic_face.specs.Classes.{is_at};
-    ghost use Rattle.atomic_face.specs.Moves.{started};
+    ghost use Rattle.atomic_face.specs.Moves.{started, RestoreGives};
     ghost use Rattle.atomic_face.specs.Settings.{settings_of};
     ghost use Rattle.atomic_kinds.specs.Queue.{held_queue, state_in};
 
@@ -177,6 +171,26 @@ impl QueueModel {
         {
             self.phase = Phase::Preparing(now.after(self.preparation));
         }
+    }
+
+    // The state of these numbers, if they are one.
+    fn take_state(
+        &mut self,
+        alloc: Global,
+        phase: i64,
+        due: i64,
+        waiting: &[i64],
+    ) -> Result<(), RestoreRefusal>
+        ensures { RestoreGives (phase ∷ due ∷ waiting.now) (held_queue self.old)
+            (held_queue self.new) result }
+    {
+        let Some(phase) = phase_of(phase, due, waiting) else {
+            return Err(RestoreRefusal::BadState);
+        };
+        let waiting = values_of(alloc, waiting)?;
+        self.phase = phase;
+        self.waiting = waiting;
+        Ok(())
     }
 
     // The numbers of the state.
