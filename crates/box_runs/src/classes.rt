@@ -57,7 +57,25 @@ fn advance<M: AtomicModel>(stock: &mut Stock<M>, no: BoxNo, course: &Course<'_>)
     Ok(())
 }
 
-// The box gives what it should and has the state that it should have, which can be restored.
+// The box gives what it should.
+fn gives<M: AtomicModel>(
+    rt: &impl Abort,
+    alloc: Global,
+    stock: &mut Stock<M>,
+    no: BoxNo,
+    course: &Course<'_>,
+) -> Result<(), Fail>
+    requires { no.0 < length stock.old }
+    ensures { length stock.new ≡ length stock.old }
+{
+    let due = stock.next(no).map(|time| time.ms());
+    let mut into = Vec::new(alloc);
+    stock.output(no, &mut into)?;
+    assert_eq!(rt; (due, into.as_slice()), (Some(course.due), course.values));
+    Ok(())
+}
+
+// The box has the state that it should have, which can be restored.
 fn stands<M: AtomicModel>(
     rt: &impl Abort,
     alloc: Global,
@@ -67,15 +85,24 @@ fn stands<M: AtomicModel>(
 ) -> Result<(), Fail>
     requires { no.0 < length stock.old }
 {
-    assert_eq!(rt; stock.next(no).map(|time| time.ms()), Some(course.due));
-    let mut into = Vec::new(alloc);
-    stock.output(no, &mut into)?;
-    assert_eq!(rt; into.as_slice(), course.values);
     let mut state = Vec::new(alloc);
     stock.save(no, &mut state)?;
     assert_eq!(rt; state.as_slice(), course.state);
     stock.restore(no, alloc, &state)?;
     Ok(())
+}
+
+fn leads<M: AtomicModel>(
+    rt: &impl Abort,
+    alloc: Global,
+    stock: &mut Stock<M>,
+    course: &Course<'_>,
+) -> Result<(), Fail> {
+    let no = taken(stock, course.class)?;
+    settle(stock, no, alloc, course)?;
+    advance(stock, no, course)?;
+    gives(rt, alloc, stock, no, course)?;
+    stands(rt, alloc, stock, no, course)
 }
 
 fn lead<M: AtomicModel>(
@@ -88,10 +115,7 @@ fn lead<M: AtomicModel>(
 {
     let mut stock = Stock::new(alloc, boxes)?;
     for course in courses {
-        let no = taken(&mut stock, course.class)?;
-        settle(&mut stock, no, alloc, course)?;
-        advance(&mut stock, no, course)?;
-        stands(rt, alloc, &mut stock, no, course)?;
+        leads(rt, alloc, &mut stock, course)?;
     }
     Ok(())
 }

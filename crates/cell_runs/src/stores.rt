@@ -136,6 +136,43 @@ fn told(wanted: &Wanted<'_>, next: Option<Time>) -> Result<Cell, Fail> {
 }
 
 /// What the store tells of its cell.
+fn tells<L: Ledger>(rt: &impl Abort, store: &CellStore, steps: &mut Steps<L>, told: &Cell) {
+    assert_eq!(rt; store.cells(), 1);
+    let cell = store.cell(0, steps);
+    let computed = store.computed(0, steps);
+    assert_eq!(rt;
+        (cell, computed, store.next(0)),
+        (*told, told.computed[0], told.next)
+    );
+}
+
+/// What the state of a cell of one port and no variables holds.
+fn holds(rt: &impl Abort, state: &CellState, told: &Cell, pairs: &[(Time, Value)]) {
+    assert_eq!(rt; (state.ports.len(), state.variables.len()), (1, 0));
+    for port in &state.ports {
+        assert_eq!(rt;
+            (port.emitted, port.computed, port.pairs.as_slice()),
+            (told.emitted[0], told.computed[0], pairs)
+        );
+    }
+}
+
+/// What the store tells of its cell, and the state that it gives.
+fn tells_and_holds<L: Ledger>(
+    rt: &(impl Abort + AllocGlobal),
+    store: &CellStore,
+    steps: &mut Steps<L>,
+    told: &Cell,
+    pairs: &[(Time, Value)],
+) -> Result<(), Fail> {
+    tells(rt, store, steps, told);
+    assert_eq!(rt; store.cells(), 1);
+    let state = store.state(rt.alloc(), 0, steps)?;
+    holds(rt, &state, told, pairs);
+    Ok(())
+}
+
+/// Compares the store with what its cell gave, computed and waits for.
 fn stands<L: Ledger>(
     rt: &(impl Abort + AllocGlobal),
     store: &CellStore,
@@ -144,18 +181,7 @@ fn stands<L: Ledger>(
 ) -> Result<(), Fail> {
     let pairs = waiting(rt.alloc(), wanted.pairs)?;
     let told = told(wanted, pairs.first().map(|pair| pair.0))?;
-    assert_eq!(rt; store.cells(), 1);
-    assert_eq!(rt; store.cell(0, steps), told);
-    assert_eq!(rt; store.computed(0, steps), told.computed[0]);
-    assert_eq!(rt; store.next(0), told.next);
-    let state = store.state(rt.alloc(), 0, steps)?;
-    assert_eq!(rt; (state.ports.len(), state.variables.len()), (1, 0));
-    for port in &state.ports {
-        assert_eq!(rt; port.emitted, told.emitted[0]);
-        assert_eq!(rt; port.computed, told.computed[0]);
-        assert_eq!(rt; port.pairs.as_slice(), pairs.as_slice());
-    }
-    Ok(())
+    tells_and_holds(rt, store, steps, &told, &pairs)
 }
 
 /// A value comes to the cell.

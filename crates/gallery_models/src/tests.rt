@@ -1,5 +1,5 @@
 // Each model of the gallery is read, over two boxes of each class.
-ghost use Rattle.std.specs.Prelude.{◌≡◌, ◌<◌, ◌^◌, length};
+ghost use Rattle.std.specs.Prelude.{◌≡◌, ◌+◌, ◌<◌, ◌^◌, length, IfOk};
 
 use crate::texts::{FILES, MODELS};
 use atomic_face::{AtomicModel, Stock};
@@ -31,19 +31,28 @@ fn is_read_over<M: AtomicModel>(
     Ok(read)
 }
 
+/// Puts a box of each class behind the others.
+fn push_each(alloc: Global, boxes: &mut Vec<Box<dyn AtomicModel>>) -> Result<(), Fail>
+    ensures { IfOk result (λ _. length boxes.new.items ≡ length boxes.old.items + 5) }
+{
+    let queue: Box<dyn AtomicModel> = Box::new(alloc, QueueModel::new(alloc))?;
+    boxes.push(queue)?;
+    let generator: Box<dyn AtomicModel> = Box::new(alloc, GeneratorModel::new())?;
+    boxes.push(generator)?;
+    let cpu: Box<dyn AtomicModel> = Box::new(alloc, CpuModel::new(alloc))?;
+    boxes.push(cpu)?;
+    let counter: Box<dyn AtomicModel> = Box::new(alloc, CounterModel::new())?;
+    boxes.push(counter)?;
+    let table: Box<dyn AtomicModel> = Box::new(alloc, TableModel::new(alloc)?)?;
+    boxes.push(table)?;
+    Ok(())
+}
+
 /// Whether the model of a file is read.
 fn is_read(alloc: Global, room: &mut MemoryRoom, name: &str) -> Result<bool, Fail> {
     let mut boxes: Vec<Box<dyn AtomicModel>> = Vec::new(alloc);
-    for number in 0..10_u32 {
-        let made: Box<dyn AtomicModel> = match number / 2 {
-            0 => Box::new(alloc, QueueModel::new(alloc))?,
-            1 => Box::new(alloc, GeneratorModel::new())?,
-            2 => Box::new(alloc, CpuModel::new(alloc))?,
-            3 => Box::new(alloc, CounterModel::new())?,
-            _ => Box::new(alloc, TableModel::new(alloc)?)?,
-        };
-        boxes.push(made)?;
-    }
+    push_each(alloc, &mut boxes)?;
+    push_each(alloc, &mut boxes)?;
     is_read_over(alloc, room, name, boxes)
 }
 

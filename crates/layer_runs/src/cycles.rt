@@ -128,6 +128,38 @@ fn moved(alloc: Global, at: Time, leaves: &[(u32, u8, Option<u32>)]) -> Result<V
     Ok(records)
 }
 
+/// What a call of `cycle` answers.
+fn answer(wanted: &Wanted<'_>, at: Time) -> Progress {
+    match wanted.at {
+        Some(_) => Progress::Cycled(at),
+        None => Progress::Done,
+    }
+}
+
+/// Compares the recorded values at the ports `out`.
+fn has_given(
+    rt: &(impl Abort + AllocGlobal),
+    records: &[YRecord],
+    at: Time,
+    leaves: &[(u32, u8)],
+) -> Result<(), Fail> {
+    let given = given(rt.alloc(), at, leaves)?;
+    assert_eq!(rt; records, given.as_slice());
+    Ok(())
+}
+
+/// Compares the recorded leaves that moved.
+fn has_moved(
+    rt: &(impl Abort + AllocGlobal),
+    records: &[SRecord],
+    at: Time,
+    leaves: &[(u32, u8, Option<u32>)],
+) -> Result<(), Fail> {
+    let moved = moved(rt.alloc(), at, leaves)?;
+    assert_eq!(rt; records, moved.as_slice());
+    Ok(())
+}
+
 /// One call of `cycle`: what it answers, and the records that it leaves.
 fn goes<L: Ledger>(
     rt: &(impl Abort + AllocGlobal),
@@ -136,21 +168,37 @@ fn goes<L: Ledger>(
     steps: &mut Steps<L>,
     wanted: &Wanted<'_>,
 ) -> Result<(), Fail> {
-    let went = run.cycle(records, steps);
     let at = time(wanted.at.unwrap_or(0))?;
-    let answer = match wanted.at {
-        Some(_) => Progress::Cycled(at),
-        None => Progress::Done,
-    };
-    assert_eq!(rt; went, Ok(answer));
-    let given = given(rt.alloc(), at, wanted.given)?;
-    assert_eq!(rt; records.y.as_slice(), given.as_slice());
-    let moved = moved(rt.alloc(), at, wanted.moved)?;
-    assert_eq!(rt; records.s.as_slice(), moved.as_slice());
-    Ok(())
+    let went = run.cycle(records, steps);
+    assert_eq!(rt; went, Ok(answer(wanted, at)));
+    has_given(rt, &records.y, at, wanted.given)?;
+    has_moved(rt, &records.s, at, wanted.moved)
 }
 
-/// Three calls, of which the third finds the run done.
+/// The calls, of which the third finds the run done.
+const CALLS: [Wanted<'static>; 3] = [
+    Wanted {
+        at: Some(0),
+        given: &[(0, b'0'), (1, b'1'), (2, b'0')],
+        moved: &[(0, b'1', Some(100)), (1, b'1', None), (2, b'1', Some(100))],
+    },
+    Wanted {
+        at: Some(100),
+        given: &[(0, b'1'), (2, b'1')],
+        moved: &[
+            (0, b'0', Some(200)),
+            (1, b'0', Some(200)),
+            (2, b'0', Some(200)),
+        ],
+    },
+    Wanted {
+        at: None,
+        given: &[],
+        moved: &[],
+    },
+];
+
+/// Makes the calls.
 fn three_calls<L: Ledger>(
     rt: &(impl Abort + AllocGlobal),
     run: &mut Run,
@@ -162,27 +210,7 @@ fn three_calls<L: Ledger>(
 {
     let mut steps: Steps<L> = Steps::new(blank);
     let mut records = Records::none(rt.alloc());
-    for wanted in &[
-        Wanted {
-            at: Some(0),
-            given: &[(0, b'0'), (1, b'1'), (2, b'0')],
-            moved: &[(0, b'1', Some(100)), (1, b'1', None), (2, b'1', Some(100))],
-        },
-        Wanted {
-            at: Some(100),
-            given: &[(0, b'1'), (2, b'1')],
-            moved: &[
-                (0, b'0', Some(200)),
-                (1, b'0', Some(200)),
-                (2, b'0', Some(200)),
-            ],
-        },
-        Wanted {
-            at: None,
-            given: &[],
-            moved: &[],
-        },
-    ] {
+    for wanted in &CALLS {
         goes(rt, run, &mut records, &mut steps, wanted)?;
     }
     Ok(())

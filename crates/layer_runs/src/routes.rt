@@ -11,6 +11,7 @@ use quantity::{Name, OutOfMemory, Time, Value};
 use route_flat::laws::each_port_has_its_list;
 use route_flat::{Routes, Source, Target, TargetPort};
 use std::alloc::{AllocError, Global};
+use std::process::Abort;
 use std::test::Fail;
 
 fn name(alloc: Global, text: &str) -> Result<Name, OutOfMemory> {
@@ -119,52 +120,68 @@ fn sources_at<'a>(model: &Model, routes: &'a Routes, leaf: u32, port: u16) -> Op
     Some(routes.sources(leaf, PortNo(port)))
 }
 
-#[test]
-fn a_queue_takes_from_two_generators(rt: HostRuntime) -> Result<(), Fail> {
-    let alloc = rt.alloc();
-    let mut top = served(alloc, a_box(alloc)?)?;
-    for (from, to, answer) in [
-        (("out", "h"), ("in", "q"), Ok(())),
-        (("a", "s"), ("in", "q"), Ok(())),
-        (("b", "s"), ("in", "q"), Ok(())),
-        (("out", "q"), ("o", ""), Ok(())),
-        (("out", "q"), ("in", "q"), Err(LinkRefusal::SelfLink)),
-    ] {
-        assert_eq!(rt; joined(alloc, &mut top, from, to)?, answer);
+/// Links of the component top, from and to a port of a child, or an own port where no child is named.
+const LINKS: [((&str, &str), (&str, &str)); 4] = [
+    (("out", "h"), ("in", "q")),
+    (("a", "s"), ("in", "q")),
+    (("b", "s"), ("in", "q")),
+    (("out", "q"), ("o", "")),
+];
+
+/// Adds the links, and one that is refused.
+fn join(rt: &(impl Abort + AllocGlobal), top: &mut Coupled) -> Result<(), Fail> {
+    for &(from, to) in &LINKS {
+        assert_eq!(rt; joined(rt.alloc(), top, from, to)?, Ok(()));
     }
-    let model = Model::new(alloc, top)?;
-    let routes = Routes::build(alloc, &model)?;
-    let [g, h] = [Source::Leaf(0), Source::Leaf(1)];
     assert_eq!(rt;
-        sources_at(&model, &routes, 2, 0),
-        Some([h, g, g].as_slice())
+        joined(rt.alloc(), top, ("out", "q"), ("in", "q"))?,
+        Err(LinkRefusal::SelfLink)
     );
     Ok(())
 }
 
-#[test]
-fn each_generator_has_its_targets(rt: HostRuntime) -> Result<(), Fail> {
-    let alloc = rt.alloc();
-    let mut top = served(alloc, a_box(alloc)?)?;
-    for (from, to) in [
-        (("out", "h"), ("in", "q")),
-        (("a", "s"), ("in", "q")),
-        (("b", "s"), ("in", "q")),
-        (("out", "q"), ("o", "")),
-    ] {
-        let _joined = joined(alloc, &mut top, from, to)?;
-    }
-    let model = Model::new(alloc, top)?;
-    let routes = Routes::build(alloc, &model)?;
+/// The model of the component top.
+fn model_of(rt: &(impl Abort + AllocGlobal)) -> Result<Model, Fail> {
+    let mut top = served(rt.alloc(), a_box(rt.alloc())?)?;
+    join(rt, &mut top)?;
+    Ok(Model::new(rt.alloc(), top)?)
+}
+
+/// A queue takes from two generators.
+fn takes_from_two(rt: &impl Abort, model: &Model, routes: &Routes)
+    requires { OfTree model.now (λ t. RoutesOf t routes.now) }
+{
+    let [g, h] = [Source::Leaf(0), Source::Leaf(1)];
+    assert_eq!(rt; sources_at(model, routes, 2, 0), Some([h, g, g].as_slice()));
+}
+
+/// Each generator has its targets, and the queue has the output.
+fn each_has_its_targets(rt: &impl Abort, routes: &Routes) {
     let queue = TargetPort::Leaf(2, PortNo(0));
     let [first, second] = [target(queue, 1, 1), target(queue, 2, 2)];
-    assert_eq!(rt; routes.targets(Source::Leaf(0)), [first, second].as_slice());
-    assert_eq!(rt;
-        routes.targets(Source::Leaf(1)),
-        [target(queue, 0, 0)].as_slice()
-    );
+    let third = target(queue, 0, 0);
     let output = target(TargetPort::TopOut(0), 0, 3);
-    assert_eq!(rt; routes.targets(Source::Leaf(2)), [output].as_slice());
-    assert_eq!(rt; routes.targets(Source::TopIn(0)), [].as_slice());
+    assert_eq!(rt;
+        (
+            routes.targets(Source::Leaf(0)),
+            routes.targets(Source::Leaf(1)),
+            routes.targets(Source::Leaf(2)),
+            routes.targets(Source::TopIn(0))
+        ),
+        (
+            [first, second].as_slice(),
+            [third].as_slice(),
+            [output].as_slice(),
+            [].as_slice()
+        )
+    );
+}
+
+#[test]
+fn two_generators_feed_a_queue(rt: HostRuntime) -> Result<(), Fail> {
+    let model = model_of(&rt)?;
+    let routes = Routes::build(rt.alloc(), &model)?;
+    takes_from_two(&rt, &model, &routes);
+    each_has_its_targets(&rt, &routes);
     Ok(())
 }

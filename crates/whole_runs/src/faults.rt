@@ -9,15 +9,44 @@ use std::alloc::Global;
 use std::process::Abort;
 use std::test::Fail;
 
+/// A run over one file: its name, its text, and the words.
+#[derive(Clone, Copy)]
+struct Start<'a> {
+    name: &'a str,
+    model: &'a str,
+    words: &'a str,
+}
+
 /// The words for a run of the ring.
 const RING_WORDS: &str = "cdpp -m row1.ma -t 00:00:00:100 -l log.txt";
+
+/// A run of the ring.
+const RING_RUN: Start<'static> = Start {
+    name: "row1.ma",
+    model: models::RING,
+    words: RING_WORDS,
+};
+
+/// A run that makes two files.
+const SERVED_RUN: Start<'static> = Start {
+    name: "t.ma",
+    model: models::SERVED,
+    words: "cdpp -m t.ma -t 00:00:00:000 -l log.txt -o out.txt -L YXS",
+};
+
+/// A run that is refused by its words.
+const REFUSED_RUN: Start<'static> = Start {
+    name: "row1.ma",
+    model: models::RING,
+    words: "cdpp -m row1.ma",
+};
 
 /// What a run of the ring shows.
 const RING_SHOWN: &str = "end 00:00:00:100 cycles 2\n";
 
-/// What is left of a run: its status, its complaint, and how many bytes of the log were made, if it
-/// was.
-#[derive(Drop)]
+/// What is left of a run: its status, its complaint, and how many bytes of the ring's log were made,
+/// if it was.
+#[derive(Clone, Copy)]
 struct Left<'a> {
     status: u8,
     complained: &'a str,
@@ -41,35 +70,67 @@ fn room_of(alloc: Global, name: &str, bytes: &[u8]) -> Result<MemoryRoom, Fail> 
     Ok(room)
 }
 
-/// Runs the ring in the room, and compares what is left.
+/// The beginning of the ring's log that is left.
+fn log_of(wanted: &Left<'_>) -> Option<&'static [u8]> {
+    match wanted.log {
+        Some(count) => Some(first(models::RING_LOG, count)),
+        None => None,
+    }
+}
+
+/// Compares the files that were made: the beginning of the ring's log, and no other.
+fn are_made(rt: &impl Abort, room: &MemoryRoom, wanted: &Left<'_>) {
+    assert_eq!(rt; room.made("log.txt"), log_of(wanted));
+    assert_eq!(rt; room.made("out.txt"), None);
+}
+
+/// Compares what was answered with what is wanted.
+fn stands(rt: &impl Abort, status: u8, room: &MemoryRoom, wanted: &Left<'_>) {
+    let shown = if status == 0 { RING_SHOWN } else { "" };
+    assert_eq!(rt;
+        (status, room.shown(), room.complained()),
+        (
+            wanted.status,
+            shown.as_bytes(),
+            wanted.complained.as_bytes()
+        )
+    );
+}
+
+/// Runs the words in the room, and compares what is left.
 fn leaves(
     rt: &(impl Abort + AllocGlobal),
+    words: &str,
     room: &mut MemoryRoom,
     wanted: &Left<'_>,
 ) -> Result<(), Fail> {
-    let status = run(rt.alloc(), RING_WORDS, room)?;
-    assert_eq!(rt; status, wanted.status);
-    assert_eq!(rt; room.complained(), wanted.complained.as_bytes());
-    let shown = if status == 0 { RING_SHOWN } else { "" };
-    assert_eq!(rt; room.shown(), shown.as_bytes());
-    let log = match wanted.log {
-        Some(count) => Some(first(models::RING_LOG, count)),
-        None => None,
-    };
-    assert_eq!(rt; room.made("log.txt"), log);
+    let status = run(rt.alloc(), words, room)?;
+    stands(rt, status, room, wanted);
+    are_made(rt, room, wanted);
     Ok(())
 }
 
-/// Runs the ring where one call of the room fails.
+/// Runs where one call of the room fails.
 fn leaves_at(
+    rt: &(impl Abort + AllocGlobal),
+    start: &Start<'_>,
+    call: RoomCall,
+    number: u64,
+    wanted: &Left<'_>,
+) -> Result<(), Fail> {
+    let mut room = room_of(rt.alloc(), start.name, start.model.as_bytes())?;
+    room.fail(call, number)?;
+    leaves(rt, start.words, &mut room, wanted)
+}
+
+/// Runs the ring where one call of the room fails.
+fn ring_leaves_at(
     rt: &(impl Abort + AllocGlobal),
     call: RoomCall,
     number: u64,
     wanted: &Left<'_>,
 ) -> Result<(), Fail> {
-    let mut room = room_of(rt.alloc(), "row1.ma", models::RING.as_bytes())?;
-    room.fail(call, number)?;
-    leaves(rt, &mut room, wanted)
+    leaves_at(rt, &RING_RUN, call, number, wanted)
 }
 
 #[test]
@@ -79,17 +140,17 @@ fn no_file_is_made_where_the_model_is_not_read(rt: HostRuntime) -> Result<(), Fa
         complained: "read fault: row1.ma\n",
         log: None,
     };
-    leaves_at(&rt, RoomCall::Open, 1, &unread)?;
+    ring_leaves_at(&rt, RoomCall::Open, 1, &unread)?;
     // The model has 271 bytes: five pieces, and the end.
     for number in 1..7 {
-        leaves_at(&rt, RoomCall::Read, number, &unread)?;
+        ring_leaves_at(&rt, RoomCall::Read, number, &unread)?;
     }
     let whole = Left {
         status: 0,
         complained: "",
         log: Some(225),
     };
-    leaves_at(&rt, RoomCall::Read, 7, &whole)
+    ring_leaves_at(&rt, RoomCall::Read, 7, &whole)
 }
 
 #[test]
@@ -108,14 +169,14 @@ fn a_log_that_is_not_written_keeps_its_beginning(rt: HostRuntime) -> Result<(), 
             complained: "write fault: log.txt\n",
             log,
         };
-        leaves_at(&rt, call, number, &cut)?;
+        ring_leaves_at(&rt, call, number, &cut)?;
     }
     let whole = Left {
         status: 0,
         complained: "",
         log: Some(225),
     };
-    leaves_at(&rt, RoomCall::Append, 6, &whole)
+    ring_leaves_at(&rt, RoomCall::Append, 6, &whole)
 }
 
 #[test]
@@ -125,24 +186,21 @@ fn a_log_stays_where_the_end_is_not_shown(rt: HostRuntime) -> Result<(), Fail> {
         complained: "write fault: standard output\n",
         log: Some(225),
     };
-    leaves_at(&rt, RoomCall::Show, 1, &unshown)
+    ring_leaves_at(&rt, RoomCall::Show, 1, &unshown)
 }
 
 #[test]
 fn a_second_file_is_not_made(rt: HostRuntime) -> Result<(), Fail> {
-    let words = "cdpp -m t.ma -t 00:00:00:000 -l log.txt -o out.txt -L YXS";
-    let none: Option<&[u8]> = None;
-    let empty: Option<&[u8]> = Some(b"".as_slice());
     for (number, complained, log) in [
-        (1, "write fault: log.txt\n", none),
-        (2, "write fault: out.txt\n", empty),
+        (1, "write fault: log.txt\n", None),
+        (2, "write fault: out.txt\n", Some(0)),
     ] {
-        let mut room = room_of(rt.alloc(), "t.ma", models::SERVED.as_bytes())?;
-        room.fail(RoomCall::Create, number)?;
-        assert_eq!(rt; run(rt.alloc(), words, &mut room)?, 5);
-        assert_eq!(rt; room.complained(), complained.as_bytes());
-        assert_eq!(rt; room.made("log.txt"), log);
-        assert_eq!(rt; room.made("out.txt"), None);
+        let unmade = Left {
+            status: 5,
+            complained,
+            log,
+        };
+        leaves_at(&rt, &SERVED_RUN, RoomCall::Create, number, &unmade)?;
     }
     Ok(())
 }
@@ -150,10 +208,12 @@ fn a_second_file_is_not_made(rt: HostRuntime) -> Result<(), Fail> {
 #[test]
 fn a_complaint_fails(rt: HostRuntime) -> Result<(), Fail> {
     for (number, status, complained) in [(1, 5, ""), (99, 2, USAGE)] {
-        let mut room = room_of(rt.alloc(), "row1.ma", models::RING.as_bytes())?;
-        room.fail(RoomCall::Complain, number)?;
-        assert_eq!(rt; run(rt.alloc(), "cdpp -m row1.ma", &mut room)?, status);
-        assert_eq!(rt; room.complained(), complained.as_bytes());
+        let refused = Left {
+            status,
+            complained,
+            log: None,
+        };
+        leaves_at(&rt, &REFUSED_RUN, RoomCall::Complain, number, &refused)?;
     }
     Ok(())
 }
@@ -167,7 +227,7 @@ fn cut_leaves(
 ) -> Result<(), Fail> {
     for count in from..to {
         let mut room = room_of(rt.alloc(), "row1.ma", first(models::RING, count))?;
-        leaves(rt, &mut room, wanted)?;
+        leaves(rt, RING_WORDS, &mut room, wanted)?;
     }
     Ok(())
 }
@@ -247,20 +307,27 @@ fn a_model_that_is_cut_after_a_line_runs(rt: HostRuntime) -> Result<(), Fail> {
     Ok(())
 }
 
-/// Draws the first bytes of the ring's log.
+/// Draws the log in the room.
+fn drawn(alloc: Global, room: &mut MemoryRoom) -> Result<u8, Fail> {
+    let words = words_of(alloc, "drawlog -l log.txt -g line -s 1,3")?;
+    Ok(drawlog(alloc, &words, room))
+}
+
+/// Draws the first bytes of the ring's log, and compares what is left.
 fn draws(
     rt: &(impl Abort + AllocGlobal),
     count: usize,
-    status: u8,
+    wanted_status: u8,
     shown: &str,
     complained: &str,
 ) -> Result<(), Fail> {
-    let alloc = rt.alloc();
-    let words = words_of(alloc, "drawlog -l log.txt -g line -s 1,3")?;
-    let mut room = room_of(alloc, "log.txt", first(models::RING_LOG, count))?;
-    assert_eq!(rt; drawlog(alloc, &words, &mut room), status, "{count}");
-    assert_eq!(rt; room.shown(), shown.as_bytes(), "{count}");
-    assert_eq!(rt; room.complained(), complained.as_bytes(), "{count}");
+    let mut room = room_of(rt.alloc(), "log.txt", first(models::RING_LOG, count))?;
+    let status = drawn(rt.alloc(), &mut room)?;
+    assert_eq!(rt;
+        (status, room.shown(), room.complained()),
+        (wanted_status, shown.as_bytes(), complained.as_bytes()),
+        "{count}"
+    );
     Ok(())
 }
 
