@@ -30,7 +30,7 @@ use Rattle.record_text.specs.declared.records.Records.{Records}
 use Rattle.record_text.specs.Held.{Holds, y_at, x_at, s_at, out_at}
 use Rattle.record_text.specs.Chosen.{is_chosen, letters_of}
 use Rattle.record_text.specs.RecordTexts.{text_at, y_text, y_texts, x_text, x_texts, s_text}
-use Rattle.record_text.specs.RecordTexts.{s_texts, all_if, log_text, out_texts}
+use Rattle.record_text.specs.RecordTexts.{s_texts, all_if, letter_text, log_text, out_texts}
 
 -- ---- lines that are kept, and lines that are not
 
@@ -97,6 +97,7 @@ y_part : (cs : List ℕ) (ls : List Leaf) (time : ℕ) (letter : Letter) (b : Bo
     → items ≡ map (y_at time) rs
     → y_texts letter ls (all_if b items)
     ≡ written cs (filter_map (given_line ls time letter out_port_name) rs)
+unfolding y_text
 y_part cs ls time letter true e rs items is =
     ap (y_texts letter ls) is
     ∙ flat_map-map (λ (r : YRecord). text_at (y_text letter r) (slice_get ls r.leaf)) (y_at time) rs
@@ -106,6 +107,7 @@ y_part cs ls time letter false e rs items is = sym (given_left cs ls time letter
 x_part : (cs : List ℕ) (ls : List Leaf) (time : ℕ) (b : Bool) → has_letter cs X ≡ b
     → (rs : List PortRecord) (items : List XRecord) → items ≡ map (x_at time) rs
     → x_texts ls (all_if b items) ≡ written cs (filter_map (given_line ls time X in_port_name) rs)
+unfolding x_text
 x_part cs ls time true e rs items is =
     ap (x_texts ls) is
     ∙ flat_map-map (λ (r : XRecord). text_at (x_text r) (slice_get ls r.leaf)) (x_at time) rs
@@ -138,6 +140,7 @@ module _ (cs : List ℕ) (ls : List Leaf) (time : ℕ) where
 s_part : (cs : List ℕ) (ls : List Leaf) (time : ℕ) (b : Bool) → has_letter cs S ≡ b
     → (rs : List StateRecord) (items : List SRecord) → items ≡ map (s_at time) rs
     → s_texts ls (all_if b items) ≡ written cs (filter_map (moved_line ls time) rs)
+unfolding s_text
 s_part cs ls time true e rs items is =
     ap (s_texts ls) is
     ∙ flat_map-map (λ (r : SRecord). text_at (s_text r) (slice_get ls r.leaf)) (s_at time) rs
@@ -161,15 +164,8 @@ each_written cs lines text each (k ∷ ks) =
     ∙ sym (written-append cs (lines k) (flat_map lines ks))
 
 module _ (ls : List Leaf) (letters : Letters) (r : Records) where
-  -- what is written of the records of a letter
-  abbrev text_of : Letter → Bytes
-  text_of Y = y_texts Y ls (all_if letters.y r.y.items)
-  text_of N = y_texts N ls (all_if letters.n r.n.items)
-  text_of X = x_texts ls (all_if letters.x r.x.items)
-  text_of S = s_texts ls (all_if letters.s r.s.items)
-
   letter_is : (c : Cycle) → Holds r c → (k : Letter)
-      → text_of k ≡ written (letters_of letters) (lines_of_letter ls c k)
+      → letter_text ls letters r k ≡ written (letters_of letters) (lines_of_letter ls c k)
   letter_is c h Y =
       y_part (letters_of letters) ls c.time Y letters.y (has_chosen letters Y) c.y r.y.items h.y
   letter_is c h N =
@@ -179,7 +175,8 @@ module _ (ls : List Leaf) (letters : Letters) (r : Records) where
   letter_is c h S =
       s_part (letters_of letters) ls c.time letters.s (has_chosen letters S) c.s r.s.items h.s
 
-  in_turn : log_text ls letters r ≡ flat_map text_of all_letters
+  in_turn : log_text ls letters r ≡ flat_map (letter_text ls letters r) all_letters
+  unfolding log_text
   in_turn = simp (append_assoc, append-nil)
 
 pub log_is : (tree : Tree) (letters : Letters) (r : Records) (c : Cycle) → Holds r c
@@ -188,7 +185,7 @@ log_is tree letters r c h =
     let ls = leaves tree in
     let cs = letters_of letters in
     in_turn ls letters r
-    ∙ each_written cs (lines_of_letter ls c) (text_of ls letters r) (letter_is ls letters r c h)
+    ∙ each_written cs (lines_of_letter ls c) (letter_text ls letters r) (letter_is ls letters r c h)
     all_letters ∙ ap (written cs) (sym (append-nil (cycle_lines ls c)))
 
 pub out_is : (tree : Tree) (r : Records) (c : Cycle) → Holds r c

@@ -1,9 +1,10 @@
 -- How lines begin: letter, time and leaf.
-use Rattle.std.proofs.Common.{◌≡◌, ℕ, zero, suc, ◌+◌, ◌*◌, ◌<◌, Option, Some, None, List, [], ◌∷◌, ◌++◌, refl, sym, ap, ◌∙◌, subst, append_assoc, arith, lit<, length, map, take, drop, codes, decimal, slice_get}
-use Rattle.std.specs.Prelude.{pos}
+use Rattle.std.proofs.Common.{◌≡◌, ℕ, zero, suc, ◌+◌, ◌-◌, ◌*◌, ◌<◌, Option, Some, None, List, [], ◌∷◌, ◌++◌, refl, sym, ap, ◌∙◌, subst, append_assoc, arith, lit<, length, map, take, drop, codes, decimal, slice_get}
+use Rattle.std.specs.Prelude.{pos, Result, OnOk}
 use Rattle.std.specs.List.{join_with_byte}
 use Rattle.std.proofs.Math.Seq.{drop-append_seam}
 use Rattle.std.proofs.lemmas.Fmt.{decimal_digit}
+use Rattle.std.proofs.lemmas.List.{take_rest}
 use Rattle.std.proofs.lemmas.Option.{slice_get_within}
 use Rattle.quantity.specs.declared.place.Place.{Place}
 use Rattle.quantity.specs.declared.value.Value.{Value}
@@ -32,7 +33,7 @@ use Rattle.text_forms.specs.Letters.{letter_byte}
 use Rattle.record_text.specs.RecordTexts.{head_text}
 use Rattle.record_text.specs.Begun.{begun, place_text, IsBeginning, IsOfGroup, IsStart, OfGroup}
 use Rattle.record_text.specs.declared.start.Begins.{Begins}
-use Rattle.record_text.specs.declared.start.Begins.TheVariants.{Cells}
+use Rattle.record_text.specs.declared.start.Begins.TheVariants.{Nothing, Boxes, Cells}
 use Rattle.record_text.specs.declared.start.Start.{Start}
 use Rattle.record_text.proofs.Appended.{leaf_of}
 
@@ -65,6 +66,7 @@ parts_joined old a t s name places = simp append_assoc
 
 group_head : (old : Bytes) (letter : Letter) (time first cell : ℕ) (g : Group)
     → old ++ (begun letter time ++ g.name ++ codes "(") ++ place_text g.space cell ≡ old ++ head_text letter time (cell_leaf g first cell)
+unfolding begun place_text head_text
 group_head old letter time first cell g =
     let p = place_of g.space cell in
     parts_joined old (letter_byte letter ∷ codes " / ") (time_text time) (codes " / ") g.name (join_with_byte 44 (map decimal (take (dims_of g.space) (coordinates p))))
@@ -120,27 +122,43 @@ group_within m leaf number cell there place =
 
 -- ---- what was appended is what such lines begin with
 
-begun_named : (old a name new1 new2 new3 : Bytes) → new1 ≡ old ++ a → new2 ≡ new1 ++ name → new3 ≡ new2 ++ codes "(" → new3 ≡ old ++ (a ++ name ++ codes "(")
+pub begun_named : (old a name new1 new2 new3 : Bytes) → new1 ≡ old ++ a → new2 ≡ new1 ++ name → new3 ≡ new2 ++ codes "(" → new3 ≡ old ++ (a ++ name ++ codes "(")
 begun_named old a name new1 new2 new3 p q r = r ∙ ap (λ x. x ++ codes "(") (q ∙ ap (λ x. x ++ name) p) ∙ again old a name
   where
     again : (old a name : Bytes) → ((old ++ a) ++ name) ++ codes "(" ≡ old ++ (a ++ name ++ codes "(")
     again old a name = simp append_assoc
 
-pub group_begun : (m : Model) (letter : Letter) (time number : ℕ) (found : CellGroup) (old new1 new2 new3 : Bytes) → ((settings : Settings) → slice_get (groups (tree_of m settings)) number ≡ Some (group_of found)) → new1 ≡ old ++ begun letter time → new2 ≡ new1 ++ found.name → new3 ≡ new2 ++ codes "("
-    → OfGroup m number (λ g. (new3 ≡ old ++ (begun letter time ++ g.name ++ codes "(")) × (found.grid ≡ g.space))
-group_begun m letter time number found old new1 new2 new3 is a b c settings g e =
+-- what holds of the group that is found holds of the group of this number
+pub of_group : (m : Model) (number : ℕ) (found : CellGroup) → ((settings : Settings) → slice_get (groups (tree_of m settings)) number ≡ Some (group_of found)) → (P : Group → Type 0) → P (group_of found) → OfGroup m number P
+of_group m number found is P p settings g e =
     let same : group_of found ≡ g = cc (is settings) in
-    subst (λ (x : Group). (new3 ≡ old ++ (begun letter time ++ x.name ++ codes "(")) × (found.grid ≡ x.space)) same
-    (begun_named old (begun letter time) found.name new1 new2 new3 a b c, refl)
+    subst P same p
 
-pub appended_part : (old new more : Bytes) (n : ℕ) → n ≡ length old → new ≡ old ++ more → drop n new ≡ more
-appended_part old new more n e h = ap (λ (k : ℕ). drop k new) e ∙ ap (drop (length old)) h ∙ drop-append_seam old more
+-- what stands behind what was there is what was appended
+pub appended_part : (now old new more : Bytes) (n : ℕ) → now ≡ new → n ≡ length old → new ≡ old ++ more → take (length now - n) (drop n now) ≡ more
+appended_part now old new more n is e h =
+    take_rest now n ∙ ap (λ (k : ℕ). drop k now) e ∙ ap (drop (length old)) (is ∙ h) ∙ drop-append_seam old more
 
 -- ---- what is kept of a beginning
 
 -- a beginning of a group's lines, as the start tells it
 pub is_of_group : (m : Model) (s : Start) (time number : ℕ) (grid : Space) → IsStart m s → s.of ≡ Cells time number grid → OfGroup m number (IsOfGroup s.letter time grid s.text)
+unfolding IsStart
 is_of_group m s time number grid right is = subst (λ (b : Begins). IsBeginning m s.letter b s.text) is right
+
+-- nothing that is kept is right
+pub nothing_begun : (m : Model) (s : Start) → s.of ≡ Nothing → IsStart m s
+unfolding IsStart
+nothing_begun m s is = subst (λ (b : Begins). IsBeginning m s.letter b s.text) (sym is) tt
+
+-- a beginning of boxes' lines, as the start tells it
+pub boxes_begun : (m : Model) (s : Start) (ms time : ℕ) → IsStart m s → s.of ≡ Boxes ms → ms ≡ time → s.text ≡ begun s.letter time
+unfolding IsStart
+boxes_begun m s ms time right is e = subst (λ (b : Begins). IsBeginning m s.letter b s.text) is right ∙ ap (begun s.letter) e
+
+-- what is appended is the same text by another name
+pub ok_appended : {A E : Type 0} (r : Result A E) (old new a b : Bytes) → OnOk r (new ≡ old ++ a) → a ≡ b → OnOk r (new ≡ old ++ b)
+ok_appended r old new a b h e = subst (λ (x : Bytes). OnOk r (new ≡ old ++ x)) e h
 
 pub then_more : (a b more text : Bytes) → b ≡ a ++ text → more ≡ text → b ≡ a ++ more
 then_more a b more text h e = h ∙ ap (λ (x : Bytes). a ++ x) (sym e)

@@ -16,7 +16,7 @@ use Rattle.record_text.specs.declared.start.Begins.TheVariants.{Nothing, Boxes, 
 use Rattle.record_text.specs.declared.start.Start.{Start}
 
 -- letter and time
-abbrev pub begun : Letter → ℕ → Bytes
+unfoldable pub begun : Letter → ℕ → Bytes
 begun letter time = (letter_byte letter ∷ codes " / ") ++ time_text time ++ codes " / "
 
 -- the coordinates of a cell
@@ -25,7 +25,7 @@ coordinates_text s cell =
     join_with_byte 44 (map decimal (take (dims_of s) (coordinates (place_of s cell))))
 
 -- what stands behind a group's name and a parenthesis
-abbrev pub place_text : Space → ℕ → Bytes
+unfoldable pub place_text : Space → ℕ → Bytes
 place_text s cell = coordinates_text s cell ++ codes ") / "
 
 -- this holds of the group of this number, whatever the settings
@@ -47,5 +47,5 @@ IsBeginning m letter (Cells time group grid) text =
     OfGroup m group (IsOfGroup letter time grid text)
 
 -- what is kept of the beginning is right
-abbrev pub IsStart : Model → Start → Type 0
+unfoldable pub IsStart : Model → Start → Type 0
 IsStart m s = IsBeginning m s.letter s.of s.text

@@ -7,7 +7,7 @@ use Rattle.quantity.specs.Times.{time_text}
 use Rattle.model_tree.specs.Tree.{Word, Leaf}
 use Rattle.model_tree.specs.LeafTexts.{leaf_text}
 use Rattle.text_forms.specs.declared.letter.Letter.{Letter}
-use Rattle.text_forms.specs.declared.letter.Letter.TheVariants.{Y, N, X}
+use Rattle.text_forms.specs.declared.letter.Letter.TheVariants.{Y, N, X, S}
 use Rattle.text_forms.specs.Letters.{letter_byte}
 use Rattle.text_forms.specs.LogLine.{given, moved, line_text}
 use Rattle.text_forms.specs.Lines as forms
@@ -20,22 +20,22 @@ use Rattle.record_text.specs.declared.records.OutRecord.{OutRecord}
 use Rattle.record_text.specs.declared.records.Records.{Records}
 
 -- letter, time and leaf of a line
-abbrev pub head_text : Letter → ℕ → Leaf → Bytes
+unfoldable pub head_text : Letter → ℕ → Leaf → Bytes
 head_text letter time l =
     (letter_byte letter ∷ codes " / ") ++ time_text time ++ codes " / " ++ leaf_text l
     ++ codes " / "
 
 -- the line of a value given at an output port
-abbrev pub y_text : Letter → YRecord → Leaf → Bytes
+unfoldable pub y_text : Letter → YRecord → Leaf → Bytes
 y_text letter r l =
     ended (line_text (given letter r.time (leaf_name l) (out_port_name l r.port.0) r.value))
 
 -- the line of a value that reached an input port
-abbrev pub x_text : XRecord → Leaf → Bytes
+unfoldable pub x_text : XRecord → Leaf → Bytes
 x_text r l = ended (line_text (given X r.time (leaf_name l) (in_port_name l r.port.0) r.value))
 
 -- the line of a leaf that moved
-abbrev pub s_text : SRecord → Leaf → Bytes
+unfoldable pub s_text : SRecord → Leaf → Bytes
 s_text r l = ended (line_text (moved r.time (leaf_name l) r.value r.next))
 
 -- the text of a leaf, where there is one
@@ -60,11 +60,18 @@ s_texts ls rs = flat_map (λ (r : SRecord). text_at (s_text r) (slice_get ls r.l
 abbrev pub all_if : {A : Type 0} → Bool → List A → List A
 all_if chosen xs = if chosen then xs else []
 
+-- the lines of a letter, where it is chosen
+abbrev pub letter_text : List Leaf → Letters → Records → Letter → Bytes
+letter_text ls letters r Y = y_texts Y ls (all_if letters.y r.y.items)
+letter_text ls letters r N = y_texts N ls (all_if letters.n r.n.items)
+letter_text ls letters r X = x_texts ls (all_if letters.x r.x.items)
+letter_text ls letters r S = s_texts ls (all_if letters.s r.s.items)
+
 -- the lines of the chosen letters
-abbrev pub log_text : List Leaf → Letters → Records → Bytes
+unfoldable pub log_text : List Leaf → Letters → Records → Bytes
 log_text ls letters r =
-    y_texts Y ls (all_if letters.y r.y.items) ++ y_texts N ls (all_if letters.n r.n.items)
-    ++ x_texts ls (all_if letters.x r.x.items) ++ s_texts ls (all_if letters.s r.s.items)
+    letter_text ls letters r Y ++ letter_text ls letters r N ++ letter_text ls letters r X
+    ++ letter_text ls letters r S
 
 -- the lines of outputs of top
 abbrev pub out_texts : List Word → List OutRecord → Bytes

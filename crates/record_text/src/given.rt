@@ -55,8 +55,7 @@ fn put_given_line(
 {
     start.put_head(given.time, given.leaf, model, into)?;
     put_out_port(given.leaf, given.port, model, into)?;
-    put_value(given.value, into)?;
-    Ok(())
+    put_value(given.value, into)
 }
 
 /// Appends the name of a leaf's output port, and a stroke. The first port of each leaf is `out`.
@@ -73,12 +72,10 @@ fn put_out_port(
     ensures kept { take (length into.old.items) into.new.items ≡ into.old.items }
 {
     if port.0 == 0 {
-        put(b"out / ", into)?;
-        return Ok(());
+        return put(b"out / ", into);
     }
     model.out_port_text(leaf, port, into)?;
-    put(b" / ", into)?;
-    Ok(())
+    put(b" / ", into)
 }
 
 /// Appends the lines of values that reached leaves.
@@ -116,8 +113,7 @@ fn put_reached_line(
 {
     start.put_head(reached.time, reached.leaf, model, into)?;
     put_in_port(reached.leaf, reached.port, model, into)?;
-    put_value(reached.value, into)?;
-    Ok(())
+    put_value(reached.value, into)
 }
 
 /// Appends the name of a leaf's input port, and a stroke.
@@ -134,6 +130,5 @@ fn put_in_port(
     ensures kept { take (length into.old.items) into.new.items ≡ into.old.items }
 {
     model.port_text(leaf, port, into)?;
-    put(b" / ", into)?;
-    Ok(())
+    put(b" / ", into)
 }

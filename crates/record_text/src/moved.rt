@@ -53,8 +53,7 @@ fn put_moved_line(
     put_state(&moved.value, into)?;
     put(b" / ", into)?;
     put_next(moved.next, into)?;
-    put(b"\n", into)?;
-    Ok(())
+    put(b"\n", into)
 }
 
 /// Appends the computed value of a cell, or `-`.
@@ -75,9 +74,6 @@ fn put_next(next: Option<Time>, into: &mut Vec<u8>) -> Result<(), OutOfMemory>
 {
     match next {
         None => put(b"...", into),
-        Some(time) => {
-            time.text(into)?;
-            Ok(())
-        }
+        Some(time) => time.text(into),
     }
 }

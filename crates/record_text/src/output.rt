@@ -34,8 +34,7 @@ fn put_output(output: &OutRecord, names: &[Name], into: &mut Vec<u8>) -> Result<
     put(name_at(names, output.port), into)?;
     put(b" ", into)?;
     output.value.text5(into)?;
-    put(b"\n", into)?;
-    Ok(())
+    put(b"\n", into)
 }
 
 /// The name of this number; no bytes where there is none.

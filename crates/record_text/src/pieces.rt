@@ -17,8 +17,7 @@ pub(crate) fn put_begun(letter: Letter, time: Time, into: &mut Vec<u8>) -> Resul
 {
     put(&[letter.byte(), b' ', b'/', b' '], into)?;
     time.text(into)?;
-    put(b" / ", into)?;
-    Ok(())
+    put(b" / ", into)
 }
 
 /// Appends how a leaf is called.
@@ -27,8 +26,7 @@ pub(crate) fn put_leaf(leaf: u32, model: &Model, into: &mut Vec<u8>) -> Result<(
     ensures ok { OnOk result (Appends model.now leaf leaf_text into.old.items into.new.items) }
     ensures kept { take (length into.old.items) into.new.items ≡ into.old.items }
 {
-    model.leaf_text(leaf, into)?;
-    Ok(())
+    model.leaf_text(leaf, into)
 }
 
 /// Appends the value at the end of a line.
@@ -40,14 +38,13 @@ pub(crate) fn put_value(value: Value, into: &mut Vec<u8>) -> Result<(), OutOfMem
     match one_digit(&value) {
         Some(digit) => {
             let text = [b'0' + digit, b'.', b'0', b'0', b'0', b'0', b'0', b'\n'];
-            put(&text, into)?
+            put(&text, into)
         }
         None => {
             value.text5(into)?;
-            put(b"\n", into)?
+            put(b"\n", into)
         }
     }
-    Ok(())
 }
 
 /// Appends a value. Most are whole numbers of one digit, whose text is known.
@@ -56,10 +53,9 @@ pub(crate) fn put_number(value: Value, into: &mut Vec<u8>) -> Result<(), OutOfMe
     ensures kept { take (length into.old.items) into.new.items ≡ into.old.items }
 {
     match one_digit(&value) {
-        Some(digit) => put(&[b'0' + digit, b'.', b'0', b'0', b'0', b'0', b'0'], into)?,
-        None => value.text5(into)?,
+        Some(digit) => put(&[b'0' + digit, b'.', b'0', b'0', b'0', b'0', b'0'], into),
+        None => value.text5(into),
     }
-    Ok(())
 }
 
 /// The digit of a whole number below 10.

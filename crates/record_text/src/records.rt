@@ -5,7 +5,7 @@ use std::alloc::Global;
 use text_forms::Letter;
 
 /// The letters of the log's lines that are written.
-#[derive(Clone, Copy, PartialEq, Eq, Debug)]
+#[derive(Clone, Copy)]
 pub struct Letters {
     pub y: bool,
     pub n: bool,
@@ -42,7 +42,7 @@ pub struct YRecord {
 }
 
 /// A value that reached an input port of a leaf.
-#[derive(Clone, Copy, PartialEq, Eq, Debug)]
+#[derive(Clone, Copy)]
 pub struct XRecord {
     pub time: Time,
     pub leaf: u32,
@@ -60,7 +60,7 @@ pub struct SRecord {
 }
 
 /// A value at an output of top.
-#[derive(Clone, Copy, PartialEq, Eq, Debug)]
+#[derive(Clone, Copy)]
 pub struct OutRecord {
     pub time: Time,
     pub port: u16,

@@ -2,7 +2,6 @@
 ghost use Rattle.std.specs.Prelude.{◌≡◌, ◌<◌, ◌++◌, codes, length, take, true, IfSome, IfOk, OnOk};
 ghost use Rattle.cell_grid.specs.Space.{cell_count};
 ghost use Rattle.model_tree.specs.Tree.{Group, groups};
-ghost use Rattle.model_tree.specs.LeafTexts.{leaf_text};
 ghost use Rattle.model_tree.specs.Models.{tree_of};
 ghost use Rattle.model_tree.specs.Leaves.{no_settings, Appends, IsLeafOf};
 ghost use Rattle.record_text.specs.declared.start.Begins.TheVariants.{Nothing, Boxes};
@@ -15,7 +14,7 @@ use crate::kept::Kept;
 use crate::pieces::{put, put_begun, put_leaf};
 use crate::place_text::put_place;
 use cell_grid::Grid;
-use model_tree::{LeafAt, Model};
+use model_tree::{CellGroup, LeafAt, Model};
 use quantity::{OutOfMemory, Time};
 use text_forms::Letter;
 
@@ -70,13 +69,9 @@ impl Start {
             LeafAt::Atomic(_) => {
                 self.begin_box(time, into)?;
                 put_leaf(leaf, model, into)?;
-                put(b" / ", into)?;
-                Ok(())
+                put(b" / ", into)
             }
-            LeafAt::Cell { group, cell } => {
-                self.put_cell(time, group, cell, model, into)?;
-                Ok(())
-            }
+            LeafAt::Cell { group, cell } => self.put_cell(time, group, cell, model, into),
         }
     }
 
@@ -99,8 +94,7 @@ impl Start {
         ensures kept { take (length into.old.items) into.new.items ≡ into.old.items }
     {
         let grid = self.begin_cell(time, group, model, into)?;
-        put_place(&grid, cell, into)?;
-        Ok(())
+        put_place(&grid, cell, into)
     }
 
     /// Appends letter and time of a line of a cell, and its group's name. The answer is the group's
@@ -165,9 +159,7 @@ impl Start {
     {
         let found = model.group(group);
         let before = into.len();
-        put_begun(self.letter, time, into)?;
-        put(found.name.as_bytes(), into)?;
-        put(b"(", into)?;
+        put_group_begun(self.letter, time, found, into)?;
         self.keep(Begins::Cells(time.ms(), group, found.grid), &into[before..]);
         Ok(found.grid)
     }
@@ -211,4 +203,20 @@ impl Start {
             self.of = Begins::Nothing;
         }
     }
+}
+
+/// Appends letter and time of a line of a cell, and its group's name.
+fn put_group_begun(
+    letter: Letter,
+    time: Time,
+    group: &CellGroup,
+    into: &mut Vec<u8>,
+) -> Result<(), OutOfMemory>
+    ensures ok { OnOk result (into.new.items
+        ≡ into.old.items ++ (begun letter time ++ group.now.name ++ codes "(")) }
+    ensures kept { take (length into.old.items) into.new.items ≡ into.old.items }
+{
+    put_begun(letter, time, into)?;
+    put(group.name.as_bytes(), into)?;
+    put(b"(", into)
 }

@@ -7,7 +7,7 @@ ghost use Rattle.text_forms.specs.Lines as forms;
 ghost use Rattle.record_text.specs.Held.{Holds};
 ghost use Rattle.record_text.specs.Chosen.{letters_of};
 ghost use Rattle.record_text.specs.Named.{NamesLeaves};
-ghost use Rattle.record_text.specs.RecordTexts.{all_if, log_text, out_texts};
+ghost use Rattle.record_text.specs.RecordTexts.{all_if, letter_text, log_text, out_texts};
 
 use crate::given::{put_given, put_reached};
 use crate::moved::put_moved;
@@ -52,11 +52,31 @@ fn put_lines(
         into.new.items ≡ into.old.items ++ log_text (leaves tree) letters.now records.now)) }
     ensures kept { take (length into.old.items) into.new.items ≡ into.old.items }
 {
-    put_given(chosen(letters.y, &records.y), Letter::Y, model, into)?;
-    put_given(chosen(letters.n, &records.n), Letter::N, model, into)?;
-    put_reached(chosen(letters.x, &records.x), model, into)?;
-    put_moved(chosen(letters.s, &records.s), model, into)?;
-    Ok(())
+    put_letter(Letter::Y, records, letters, model, into)?;
+    put_letter(Letter::N, records, letters, model, into)?;
+    put_letter(Letter::X, records, letters, model, into)?;
+    put_letter(Letter::S, records, letters, model, into)
+}
+
+/// Appends the lines of this letter, where it is chosen.
+fn put_letter(
+    letter: Letter,
+    records: &Records,
+    letters: &Letters,
+    model: &Model,
+    into: &mut Vec<u8>,
+) -> Result<(), OutOfMemory>
+    requires { NamesLeaves model.now records.now }
+    ensures ok { OnOk result (OfTree model.now (λ tree. into.new.items
+        ≡ into.old.items ++ letter_text (leaves tree) letters.now records.now letter)) }
+    ensures kept { take (length into.old.items) into.new.items ≡ into.old.items }
+{
+    match letter {
+        Letter::Y => put_given(chosen(letters.y, &records.y), Letter::Y, model, into),
+        Letter::N => put_given(chosen(letters.n, &records.n), Letter::N, model, into),
+        Letter::X => put_reached(chosen(letters.x, &records.x), model, into),
+        Letter::S => put_moved(chosen(letters.s, &records.s), model, into),
+    }
 }
 
 /// All records, or none.
@@ -89,6 +109,5 @@ fn put_outputs_of(records: &Records, model: &Model, into: &mut Vec<u8>) -> Resul
     ensures kept { take (length into.old.items) into.new.items ≡ into.old.items }
 {
     let top = model.top();
-    put_outputs(&records.out, &top.outs, into)?;
-    Ok(())
+    put_outputs(&records.out, &top.outs, into)
 }

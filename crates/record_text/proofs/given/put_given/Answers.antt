@@ -5,7 +5,8 @@ use Rattle.model_tree.specs.Models.{tree_of}
 use Rattle.model_tree.specs.Leaves.{Appends, IsLeafOf}
 use Rattle.record_text.specs.declared.records.YRecord.{YRecord}
 use Rattle.record_text.specs.RecordTexts.{text_at, y_text}
-use Rattle.record_text.proofs.Appended.{appended_at, kept_on, texts_more}
+use Rattle.record_text.proofs.Appended.{appended_at, keeps_itself, kept_on, none_yet, texts_all, texts_more}
+use Rattle.record_text.proofs.Starts.{nothing_begun}
 use Rattle.record_text.proofs.given.put_given.Goals as goal
 
 pub loop-given-preserved : goal.loop-given-preserved
@@ -31,3 +32,23 @@ loop-given-preserved c = record {
       kept_on c.args.into.now.items c.loop-given.into.items c.put_given_line.new.into.items
       c.loop-given.invariant.kept c.in_ok-put_given_line.ensures.kept;
 }
+
+pub loop-given-init : goal.loop-given-init
+loop-given-init c = record {
+  right = nothing_begun c.args.model.now c.new-start.result c.new-start.ensures.of;
+  letter = c.new-start.ensures.letter;
+  appended = λ settings. none_yet c.args.into.now.items;
+  kept = keeps_itself c.args.into.now.items;
+}
+
+pub returns-in_err-put_given_line-clause-kept : goal.returns-in_err-put_given_line-clause-kept
+returns-in_err-put_given_line-clause-kept c =
+    kept_on c.args.into.now.items c.loop-given.into.items c.put_given_line.new.into.items
+    c.loop-given.invariant.kept c.put_given_line.ensures.kept
+
+pub returns-clause-ok : goal.returns-clause-ok
+returns-clause-ok c = λ settings.
+    texts_all
+    (λ (r : YRecord). text_at (y_text c.args.letter r) (slice_get (leaves (tree_of c.args.model.now settings)) r.leaf))
+    c.args.into.now.items c.loop-given.into.items c.args.records.now c.loop-given.given-index
+    c.loop-given-test.false (c.loop-given.invariant.appended settings)
