@@ -1,15 +1,16 @@
 -- One leaf more that has given.
 use Rattle.std.specs.Prelude.{not}
-use Rattle.std.proofs.Common.{◌≡◌, ℕ, ◌+◌, ◌<◌, ◌≤◌, Bool, true, false, cond, List, [], ◌∷◌, ◌++◌, map, length, drop, set, get_or, refl, sym, ◌∙◌, ap, subst, append_assoc, arith, length-append}
-use Rattle.std.proofs.lemmas.List.{map-append, drop_more}
+use Rattle.std.proofs.Common.{◌≡◌, ℕ, ◌+◌, ◌<◌, ◌≤◌, Bool, true, false, cond, List, [], ◌∷◌, ◌++◌, map, length, drop, set, get_or, refl, sym, ◌∙◌, ap, subst, append_assoc, append-nil, arith, length-append}
+use Rattle.std.specs.Prelude.{Some}
+use Rattle.std.proofs.lemmas.List.{map-append, drop_more, drop_all}
 use Rattle.atomic_face.specs.Classes.{Bag}
-use Rattle.run_model.specs.Cycle.{LeafState, leaf_emitted, collected_of}
+use Rattle.run_model.specs.Cycle.{LeafState, leaf_next, leaf_emitted, collected_of}
 use Rattle.run_model.specs.Run.{PortRecord, port_records, is_of_out}
 use Rattle.record_text.specs.declared.records.YRecord.{YRecord}
 use Rattle.record_text.specs.Held.{y_at}
 use Rattle.sparse_cycle.specs.Sparse.{leaf_of}
 use Rattle.sparse_cycle.specs.Collect.{Collected, and_given, giver_in, y_of, n_of, collect_each, CanCollect}
-use Rattle.cycle_steps.specs.Gathering.{values_in}
+use Rattle.cycle_steps.specs.Gathering.{Collects, values_in}
 
 -- these lists, and then what is left to collect, are all
 pub record Gathers (t : ℕ) (all rest : Collected) (y n : List YRecord) (givers : List ℕ) : Type 0 where
@@ -94,3 +95,33 @@ pub can-more : (t i : ℕ) (due : List ℕ) (now next : List LeafState) → i < 
 can-more t i due now next lt is h =
     let here = subst (λ (ls : List ℕ). CanCollect t ls now) (drop_more due i 0 lt) h in
     subst (CanCollect t (drop (i + 1) due)) (sym is) here.1
+
+-- ---- at the loop's start and at its end
+
+pub gathers-start : (t : ℕ) (all : Collected) (y n : List YRecord) (givers : List ℕ) → y ≡ [] → n ≡ [] → givers ≡ [] → Gathers t all all y n givers
+gathers-start t all y n givers ys ns gs =
+    record {
+      y_is = ap (λ rs. rs ++ map (y_at t) all.y) (sym ys);
+      n_is = ap (λ rs. rs ++ map (y_at t) all.n) (sym ns);
+      givers_is = ap (λ ls. ls ++ all.givers) (sym gs);
+      states_is = refl;
+    }
+
+pub due-here : (t i : ℕ) (due : List ℕ) (now : List LeafState) → i < length due → CanCollect t (drop i due) now → leaf_next (leaf_of now (get_or due i 0)) ≡ Some t
+due-here t i due now lt h = (subst (λ (ls : List ℕ). CanCollect t ls now) (drop_more due i 0 lt) h).0
+
+pub collects-end : (t i : ℕ) (due : List ℕ) (now : List LeafState) (all : Collected) (y n : List YRecord) (givers : List ℕ) → length due ≤ i → Gathers t all (collect_each t (drop i due) now) y n givers → Collects t all y n givers now
+collects-end t i due now all y n givers past h =
+    let e = subst (λ (ls : List ℕ). Gathers t all (collect_each t ls now) y n givers) (drop_all i due past) h in
+    record {
+      y_is = sym (e.y_is ∙ append-nil y);
+      n_is = sym (e.n_is ∙ append-nil n);
+      givers_is = sym (e.givers_is ∙ append-nil givers);
+      states_is = sym e.states_is;
+    }
+
+pub visits-within : (v w bound : ℕ) → v + w ≤ bound → v ≤ bound
+visits-within v w bound h = omega (arith, h)
+
+pub same-bound : (v : ℕ) → v ≤ v
+same-bound v = omega arith

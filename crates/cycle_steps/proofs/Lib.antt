@@ -8,3 +8,5 @@ mod Steps
 mod Halves
 mod Rising
 pub mod OfRoutes
+pub mod OneMore
+pub mod Stops

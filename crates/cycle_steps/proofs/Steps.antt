@@ -3,7 +3,7 @@ use Rattle.std.proofs.Common.{◌≡◌, ℕ, ◌+◌, ◌<◌, ◌≤◌, Optio
 use Rattle.std.specs.Prelude.{Ok, Err}
 use Rattle.std.specs.List.{sum_by}
 use Rattle.std.specs.declared.result.Result.{Result}
-use Rattle.std.proofs.lemmas.List.{map-append, drop_more}
+use Rattle.std.proofs.lemmas.List.{map-append, drop_more, drop_all}
 use Rattle.std.proofs.lemmas.List.Sums.{sum_by-cons}
 use Rattle.model_tree.specs.Tree.{Tree}
 use Rattle.run_model.specs.Cycle.{LeafState, leaf_next, Moved, stayed, moved, stopped, after}
@@ -120,6 +120,10 @@ module _ (tree : Tree) (t : ℕ) (given fed : List PortRecord) where
   all-walked U all new w s u on =
       subst (λ (a : Walked). let r : Result U Halt = Ok u in WalksTo t a new w s r) (sym on.all_is) (refl, on.records_are ∙ ap (map (s_at t)) (sym (append-nil on.records)))
 
+  pub walked-all : (U : Type 0) (i : ℕ) (ls : List ℕ) (all : Walked) (new : List LeafState) (w : List (Option ℕ)) (s : List SRecord) (u : U) → length ls ≤ i
+      → WalksOn t all (walk_from (drop i ls) new w) s → (let r : Result U Halt = Ok u in WalksTo t all new w s r)
+  walked-all U i ls all new w s u past on = all-walked U all new w s u (subst (λ (ks : List ℕ). WalksOn t all (walk_from ks new w) s) (drop_all i ls past) on)
+
   pub at-start : (all : Walked) (s : List SRecord) → s ≡ [] → WalksOn t all all s
   at-start (halted l why) s none = record { records = []; records_are = none; all_is = refl }
   at-start (walked st rs) s none = record { records = []; records_are = none; all_is = refl }
@@ -136,3 +140,6 @@ pub visits-end : (most : ℕ → ℕ) (i : ℕ) (ls : List ℕ) (v v' bound : �
 visits-end most i ls v v' bound lt h more =
     let whole = visits-more most i ls v v' bound lt h more in
     omega (arith, whole)
+
+pub visits-within : (v w bound : ℕ) → v + w ≤ bound → v ≤ bound
+visits-within v w bound h = omega (arith, h)

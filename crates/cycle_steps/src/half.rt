@@ -157,8 +157,7 @@ fn give_and_wake<C, G: Leaves<C>, W: Watched, S: LeafSet>(
 {
     sparse_cycle::laws::leaves_give_one_after_another();
     collect(givers, due, t, bag, y, n, who, counter)?;
-    wake(watched, who, near, woken, touched)?;
-    Ok(())
+    wake(watched, who, near, woken, touched)
 }
 
 /// The X records and the outputs of top, by the numbers of the paths that bring something.
@@ -185,6 +184,5 @@ fn route<R: Routing>(
         (numbers (reaches (y_records y.now) inputs.now) (R.paths routes.now)))) }
 {
     reach(routes, y, inputs, found)?;
-    feed(routes, found, t, y, inputs, x, out)?;
-    Ok(())
+    feed(routes, found, t, y, inputs, x, out)
 }

@@ -3,14 +3,14 @@ use quantity::{Time, Value};
 use rule_tree::RuleStop;
 
 /// What is told of a leaf that moved: its computed value, where it is a cell, and its next time.
-#[derive(Clone, Copy, PartialEq, Eq, Debug)]
+#[derive(Clone, Copy)]
 pub struct Told {
     pub value: Option<Value>,
     pub next: Option<Time>,
 }
 
 /// Why a leaf doesn't move.
-#[derive(Clone, Copy, PartialEq, Eq, Debug)]
+#[derive(Clone, Copy)]
 pub enum LeafStop {
     /// A rule of a cell, or a box, has no value.
     Rule(RuleStop),
@@ -19,7 +19,7 @@ pub enum LeafStop {
 }
 
 /// Why a walk ended early.
-#[derive(Clone, Copy, PartialEq, Eq, Debug)]
+#[derive(Clone, Copy)]
 pub enum Halt {
     /// The leaf of this number doesn't move.
     Stopped(u32, RuleStop),

@@ -1,6 +1,13 @@
-use Rattle.std.proofs.Common.{◌++◌, ◌∙◌, map, ap, sym, append-nil}
+use Rattle.std.proofs.Common.{◌++◌, ◌∷◌, [], ◌∙◌, Bool, List, map, ap, sym, append-nil, cond, eqb}
+use Rattle.std.specs.List.{filter}
+use Rattle.std.proofs.lemmas.Bool.{eq-eqb}
+use Rattle.run_model.specs.Run.{PortRecord}
+use Rattle.record_text.specs.declared.records.YRecord.{YRecord}
 use Rattle.record_text.specs.Held.{x_at, out_at}
+use Rattle.sparse_cycle.specs.Feed.{values_of_leaf}
+use Rattle.cycle_steps.specs.Untimed.{y_record, y_records}
 use Rattle.cycle_steps.specs.Routed.{fed_to, out_to}
+use Rattle.cycle_steps.proofs.OneMore.{appends-more, appended-all, fed-kept, out-kept}
 use Rattle.cycle_steps.proofs.Runs.{none-above, fed-none, out-none}
 use Rattle.cycle_steps.proofs.feed.append_run.Goals as goal
 
@@ -17,3 +24,32 @@ returns-then-r-leaf-clause-out c =
     (none-above c.args.leaf c.loop-r.r-index c.args.rest.now c.requires.rise c.requires.above c.r-item.result c.r-item.is c.loop-r-test.true c.if-r-leaf.true)
     ∙ ap (λ rs. c.loop-r.out.items ++ map (out_at c.args.t) rs) (out-none c.args.to)
     ∙ append-nil c.loop-r.out.items)
+
+pub loop-r-preserved : goal.loop-r-preserved
+loop-r-preserved c =
+    let t = c.args.t in
+    let l = c.args.leaf in
+    let r = c.r-item.result in
+    let at = λ (r : PortRecord). eqb r.leaf l in
+    let values = λ (b : Bool). map (λ (r : PortRecord). r.value) (cond b (y_record r ∷ []) []) in
+    let here = sym (eq-eqb r.leaf l c.if-r-leaf.false) in
+    record {
+      x = appends-more (λ (rs : List YRecord). map (x_at t) (fed_to c.args.to (values_of_leaf (y_records rs) l)))
+          (λ r rs. fed-kept (λ (r : PortRecord). r.value) t c.args.to (eqb r.leaf l) (y_record r) (filter at (y_records rs)))
+          c.args.rest.now c.loop-r.r-index r _ c.loop-r.x.items c.append_value.new.x.items c.loop-r-test.true c.r-item.is c.loop-r.invariant.x
+          (c.in_ok-append_value.ensures.x ∙ ap (λ b. c.loop-r.x.items ++ map (x_at t) (fed_to c.args.to (values b))) here);
+      out = appends-more (λ (rs : List YRecord). map (out_at t) (out_to c.args.to (values_of_leaf (y_records rs) l)))
+          (λ r rs. out-kept (λ (r : PortRecord). r.value) t c.args.to (eqb r.leaf l) (y_record r) (filter at (y_records rs)))
+          c.args.rest.now c.loop-r.r-index r _ c.loop-r.out.items c.append_value.new.out.items c.loop-r-test.true c.r-item.is c.loop-r.invariant.out
+          (c.in_ok-append_value.ensures.out ∙ ap (λ b. c.loop-r.out.items ++ map (out_at t) (out_to c.args.to (values b))) here);
+    }
+
+pub returns-clause-x : goal.returns-clause-x
+returns-clause-x c =
+    appended-all (λ (rs : List YRecord). map (x_at c.args.t) (fed_to c.args.to (values_of_leaf (y_records rs) c.args.leaf))) (ap (map (x_at c.args.t)) (fed-none c.args.to))
+    c.args.rest.now c.loop-r.r-index _ c.loop-r.x.items c.loop-r-test.false c.loop-r.invariant.x
+
+pub returns-clause-out : goal.returns-clause-out
+returns-clause-out c =
+    appended-all (λ (rs : List YRecord). map (out_at c.args.t) (out_to c.args.to (values_of_leaf (y_records rs) c.args.leaf))) (ap (map (out_at c.args.t)) (out-none c.args.to))
+    c.args.rest.now c.loop-r.r-index _ c.loop-r.out.items c.loop-r-test.false c.loop-r.invariant.out

@@ -1,6 +1,7 @@
-use Rattle.std.proofs.Common.{◌∙◌, ◌<◌, ◌||◌, List, ℕ, map, length, ap, sym, subst}
+use Rattle.std.proofs.Common.{◌∙◌, ◌<◌, ◌≤◌, ◌||◌, List, ℕ, false, map, length, replicate, refl, ap, sym, subst}
 use Rattle.std.specs.List.{All}
 use Rattle.std.specs.List.Sorted.{IsNonDecreasingBy}
+use Rattle.std.specs.Vec.{vec_capacity}
 use Rattle.record_text.specs.declared.records.XRecord.{XRecord}
 use Rattle.record_text.specs.declared.records.YRecord.{YRecord}
 use Rattle.record_text.specs.declared.records.Records.{Records}
@@ -13,6 +14,7 @@ use Rattle.cycle_steps.specs.Untimed.{y_records, x_records}
 use Rattle.cycle_steps.specs.Routed.{path_at, numbers, reaches, values_at, fed_in, out_in}
 use Rattle.cycle_steps.proofs.Halves.{timed-rise, filtered-within, fed-within, emitted-long, woken-is, half-is}
 use Rattle.cycle_steps.proofs.Rising.{fed-rises}
+use Rattle.cycle_steps.proofs.Stops.{stopped, if-err}
 use Rattle.cycle_steps.proofs.half.first_half.Goals as goal
 
 pub route-requires-clause-rise : goal.route-requires-clause-rise
@@ -92,3 +94,112 @@ returns-clause-woken g c = λ tree s run k.
     let states = g.G.Leaves.states c.args.givers.now in
     c.in_ok-give_and_wake.ensures.woken k
     ∙ woken-is c.cells_are_woken_by_givers.ensures.woken c.leaves_give_one_after_another.ensures.givers tree c.args.t s states (g.W.Watched.watches c.args.watched.now) run.states_are run.watch k
+
+pub give_and_wake-requires-clause-due : goal.give_and_wake-requires-clause-due
+give_and_wake-requires-clause-due g c = c.requires.due
+
+pub give_and_wake-requires-clause-y : goal.give_and_wake-requires-clause-y
+give_and_wake-requires-clause-y g c = c.requires.records.y
+
+pub give_and_wake-requires-clause-n : goal.give_and_wake-requires-clause-n
+give_and_wake-requires-clause-n g c = c.requires.records.n
+
+pub give_and_wake-requires-clause-who : goal.give_and_wake-requires-clause-who
+give_and_wake-requires-clause-who g c = c.clear.ensures.givers
+
+pub give_and_wake-requires-clause-calm : goal.give_and_wake-requires-clause-calm
+give_and_wake-requires-clause-calm g c = c.requires.calm
+
+pub give_and_wake-requires-clause-at_rest : goal.give_and_wake-requires-clause-at_rest
+give_and_wake-requires-clause-at_rest g c = c.requires.at_rest
+
+pub route-requires-clause-found : goal.route-requires-clause-found
+route-requires-clause-found g c = c.clear.ensures.numbers
+
+pub route-requires-clause-x : goal.route-requires-clause-x
+route-requires-clause-x g c = c.requires.records.x
+
+pub route-requires-clause-out : goal.route-requires-clause-out
+route-requires-clause-out g c = c.requires.records.out
+
+pub touch-requires-clause-empty : goal.touch-requires-clause-empty
+touch-requires-clause-empty g c = c.requires.moving
+
+pub touch-requires-clause-room : goal.touch-requires-clause-room
+touch-requires-clause-room g c =
+    subst (λ (n : ℕ). n ≤ vec_capacity c.args.moving.now) (sym c.in_ok-give_and_wake.ensures.touched_long) c.requires.capacity
+
+pub returns-clause-long : goal.returns-clause-long
+returns-clause-long g c = c.in_ok-give_and_wake.ensures.long
+
+pub returns-clause-at_rest : goal.returns-clause-at_rest
+returns-clause-at_rest g c = c.touch.ensures.left ∙ ap (λ n. replicate n false) c.in_ok-give_and_wake.ensures.touched_long
+
+pub returns-clause-s : goal.returns-clause-s
+returns-clause-s g c = c.requires.records.s
+
+pub returns-clause-capacity : goal.returns-clause-capacity
+returns-clause-capacity g c = c.touch.ensures.capacity
+
+pub returns-clause-stands : goal.returns-clause-stands
+returns-clause-stands g c = λ tree st. c.in_ok-give_and_wake.ensures.stands tree st
+
+pub returns-clause-kept : goal.returns-clause-kept
+returns-clause-kept g c = c.give_and_wake.ensures.kept
+
+pub returns-clause-ports : goal.returns-clause-ports
+returns-clause-ports g c = c.in_ok-give_and_wake.ensures.ports
+
+pub returns-clause-most : goal.returns-clause-most
+returns-clause-most g c = c.in_ok-give_and_wake.ensures.most
+
+pub returns-clause-visits : goal.returns-clause-visits
+returns-clause-visits g c = c.give_and_wake.ensures.visits
+
+-- all that is so where memory ends in giving
+pub returns-in_err-give_and_wake : goal.returns-in_err-give_and_wake
+returns-in_err-give_and_wake g c =
+    let end = c.from_residual.result in
+    let is = c.from_residual.ensures.0 in
+    record {
+      parts = stopped _ end is;
+      woken = stopped _ end is;
+      long = stopped _ end is;
+      at_rest = stopped _ end is;
+      s = c.requires.records.s;
+      capacity = refl;
+      count = stopped _ end is;
+      within = stopped _ end is;
+      none = if-err end c.requires.moving;
+      x_rise = stopped _ end is;
+      x_ports = stopped _ end is;
+      stands = λ tree st. stopped _ end is;
+      kept = c.give_and_wake.ensures.kept;
+      ports = stopped _ end is;
+      most = stopped _ end is;
+      visits = c.give_and_wake.ensures.visits;
+    }
+
+-- all that is so where memory ends in routing
+pub returns-in_err-route : goal.returns-in_err-route
+returns-in_err-route g c =
+    let end = c.from_residual-in_err-route.result in
+    let is = c.from_residual-in_err-route.ensures.0 in
+    record {
+      parts = stopped _ end is;
+      woken = stopped _ end is;
+      long = stopped _ end is;
+      at_rest = stopped _ end is;
+      s = c.requires.records.s;
+      capacity = refl;
+      count = stopped _ end is;
+      within = stopped _ end is;
+      none = if-err end c.requires.moving;
+      x_rise = stopped _ end is;
+      x_ports = stopped _ end is;
+      stands = λ tree st. stopped _ end is;
+      kept = c.give_and_wake.ensures.kept;
+      ports = stopped _ end is;
+      most = stopped _ end is;
+      visits = c.give_and_wake.ensures.visits;
+    }

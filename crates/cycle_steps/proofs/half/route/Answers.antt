@@ -1,5 +1,6 @@
 use Rattle.std.proofs.Common.{◌∙◌, ◌++◌, ◌<◌, List, ℕ, length, map, sym, subst}
 use Rattle.std.specs.List.{All}
+use Rattle.std.proofs.lemmas.Result.{on_ok_weaker}
 use Rattle.record_text.specs.Held.{x_at, out_at}
 use Rattle.cycle_steps.specs.Untimed.{y_records}
 use Rattle.cycle_steps.specs.Routed.{path_at, reaches, values_at, fed_in, out_in}
@@ -13,10 +14,8 @@ feed-requires-clause-within g c =
 
 pub returns-clause-x : goal.returns-clause-x
 returns-clause-x g c =
-    c.in_ok-feed.ensures.x
-    ∙ (λ i. c.requires.x i ++ map (x_at c.args.t) (fed_in (values_at (y_records c.args.y.now) c.args.inputs.now) (g.R.Routing.paths c.args.routes.now) ((c.deref.ensures.value ∙ c.in_ok-reach.ensures) i)))
+    on_ok_weaker c.feed.result (λ fed. fed ∙ (λ i. c.requires.x i ++ map (x_at c.args.t) (fed_in (values_at (y_records c.args.y.now) c.args.inputs.now) (g.R.Routing.paths c.args.routes.now) ((c.deref.ensures.value ∙ c.in_ok-reach.ensures) i)))) c.feed.ensures.x
 
 pub returns-clause-out : goal.returns-clause-out
 returns-clause-out g c =
-    c.in_ok-feed.ensures.out
-    ∙ (λ i. c.requires.out i ++ map (out_at c.args.t) (out_in (values_at (y_records c.args.y.now) c.args.inputs.now) (g.R.Routing.paths c.args.routes.now) ((c.deref.ensures.value ∙ c.in_ok-reach.ensures) i)))
+    on_ok_weaker c.feed.result (λ fed. fed ∙ (λ i. c.requires.out i ++ map (out_at c.args.t) (out_in (values_at (y_records c.args.y.now) c.args.inputs.now) (g.R.Routing.paths c.args.routes.now) ((c.deref.ensures.value ∙ c.in_ok-reach.ensures) i)))) c.feed.ensures.out
