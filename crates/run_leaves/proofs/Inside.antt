@@ -1,5 +1,5 @@
 -- What the places of leaves say of boxes and cells.
-use Rattle.std.proofs.Common.{◌≡◌, ℕ, zero, suc, true, ◌<◌, Some, List, [], ◌∷◌, map, length, sym, ◌∙◌, ap, subst, arith}
+use Rattle.std.proofs.Common.{◌≡◌, ℕ, zero, suc, true, ◌<◌, Option, Some, None, List, [], ◌∷◌, map, length, sym, ◌∙◌, ap, subst, arith}
 use Rattle.std.specs.Prelude.{slice_get, slice_set}
 use Rattle.std.specs.List.{All}
 use Rattle.std.proofs.lemmas.List.{length-map}
@@ -34,6 +34,15 @@ due-within f (a ∷ rest) (suc l) t e = let on = due-within f rest l t e in omeg
 -- the state at a place
 pub state-at : (f : LeafAt → LeafState) (seats : List LeafAt) (l : ℕ) (a : LeafAt) → slice_get seats l ≡ Some a → leaf_of (map f seats) l ≡ f a
 state-at f seats l a at = index-get (map f seats) l (f a) no_leaf (get-map f seats l a at)
+
+-- where a cell stands, there is no box
+pub cell-no-box : (stock : List Stocked) (stores : List Cells) (seats : List LeafAt) (l store cell : ℕ) → slice_get seats l ≡ Some (Cell store cell) → is_box (leaf_of (states_in stock stores seats) l) ≡ true → ⊥
+cell-no-box stock stores seats l store cell here box =
+    no-box (slice_get stores store) (subst (λ (x : LeafState). is_box x ≡ true) (state-at (state_there stock stores) seats l (Cell store cell) here) box)
+  where
+    no-box : (o : Option Cells) → is_box (cell_there o cell) ≡ true → ⊥
+    no-box None e = cc
+    no-box (Some s) e = cc
 
 module _ (tree : Tree) (seats : List LeafAt) (stores : List Cells) (stock : List Stocked) (places : Places tree seats (settings_in stock) (layouts_in stores) (sizes_in stores)) where
   pub box-inside : (l : ℕ) (at : BoxNo) → slice_get seats l ≡ Some (Atomic at) → at.0 < length stock

@@ -1,5 +1,5 @@
 // Who watches whom.
-ghost use Rattle.std.specs.Prelude.{IfOk};
+ghost use Rattle.std.specs.Prelude.{◌≡◌, ◌++◌, [], ◌∷◌, IfOk, OnOk};
 ghost use Rattle.model_tree.specs.Leaves.{OfTree};
 
 use crate::blocks::{Block, seat_at};
@@ -41,10 +41,17 @@ impl Watchers {
         let mut blocks = Vec::new(alloc);
         for leaf in 0..model.leaves() {
             let seat = seat_at(alloc, model, leaf, &seats, &mut blocks)?;
-            seats.push(seat).map_err(AllocError::from)?;
+            add_seat(&mut seats, seat)?;
         }
         Ok(Watchers { seats, blocks })
     }
+}
+
+fn add_seat(seats: &mut Vec<Option<u32>>, seat: Option<u32>) -> Result<(), OutOfMemory>
+    ensures { OnOk result (seats.new.items ≡ seats.old.items ++ seat ∷ []) }
+{
+    seats.push(seat).map_err(AllocError::from)?;
+    Ok(())
 }
 
 impl Watched for Watchers {

@@ -1,14 +1,34 @@
-use Rattle.std.proofs.Common.{◌≡◌, ◌∙◌, true, Some, List, sym, ap, subst}
+use Rattle.std.proofs.Common.{◌≡◌, ◌∙◌, true, Some, List, sym, ap, subst, arith}
 use Rattle.std.specs.Prelude.{slice_get}
 use Rattle.atomic_face.specs.StockView.{Stocked}
 use Rattle.atomic_face.specs.Moves.{next_of_box}
-use Rattle.model_tree.specs.declared.leaves.LeafAt.TheVariants.{Atomic}
+use Rattle.model_tree.specs.declared.leaves.LeafAt.TheVariants.{Atomic, Cell}
 use Rattle.run_model.specs.Cycle.{LeafState, leaf_next}
 use Rattle.sparse_cycle.specs.Sparse.{leaf_of}
 use Rattle.run_leaves.specs.Seated.{Seated, is_box, state_there, states_in}
 use Rattle.run_leaves.proofs.Places.{read-at, found-at, index-get}
-use Rattle.run_leaves.proofs.Inside.{box-within, box-inside, box-is}
+use Rattle.run_leaves.proofs.Inside.{box-within, cell-no-box, box-inside, box-is}
 use Rattle.run_leaves.proofs.leaves.FlatLeaves.box_next.Goals as goal
+
+pub index-requires : goal.index-requires
+index-requires g c =
+    let stock = c.self.inside.stock in
+    let stores = c.self.inside.stores.items in
+    let seats = c.self.inside.seats.items in
+    let states : states_in stock stores seats ≡ c.args.self.now.states = ap (λ (s : Seated). s.states) c.self.view_is in
+    let lt = box-within (state_there stock stores) seats c.args.leaf (subst (λ (ss : List LeafState). is_box (leaf_of ss c.args.leaf) ≡ true) (sym states) c.requires) in
+    omega (arith, lt, c.self.inside.seats.ok.0)
+
+pub unreachable-requires : goal.unreachable-requires
+unreachable-requires g c =
+    let stock = c.self.inside.stock in
+    let stores = c.self.inside.stores.items in
+    let seats = c.self.inside.seats.items in
+    let states : states_in stock stores seats ≡ c.args.self.now.states = ap (λ (s : Seated). s.states) c.self.view_is in
+    let box = subst (λ (ss : List LeafState). is_box (leaf_of ss c.args.leaf) ≡ true) (sym states) c.requires in
+    let lt = box-within (state_there stock stores) seats c.args.leaf box in
+    let seat : slice_get seats c.args.leaf ≡ Some (Cell c.in-Cell.group c.in-Cell.cell) = read-at seats c.args.leaf c.index.result.now lt c.index.ensures ∙ ap Some c.in-Cell.is in
+    cell-no-box stock stores seats c.args.leaf c.in-Cell.group c.in-Cell.cell seat box
 
 pub next-requires : goal.next-requires
 next-requires g c =

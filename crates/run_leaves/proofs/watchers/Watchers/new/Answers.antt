@@ -1,7 +1,9 @@
-use Rattle.std.proofs.Common.{◌≡◌, length, arith}
+use Rattle.std.proofs.Common.{◌≡◌, ◌+◌, Option, List, [], ◌∷◌, length, ℕ, sym, subst, arith, length-append}
 use Rattle.model_tree.specs.Tree.{leaf_count}
 use Rattle.model_tree.specs.Models.{tree_of}
-use Rattle.model_tree.specs.Leaves.{no_settings}
+use Rattle.model_tree.specs.Leaves.{no_settings, OfTree}
+use Rattle.run_leaves.specs.Watching.{AreSeated}
+use Rattle.run_leaves.proofs.Seats.{seated-more}
 use Rattle.run_leaves.proofs.WhoWatches.{is-watching, stand-in-blocks}
 use Rattle.run_leaves.proofs.watchers.Watchers.new.Goals as goal
 
@@ -18,3 +20,24 @@ returns c = λ settings.
     let seats = c.loop-leaf.seats.items in
     let long : length seats ≡ leaf_count t = omega (arith, c.leaves-leaf-end.ensures settings, c.loop-leaf-test.false, c.loop-leaf.auto.leaf-end, c.loop-leaf.invariant.long) in
     is-watching t seats c.loop-leaf.blocks.items long (c.loop-leaf.invariant.seated settings)
+
+pub loop-leaf-preserved : goal.loop-leaf-preserved
+loop-leaf-preserved c =
+    let m = c.args.model.now in
+    let seats = c.loop-leaf.seats.items in
+    let blocks = c.seat_at.new.blocks.items in
+    let seat : Option ℕ = c.in_ok-seat.seat in
+    let n = c.loop-leaf.leaf in
+    let long = c.loop-leaf.invariant.long in
+    let longer = length-append seats (seat ∷ []) in
+    let seated : OfTree m (λ tree. AreSeated tree seats blocks) =
+    subst (λ (all : List (Option ℕ)). OfTree m (λ tree. AreSeated tree all blocks)) c.deref.ensures.value c.in_ok-seat.ensures.seated
+    in
+    let here = c.in_ok-seat.ensures.seat in
+    record {
+      long = subst (λ (all : List (Option ℕ)). length all ≡ n + 1) (sym c.in_ok-add_seat.ensures) (omega (arith, long, longer));
+      few = c.in_ok-seat.ensures.few;
+      seated = λ settings.
+          subst (λ (all : List (Option ℕ)). AreSeated (tree_of m settings) all blocks) (sym c.in_ok-add_seat.ensures)
+          (seated-more (tree_of m settings) seats blocks n seat long (seated settings) (here settings));
+    }
