@@ -32,6 +32,15 @@ pub record Begins (s : Standing) (t : ℕ) : Type 0 where
   pub within : t ≤ s.end
   pub few : cycles_at t s.state < s.limit
 
+-- a cycle begins where the run is seen to stand
+pub begins-at : (s seen : Standing) (t had : ℕ) → s ≡ seen → FitsTree (tree_in s) s.state.leaf_states
+    → next_instant seen.state ≡ Some t → t ≤ seen.end → had ≡ cycles_at t seen.state → had < seen.limit → Begins s t
+begins-at s seen t had is fits next within had_is few =
+    let begins : FitsTree (tree_in seen) seen.state.leaf_states → Begins seen t =
+    λ f. record { fits = f; next = next; within = within; few = subst (λ (n : ℕ). n < seen.limit) had_is few }
+    in
+    subst (λ (x : Standing). FitsTree (tree_in x) x.state.leaf_states → Begins x t) (sym is) begins fits
+
 -- where a run stands, by its parts
 abbrev pub standing : Seated → List Event → Option ℕ → ℕ → ℕ → ℕ → Option Stop → Standing
 standing leaves events last count end limit stopped =

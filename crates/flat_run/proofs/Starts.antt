@@ -23,7 +23,7 @@ use Rattle.run_leaves.specs.Seated.{Seated, ports_of, settings_in, settings_at, 
 use Rattle.run_leaves.specs.Watching.{Watching, IsWatchingOf}
 use Rattle.run_leaves.proofs.Places.{some-is, get-set, get-other, get-map, found-at, index-get}
 use Rattle.flat_run.specs.Changes.{StartsFrom, tree_with}
-use Rattle.flat_run.specs.Holds.{AreRoutes, IsFrameOf, GoesOn, HoldsRun, ports_in}
+use Rattle.flat_run.specs.Holds.{AreRoutes, IsFrameOf, GoesOn, ArePartsOf, HoldsRun, ports_in}
 
 -- ---- the queue
 
@@ -102,58 +102,34 @@ port-of-tree t r to covers is =
 
 -- ---- the whole run
 
--- what was made for a run: its leaves at their start, its watchers, its queue, and room for all leaves
-pub record IsMade (m : Model) (stock : List Stocked) (s : Seated) (w : Watching) (waiting : List (Option ℕ)) (woken touched : List Bool) (due moving number : ℕ) : Type 0 where
-  pub model_is : s.model ≡ m
-  pub settings_are : s.settings ≡ settings_in stock
-  pub states_are : s.states ≡ map initial_leaf (leaves (tree_with m stock))
-  pub watching_is : OfTree m (λ t. IsWatchingOf t w)
-  pub queue : waiting ≡ waits s.states
-  pub number_is : OfTree m (λ t. number ≡ leaf_count t)
-  pub woken_is : woken ≡ replicate number false
-  pub touched_is : touched ≡ replicate number false
-  pub due_is : due ≡ number
-  pub moving_is : moving ≡ number
-
 abbrev pub RoutesAreReady : Type 0
 RoutesAreReady = (t : Tree) (r : Flat) → RoutesOf t r → IsTrue (is_sound_model t) → AreRoutes t (paths_of r)
 
 pub made-tree : (m : Model) (stock : List Stocked) (s : Seated) → s.model ≡ m → s.settings ≡ settings_in stock → tree_at s.model s.settings ≡ tree_with m stock
 made-tree m stock s model settings = λ i. tree_at (model i) (settings i)
 
-pub made-holds : RoutesAreReady → StartFits → (m : Model) (stock : List Stocked) (routes : Flat) (events : List Event) (before : List (Option ℕ)) (s : Seated) (w : Watching) (waiting : List (Option ℕ)) (woken touched : List Bool) (due moving number end limit : ℕ)
-    → StartsFrom m stock routes events before → IsMade m stock s w waiting woken touched due moving number → end ≤ 359999999 → 1 ≤ limit
+pub made-holds : RoutesAreReady → StartFits → (m : Model) (stock : List Stocked) (routes : Flat) (events : List Event) (before : List (Option ℕ)) (s : Seated) (w : Watching) (waiting : List (Option ℕ)) (woken touched : List Bool) (due moving end limit : ℕ)
+    → StartsFrom m stock routes events before → ArePartsOf m stock s w woken touched due moving → waiting ≡ waits s.states → end ≤ 359999999 → 1 ≤ limit
     → HoldsRun s routes w events waiting woken touched due moving end limit 0 None
-made-holds ready fits m stock routes events before s w waiting woken touched due moving number end limit starts made late some =
+made-holds ready fits m stock routes events before s w waiting woken touched due moving end limit starts made queue late some =
     let tree = tree_with m stock in
     let settings = settings_at (settings_in stock) in
     let same = made-tree m stock s made.model_is made.settings_are in
-    let many = made.number_is settings in
-    let due_is = made.due_is in
-    let moving_is = made.moving_is in
+    let due_is = made.due_room settings in
+    let moving_is = made.moving_room settings in
     record {
       counts = record { end_is = late; few = omega arith; some = some };
       frame = subst (λ (t : Tree). IsFrameOf t routes w events due moving) (sym same) (record {
         routes_are = ready tree routes starts.routes_are starts.sound;
         watching_is = made.watching_is settings;
         at_inputs = starts.at_inputs;
-        due_room = omega (arith, many, due_is);
-        moving_room = omega (arith, many, moving_is);
+        due_room = omega (arith, due_is);
+        moving_room = omega (arith, moving_is);
       });
       goes_on = λ none. subst (λ (t : Tree). GoesOn t s waiting woken touched) (sym same) (record {
         fits = subst (λ (ss : List LeafState). FitsTree tree ss) (sym made.states_are) (fits tree events);
-        queue = made.queue;
-        calm = made.woken_is ∙ ap (λ n. replicate n false) many;
-        at_rest = made.touched_is ∙ ap (λ n. replicate n false) many;
+        queue = queue;
+        calm = made.woken_are settings;
+        at_rest = made.touched_are settings;
       });
     }
-
--- all leaves have a place in the queue
-pub queue-long : (m : Model) (stock : List Stocked) (s : Seated) (waiting : List (Option ℕ)) → waiting ≡ replicate (leaf_count (tree_with m stock)) None → s.states ≡ map initial_leaf (leaves (tree_with m stock)) → length waiting ≡ length s.states
-queue-long m stock s waiting none states =
-    let tree = tree_with m stock in
-    ap length none ∙ replicated (leaf_count tree) ∙ sym (leaves-length tree 0) ∙ sym (length-map (leaves tree) initial_leaf) ∙ sym (ap length states)
-  where
-    replicated : (n : ℕ) → length (replicate n (let o : Option ℕ = None in o)) ≡ n
-    replicated zero = refl
-    replicated (suc n) = ap (λ k. suc k) (replicated n)

@@ -1,10 +1,15 @@
 -- What holds of a run between two cycles.
-use Rattle.std.specs.Prelude.{◌≡◌, ℕ, ◌≤◌, Bool, false, Option, None, List, replicate, slice_get}
+use Rattle.std.specs.Prelude.{◌≡◌, ℕ, ◌≤◌, Bool, false, Option, None, List, map, replicate, slice_get}
 use Rattle.std.specs.List.{All}
 use Rattle.std.specs.List.Sorted.{IsNonDecreasingBy}
 use Rattle.quantity.specs.declared.bounds.TheConstants.{MAX_DELAY}
+use Rattle.atomic_face.specs.StockView.{Stocked}
 use Rattle.event_list.specs.Events.{Event}
+use Rattle.model_tree.specs.declared.table.Model.{Model}
 use Rattle.model_tree.specs.Tree.{Tree, ins_of, leaf_count, leaves}
+use Rattle.model_tree.specs.Tree as tree
+use Rattle.model_tree.specs.Leaves.{OfTree}
+use Rattle.run_model.specs.Cycle.{initial_leaf}
 use Rattle.run_model.specs.Fitting.{FitsTree}
 use Rattle.route_flat.specs.declared.source.Path.{Path}
 use Rattle.route_flat.specs.Nets.{Flat}
@@ -12,9 +17,10 @@ use Rattle.route_flat.specs.Ways.{paths_of}
 use Rattle.sparse_cycle.specs.Feed.{AreDistinct, AreAtInputs}
 use Rattle.sparse_cycle.specs.Walk.{waits}
 use Rattle.cycle_steps.specs.Paths.{ArePathsOf, IsPortOf, target_leaves}
-use Rattle.run_leaves.specs.Seated.{Seated, ports_of, tree_at}
+use Rattle.run_leaves.specs.Seated.{Seated, ports_of, settings_in, tree_at}
 use Rattle.run_leaves.specs.Watching.{Watching, IsWatchingOf}
 use Rattle.flat_run.specs.declared.progress.Stop.{Stop}
+use Rattle.flat_run.specs.Changes.{tree_with}
 
 -- the end, the limit, and how many cycles the last instant has had
 pub record AreCounts (end limit count : ℕ) : Type 0 where
@@ -50,6 +56,19 @@ pub record GoesOn (tree : Tree) (leaves : Seated) (waiting : List (Option ℕ))
   pub queue : waiting ≡ waits leaves.states
   pub calm : woken ≡ replicate (leaf_count tree) false
   pub at_rest : touched ≡ replicate (leaf_count tree) false
+
+-- what a run has of its model before its first cycle: the leaves at their start, who watches them,
+-- empty sets, and lists with room for all leaves
+pub record ArePartsOf (m : Model) (stock : List Stocked) (leaves : Seated) (watching : Watching)
+    (woken touched : List Bool) (due moving : ℕ) : Type 0 where
+  pub model_is : leaves.model ≡ m
+  pub settings_are : leaves.settings ≡ settings_in stock
+  pub states_are : leaves.states ≡ map initial_leaf (tree.leaves (tree_with m stock))
+  pub watching_is : OfTree m (λ t. IsWatchingOf t watching)
+  pub woken_are : OfTree m (λ t. woken ≡ replicate (leaf_count t) false)
+  pub touched_are : OfTree m (λ t. touched ≡ replicate (leaf_count t) false)
+  pub due_room : OfTree m (λ t. due ≡ leaf_count t)
+  pub moving_room : OfTree m (λ t. moving ≡ leaf_count t)
 
 -- after a stop the leaves, the queue and the sets are left as they are
 pub record HoldsRun (leaves : Seated) (routes : Flat) (watching : Watching) (events : List Event)

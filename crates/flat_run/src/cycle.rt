@@ -12,13 +12,13 @@ ghost use Rattle.flat_run.specs.Holds.{IsFrameOf, GoesOn};
 ghost use Rattle.flat_run.specs.Running.{Runs, tree_by, parts_at, instant_of, later, visits_in, stop_of_halt};
 
 use crate::Stop;
+use crate::workspace::Workspace;
 use atomic_face::AtomicModel;
 use cell_engine::Steps;
 use cycle_steps::cycle::cycle_at;
 use cycle_steps::halt::Halt;
-use cycle_steps::room::Room;
 use event_list::Events;
-use leaf_set::{BitSet, LeafSet};
+use leaf_set::LeafSet;
 use quantity::{OutOfMemory, Time, Value};
 use record_text::Records;
 use route_flat::Routes;
@@ -36,21 +36,16 @@ pub(crate) fn run_cycle<Q: TimeQueue, M: AtomicModel, L: Ledger>(
     routes: &Routes,
     events: &mut Events,
     queue: &mut Q,
-    woken: &mut BitSet,
-    touched: &mut BitSet,
-    due: &mut Vec<u32>,
-    moving: &mut Vec<u32>,
-    inputs: &mut Vec<(u16, Value)>,
-    room: &mut Room,
+    work: &mut Workspace,
     t: Time,
     records: &mut Records,
     steps: &mut Steps<L>,
 ) -> Result<(), Halt>
     requires time { t ≤ MAX_DELAY }
     requires frame { IsFrameOf (tree_by leaves.old) routes.now watchers.now events.old
-        (vec_capacity due.old) (vec_capacity moving.old) }
+        (vec_capacity work.old.due) (vec_capacity work.old.moving) }
     requires stands { GoesOn (tree_by leaves.old) leaves.old
-        (Q.waiting queue.old) woken.old touched.old }
+        (Q.waiting queue.old) work.old.woken work.old.touched }
     requires instant { instant_of leaves.old.states events.old ≡ Some t }
     requires records { AreEmpty records.old }
     ensures runs { Runs t (parts_at leaves.old events.old t) events.old
@@ -58,9 +53,9 @@ pub(crate) fn run_cycle<Q: TimeQueue, M: AtomicModel, L: Ledger>(
     ensures model { leaves.new.model ≡ leaves.old.model }
     ensures settings { leaves.new.settings ≡ leaves.old.settings }
     ensures frame { IsFrameOf (tree_by leaves.old) routes.now watchers.now events.new
-        (vec_capacity due.new) (vec_capacity moving.new) }
-    ensures stands { OnOk result
-        (GoesOn (tree_by leaves.old) leaves.new (Q.waiting queue.new) woken.new touched.new) }
+        (vec_capacity work.new.due) (vec_capacity work.new.moving) }
+    ensures stands { OnOk result (GoesOn (tree_by leaves.old) leaves.new
+        (Q.waiting queue.new) work.new.woken work.new.touched) }
     ensures visits { steps.new ≤ steps.old
         + visits_in (tree_by leaves.old) (parts_at leaves.old events.old t) }
 {
@@ -68,17 +63,28 @@ pub(crate) fn run_cycle<Q: TimeQueue, M: AtomicModel, L: Ledger>(
     sparse_cycle::laws::leaves_move_one_after_another();
     run_model::laws::records_name_what_there_is();
     leaves.moves_are_short();
-    take_due(queue, t, due);
-    let Ok(()) = take_inputs(events, t, inputs) else {
+    take_due(queue, t, &mut work.due);
+    let Ok(()) = take_inputs(events, t, &mut work.inputs) else {
         return Err(Halt::Memory);
     };
-    moving.clear();
+    work.moving.clear();
     match cycle_at(
-        leaves, watchers, routes, queue, woken, touched, due, inputs, t, room, records, moving,
+        leaves,
+        watchers,
+        routes,
+        queue,
+        &mut work.woken,
+        &mut work.touched,
+        &work.due,
+        &work.inputs,
+        t,
+        &mut work.room,
+        records,
+        &mut work.moving,
         steps,
     ) {
         Ok(()) => {
-            woken.empty();
+            work.woken.empty();
             Ok(())
         }
         Err(halt) => Err(halt),

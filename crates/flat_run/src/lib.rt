@@ -3,10 +3,12 @@
 #![tactic(auto)]
 
 mod cycle;
+mod parts;
 pub mod progress;
 mod put;
 pub mod run;
 mod start;
+mod workspace;
 
 pub use cell_engine::Steps;
 pub use progress::{Progress, Stop};

@@ -17,16 +17,16 @@ ghost use Rattle.flat_run.specs.Steps.{Steps as StepsTo, Goes, visits_of};
 ghost use Rattle.flat_run.specs.Changes.{StartsFrom, CanPut, with_leaf_state, with_events, is_cell, words_of};
 
 use crate::cycle::{cycles_had, run_cycle, stop_of};
+use crate::parts::Parts;
 use crate::put::{least_time, set_next};
-use crate::start::{empty_lists, routes_are_ready, wait_all};
+use crate::start::{routes_are_ready, wait_all};
+use crate::workspace::Workspace;
 use crate::{Progress, Stop};
 use atomic_face::{AtomicModel, RestoreRefusal, Stock};
 use cell_engine::{CellState, Steps};
-use cycle_steps::room::Room;
 use event_list::Events;
-use leaf_set::BitSet;
 use model_tree::Model as Tree;
-use quantity::{OutOfMemory, Time, Value};
+use quantity::{OutOfMemory, Time};
 use record_text::Records;
 use route_flat::Routes;
 use run_leaves::{FlatLeaves, Watchers};
@@ -49,13 +49,7 @@ pub struct FlatRun<Q: TimeQueue, M: AtomicModel> {
     last: Option<Time>,
     count: u32,
     stopped: Option<Stop>,
-    // Room that each cycle uses again.
-    woken: BitSet,
-    touched: BitSet,
-    due: Vec<u32>,
-    moving: Vec<u32>,
-    inputs: Vec<(u16, Value)>,
-    room: Room,
+    workspace: Workspace,
 }
 
 impl<Q: TimeQueue, M: AtomicModel> Model for FlatRun<Q, M> {
@@ -84,7 +78,8 @@ impl<Q: TimeQueue, M: AtomicModel> Model for FlatRun<Q, M> {
     } };
 
     ghost invariant = { λ r. HoldsRun r.leaves r.routes r.watchers r.events (Q.waiting r.queue)
-        r.woken r.touched (vec_capacity r.due) (vec_capacity r.moving)
+        r.workspace.woken r.workspace.touched
+        (vec_capacity r.workspace.due) (vec_capacity r.workspace.moving)
         r.end r.limit r.count r.stopped };
 }
 
@@ -113,20 +108,12 @@ impl<Q: TimeQueue, M: AtomicModel> FlatRun<Q, M> {
     {
         routes_are_ready();
         run_model::laws::records_name_what_there_is();
-        let lists = empty_lists(alloc, model.leaves())?;
-        let watchers = Watchers::new(alloc, &model)?;
-        let leaves = FlatLeaves::new(alloc, model, stock)?;
+        let parts = Parts::new(alloc, model, stock)?;
         let mut queue = queue;
-        wait_all(&leaves, &mut queue);
+        wait_all(&parts.leaves, &mut queue);
         Ok(FlatRun {
-            woken: lists.woken,
-            touched: lists.touched,
-            due: lists.due,
-            moving: lists.moving,
-            inputs: Vec::new(alloc),
-            room: Room::none(alloc),
-            leaves,
-            watchers,
+            leaves: parts.leaves,
+            watchers: parts.watchers,
             routes,
             events,
             queue,
@@ -135,6 +122,7 @@ impl<Q: TimeQueue, M: AtomicModel> FlatRun<Q, M> {
             last: None,
             count: 0,
             stopped: None,
+            workspace: parts.workspace,
         })
     }
 
@@ -192,12 +180,7 @@ impl<Q: TimeQueue, M: AtomicModel> FlatRun<Q, M> {
             &self.routes,
             &mut self.events,
             &mut self.queue,
-            &mut self.woken,
-            &mut self.touched,
-            &mut self.due,
-            &mut self.moving,
-            &mut self.inputs,
-            &mut self.room,
+            &mut self.workspace,
             t,
             records,
             steps,
@@ -245,7 +228,8 @@ impl<Q: TimeQueue, M: AtomicModel> FlatRun<Q, M> {
             ≡ cell_state (cell_of_saved c)) }
         ensures steps { steps.new ≡ steps.old + 1 }
     {
-        self.leaves.save_cell(*self.due.allocator(), leaf, steps)
+        self.leaves
+            .save_cell(*self.workspace.due.allocator(), leaf, steps)
     }
 
     /// The numbers of the state of a leaf's box.
@@ -255,7 +239,7 @@ impl<Q: TimeQueue, M: AtomicModel> FlatRun<Q, M> {
         ensures state { IfOk result (λ words. words.items
             ≡ words_of (leaf_of self.now.state.leaf_states leaf)) }
     {
-        let mut words = Vec::new(*self.due.allocator());
+        let mut words = Vec::new(*self.workspace.due.allocator());
         self.leaves.save_box(leaf, &mut words)?;
         Ok(words)
     }
@@ -291,7 +275,7 @@ impl<Q: TimeQueue, M: AtomicModel> FlatRun<Q, M> {
             → (c : Held) × RestoreGives words.now b c result
             × (self.new ≡ with_leaf_state self.old leaf (box_state c)) }
     {
-        let alloc = *self.due.allocator();
+        let alloc = *self.workspace.due.allocator();
         self.leaves.put_box(alloc, leaf, words)?;
         set_next(&mut self.queue, leaf, self.leaves.box_next(leaf));
         Ok(())

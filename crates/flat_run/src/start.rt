@@ -1,5 +1,5 @@
 // What a run starts with.
-ghost use Rattle.std.specs.Prelude.{◌≡◌, ◌<◌, false, IfOk, length, replicate, slice_set, IsTrue, vec_capacity};
+ghost use Rattle.std.specs.Prelude.{◌≡◌, ◌<◌, length, slice_set, IsTrue};
 ghost use Rattle.model_tree.specs.Tree.{Tree};
 ghost use Rattle.model_tree.specs.Sound.{is_sound_model};
 ghost use Rattle.run_model.specs.Cycle.{leaf_next};
@@ -11,35 +11,8 @@ ghost use Rattle.flat_run.specs.Holds.{AreRoutes};
 
 use crate::put::set_next;
 use atomic_face::AtomicModel;
-use leaf_set::BitSet;
-use quantity::OutOfMemory;
 use run_leaves::FlatLeaves;
-use std::alloc::Global;
 use time_queue::TimeQueue;
-
-/// Sets and lists of leaves that each cycle uses again.
-#[derive(Drop)]
-pub(crate) struct LeafLists {
-    pub(crate) woken: BitSet,
-    pub(crate) touched: BitSet,
-    pub(crate) due: Vec<u32>,
-    pub(crate) moving: Vec<u32>,
-}
-
-/// Sets without members, and lists with room for so many leaves.
-pub(crate) fn empty_lists(alloc: Global, leaves: u32) -> Result<LeafLists, OutOfMemory>
-    ensures woken { IfOk result (λ r. r.woken ≡ replicate leaves false) }
-    ensures touched { IfOk result (λ r. r.touched ≡ replicate leaves false) }
-    ensures due { IfOk result (λ r. vec_capacity r.due ≡ leaves) }
-    ensures moving { IfOk result (λ r. vec_capacity r.moving ≡ leaves) }
-{
-    Ok(LeafLists {
-        woken: BitSet::with_leaves(alloc, leaves)?,
-        touched: BitSet::with_leaves(alloc, leaves)?,
-        due: Vec::with_capacity(alloc, leaves as usize)?,
-        moving: Vec::with_capacity(alloc, leaves as usize)?,
-    })
-}
 
 /// Each leaf waits in the queue for its next time, and for no other.
 pub(crate) fn wait_all<Q: TimeQueue, M: AtomicModel>(leaves: &FlatLeaves<M>, queue: &mut Q)

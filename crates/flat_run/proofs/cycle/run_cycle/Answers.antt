@@ -21,7 +21,7 @@ use Rattle.flat_run.proofs.cycle.run_cycle.Goals as goal
 pub take_due-requires : goal.take_due-requires
 take_due-requires g c =
     let leaves = c.args.leaves.now in
-    let many = waiting-counted (tree_by leaves) leaves (g.Q.TimeQueue.waiting c.args.queue.now) c.args.woken.now c.args.touched.now c.requires.stands in
+    let many = waiting-counted (tree_by leaves) leaves (g.Q.TimeQueue.waiting c.args.queue.now) c.args.work.now.woken c.args.work.now.touched c.requires.stands in
     omega (arith, many, c.requires.frame.due_room)
 
 pub take_inputs-requires : goal.take_inputs-requires
@@ -43,7 +43,7 @@ cycle_at-requires-clause-waiting g c =
     let leaves = c.args.leaves.now in
     let waiting = g.Q.TimeQueue.waiting c.args.queue.now in
     ap length c.take_due.ensures.left ∙ length-map waiting (undue c.args.t)
-    ∙ waiting-counted (tree_by leaves) leaves waiting c.args.woken.now c.args.touched.now c.requires.stands
+    ∙ waiting-counted (tree_by leaves) leaves waiting c.args.work.now.woken c.args.work.now.touched c.requires.stands
     ∙ sym c.requires.frame.watching_is.long
 
 pub cycle_at-requires-clause-paths : goal.cycle_at-requires-clause-paths
@@ -72,7 +72,7 @@ returns-in-Ok-cycle_at-clause-runs g c =
     let events = c.args.events.now in
     let t = c.args.t in
     let is : c.deref-2.result.now ≡ inputs_at t events = c.deref-2.ensures.value ∙ c.in-Ok.ensures.taken in
-    let run = run-of (tree_by leaves) t leaves.states events c.args.routes.now c.args.watchers.now (vec_capacity c.args.due.now) (vec_capacity c.args.moving.now) c.deref-2.result.now c.requires.frame is in
+    let run = run-of (tree_by leaves) t leaves.states events c.args.routes.now c.args.watchers.now (vec_capacity c.args.work.now.due) (vec_capacity c.args.work.now.moving) c.deref-2.result.now c.requires.frame is in
     runs-by-walk _ c.leaves_move_one_after_another.ensures.walk (tree_by leaves) t (standing_at leaves.states events) c.cycle_at.new.leaves.states
     (g.Q.TimeQueue.waiting c.take_due.new.queue) (g.Q.TimeQueue.waiting c.cycle_at.new.queue) c.take_inputs.new.events c.cycle_at.new.records (Ok c.in-Ok-cycle_at.field-0)
     c.requires.instant (c.take_due.ensures.left ∙ ap (without t) c.requires.stands.queue) c.in-Ok.ensures.left
@@ -81,7 +81,7 @@ returns-in-Ok-cycle_at-clause-runs g c =
 pub returns-in-Ok-cycle_at-clause-frame : goal.returns-in-Ok-cycle_at-clause-frame
 returns-in-Ok-cycle_at-clause-frame g c =
     frame-left (tree_by c.args.leaves.now) c.args.routes.now c.args.watchers.now c.args.t c.args.events.now c.take_inputs.new.events
-    (vec_capacity c.args.due.now) (vec_capacity c.args.moving.now) (vec_capacity c.take_due.new.due) (vec_capacity c.cycle_at.new.moving)
+    (vec_capacity c.args.work.now.due) (vec_capacity c.args.work.now.moving) (vec_capacity c.take_due.new.due) (vec_capacity c.cycle_at.new.moving)
     c.requires.frame c.in-Ok.ensures.left c.take_due.ensures.capacity (c.in-Ok-cycle_at.ensures.moving_room ∙ c.clear.ensures.capacity)
 
 pub returns-in-Ok-cycle_at-clause-stands : goal.returns-in-Ok-cycle_at-clause-stands
@@ -91,7 +91,7 @@ returns-in-Ok-cycle_at-clause-stands g c =
     let t = c.args.t in
     let waiting = g.Q.TimeQueue.waiting c.cycle_at.new.queue in
     let is : c.deref-2.result.now ≡ inputs_at t events = c.deref-2.ensures.value ∙ c.in-Ok.ensures.taken in
-    let run = run-of (tree_by leaves) t leaves.states events c.args.routes.now c.args.watchers.now (vec_capacity c.args.due.now) (vec_capacity c.args.moving.now) c.deref-2.result.now c.requires.frame is in
+    let run = run-of (tree_by leaves) t leaves.states events c.args.routes.now c.args.watchers.now (vec_capacity c.args.work.now.due) (vec_capacity c.args.work.now.moving) c.deref-2.result.now c.requires.frame is in
     let ran : RanTo t (parts_at leaves events t) events c.cycle_at.new.leaves.states waiting c.take_inputs.new.events c.cycle_at.new.records =
     runs-by-walk _ c.leaves_move_one_after_another.ensures.walk (tree_by leaves) t (standing_at leaves.states events) c.cycle_at.new.leaves.states
     (g.Q.TimeQueue.waiting c.take_due.new.queue) waiting c.take_inputs.new.events c.cycle_at.new.records (Ok c.in-Ok-cycle_at.field-0)
@@ -113,7 +113,7 @@ returns-in-Ok-cycle_at-clause-visits g c =
     let t = c.args.t in
     let moving = c.cycle_at.new.moving.items in
     let is : c.deref-2.result.now ≡ inputs_at t events = c.deref-2.ensures.value ∙ c.in-Ok.ensures.taken in
-    let run = run-of (tree_by leaves) t leaves.states events c.args.routes.now c.args.watchers.now (vec_capacity c.args.due.now) (vec_capacity c.args.moving.now) c.deref-2.result.now c.requires.frame is in
+    let run = run-of (tree_by leaves) t leaves.states events c.args.routes.now c.args.watchers.now (vec_capacity c.args.work.now.due) (vec_capacity c.args.work.now.moving) c.deref-2.result.now c.requires.frame is in
     counted c.cycle_at.new.counter c.args.steps.now (values_in (due_give t leaves.states)) (sum_by (visits_at leaves) moving) (visits_in (tree_by leaves) (parts_at leaves events t))
     c.in-Ok-cycle_at.ensures.visits
     (visits-within (tree_by leaves) t (standing_at leaves.states events) leaves moving c.moves_are_short.ensures (c.in-Ok-cycle_at.ensures.few (tree_by leaves) (standing_at leaves.states events) run))
@@ -124,7 +124,7 @@ returns-in-Err-clause-runs g c =
     let events = c.args.events.now in
     let t = c.args.t in
     let is : c.deref-2.result.now ≡ inputs_at t events = c.deref-2.ensures.value ∙ c.in-Ok.ensures.taken in
-    let run = run-of (tree_by leaves) t leaves.states events c.args.routes.now c.args.watchers.now (vec_capacity c.args.due.now) (vec_capacity c.args.moving.now) c.deref-2.result.now c.requires.frame is in
+    let run = run-of (tree_by leaves) t leaves.states events c.args.routes.now c.args.watchers.now (vec_capacity c.args.work.now.due) (vec_capacity c.args.work.now.moving) c.deref-2.result.now c.requires.frame is in
     runs-by-walk _ c.leaves_move_one_after_another.ensures.walk (tree_by leaves) t (standing_at leaves.states events) c.cycle_at.new.leaves.states
     (g.Q.TimeQueue.waiting c.take_due.new.queue) (g.Q.TimeQueue.waiting c.cycle_at.new.queue) c.take_inputs.new.events c.cycle_at.new.records (Err c.in-Err.halt)
     c.requires.instant (c.take_due.ensures.left ∙ ap (without t) c.requires.stands.queue) c.in-Ok.ensures.left
@@ -133,7 +133,7 @@ returns-in-Err-clause-runs g c =
 pub returns-in-Err-clause-frame : goal.returns-in-Err-clause-frame
 returns-in-Err-clause-frame g c =
     frame-left (tree_by c.args.leaves.now) c.args.routes.now c.args.watchers.now c.args.t c.args.events.now c.take_inputs.new.events
-    (vec_capacity c.args.due.now) (vec_capacity c.args.moving.now) (vec_capacity c.take_due.new.due) (vec_capacity c.cycle_at.new.moving)
+    (vec_capacity c.args.work.now.due) (vec_capacity c.args.work.now.moving) (vec_capacity c.take_due.new.due) (vec_capacity c.cycle_at.new.moving)
     c.requires.frame c.in-Ok.ensures.left c.take_due.ensures.capacity (c.in-Err.ensures.moving_room ∙ c.clear.ensures.capacity)
 
 pub returns-in-Err-clause-visits : goal.returns-in-Err-clause-visits
@@ -143,7 +143,7 @@ returns-in-Err-clause-visits g c =
     let t = c.args.t in
     let moving = c.cycle_at.new.moving.items in
     let is : c.deref-2.result.now ≡ inputs_at t events = c.deref-2.ensures.value ∙ c.in-Ok.ensures.taken in
-    let run = run-of (tree_by leaves) t leaves.states events c.args.routes.now c.args.watchers.now (vec_capacity c.args.due.now) (vec_capacity c.args.moving.now) c.deref-2.result.now c.requires.frame is in
+    let run = run-of (tree_by leaves) t leaves.states events c.args.routes.now c.args.watchers.now (vec_capacity c.args.work.now.due) (vec_capacity c.args.work.now.moving) c.deref-2.result.now c.requires.frame is in
     counted c.cycle_at.new.counter c.args.steps.now (values_in (due_give t leaves.states)) (sum_by (visits_at leaves) moving) (visits_in (tree_by leaves) (parts_at leaves events t))
     c.in-Err.ensures.visits
     (visits-within (tree_by leaves) t (standing_at leaves.states events) leaves moving c.moves_are_short.ensures (c.in-Err.ensures.few (tree_by leaves) (standing_at leaves.states events) run))

@@ -5,7 +5,7 @@ use Rattle.flat_run.specs.declared.progress.Stop.{Stop}
 use Rattle.flat_run.specs.Standing.{Standing, next_of}
 use Rattle.flat_run.specs.Steps.{Keeps, Steps, visits_of}
 use Rattle.flat_run.specs.Running.{stop_of_halt}
-use Rattle.flat_run.proofs.Begun.{Begins, standing, cycles-on, halts-at, visits-are}
+use Rattle.flat_run.proofs.Begun.{begins-at, standing, cycles-on, halts-at, visits-are}
 use Rattle.flat_run.proofs.run.FlatRun.cycle_at.Goals as goal
 
 pub returns-in-Ok-clause-steps : goal.returns-in-Ok-clause-steps
@@ -15,14 +15,7 @@ returns-in-Ok-clause-steps g c =
     let s = standing i.leaves i.events i.last i.count i.end i.limit i.stopped in
     let none : i.stopped ≡ None = ap (λ (x : Standing). x.stopped) c.self.view_is ∙ c.requires.goes in
     let had : c.args.had ≡ cycles_at t s.state = c.requires.had ∙ sym (ap (λ (x : Standing). cycles_at t x.state) c.self.view_is) in
-    let begins : Begins s t =
-    record {
-      fits = (c.self.invariant.goes_on none).fits;
-      next = ap (λ (x : Standing). next_instant x.state) c.self.view_is ∙ c.requires.instant;
-      within = subst (λ (x : Standing). t ≤ x.end) (sym c.self.view_is) c.requires.within;
-      few = subst (λ (n : ℕ). n < i.limit) had (subst (λ (x : Standing). c.args.had < x.limit) (sym c.self.view_is) c.requires.few);
-    }
-    in
+    let begins = begins-at s c.args.self.now t c.args.had c.self.view_is (c.self.invariant.goes_on none).fits c.requires.instant c.requires.within c.requires.had c.requires.few in
     let n = standing c.run_cycle-result.new.leaves c.run_cycle-result.new.events (Some t) (c.args.had + 1) i.end i.limit i.stopped in
     let records = c.run_cycle-result.new.records in
     let keeps : Keeps s n = record { model = c.in-Ok.ensures.model; settings = c.in-Ok.ensures.settings; end = refl; limit = refl } in
@@ -37,15 +30,7 @@ returns-in-Ok-clause-visits g c =
     let t = c.args.t in
     let s = standing i.leaves i.events i.last i.count i.end i.limit i.stopped in
     let none : i.stopped ≡ None = ap (λ (x : Standing). x.stopped) c.self.view_is ∙ c.requires.goes in
-    let had : c.args.had ≡ cycles_at t s.state = c.requires.had ∙ sym (ap (λ (x : Standing). cycles_at t x.state) c.self.view_is) in
-    let begins : Begins s t =
-    record {
-      fits = (c.self.invariant.goes_on none).fits;
-      next = ap (λ (x : Standing). next_instant x.state) c.self.view_is ∙ c.requires.instant;
-      within = subst (λ (x : Standing). t ≤ x.end) (sym c.self.view_is) c.requires.within;
-      few = subst (λ (n : ℕ). n < i.limit) had (subst (λ (x : Standing). c.args.had < x.limit) (sym c.self.view_is) c.requires.few);
-    }
-    in
+    let begins = begins-at s c.args.self.now t c.args.had c.self.view_is (c.self.invariant.goes_on none).fits c.requires.instant c.requires.within c.requires.had c.requires.few in
     let costs = visits-are c.a_cycle_is_what_its_leaves_make_of_it.ensures.next c.leaves_move_one_after_another.ensures.moves c.a_stopping_cycle_costs_its_parts.ensures s t begins in
     subst (λ (x : Standing). c.run_cycle-result.new.steps ≤ c.args.steps.now + visits_of x (next_of x)) c.self.view_is
     (subst (λ (n : ℕ). c.run_cycle-result.new.steps ≤ c.args.steps.now + n) (sym costs) c.in-Ok.ensures.visits)
@@ -56,15 +41,7 @@ returns-in-Err-clause-steps g c =
     let t = c.args.t in
     let s = standing i.leaves i.events i.last i.count i.end i.limit i.stopped in
     let none : i.stopped ≡ None = ap (λ (x : Standing). x.stopped) c.self.view_is ∙ c.requires.goes in
-    let had : c.args.had ≡ cycles_at t s.state = c.requires.had ∙ sym (ap (λ (x : Standing). cycles_at t x.state) c.self.view_is) in
-    let begins : Begins s t =
-    record {
-      fits = (c.self.invariant.goes_on none).fits;
-      next = ap (λ (x : Standing). next_instant x.state) c.self.view_is ∙ c.requires.instant;
-      within = subst (λ (x : Standing). t ≤ x.end) (sym c.self.view_is) c.requires.within;
-      few = subst (λ (n : ℕ). n < i.limit) had (subst (λ (x : Standing). c.args.had < x.limit) (sym c.self.view_is) c.requires.few);
-    }
-    in
+    let begins = begins-at s c.args.self.now t c.args.had c.self.view_is (c.self.invariant.goes_on none).fits c.requires.instant c.requires.within c.requires.had c.requires.few in
     let n = standing c.run_cycle-result.new.leaves c.run_cycle-result.new.events i.last i.count i.end i.limit (Some c.stop_of.result) in
     let records = c.clear.new.self in
     let keeps : Keeps s n = record { model = c.in-Err.ensures.model; settings = c.in-Err.ensures.settings; end = refl; limit = refl } in
@@ -81,15 +58,7 @@ returns-in-Err-clause-visits g c =
     let t = c.args.t in
     let s = standing i.leaves i.events i.last i.count i.end i.limit i.stopped in
     let none : i.stopped ≡ None = ap (λ (x : Standing). x.stopped) c.self.view_is ∙ c.requires.goes in
-    let had : c.args.had ≡ cycles_at t s.state = c.requires.had ∙ sym (ap (λ (x : Standing). cycles_at t x.state) c.self.view_is) in
-    let begins : Begins s t =
-    record {
-      fits = (c.self.invariant.goes_on none).fits;
-      next = ap (λ (x : Standing). next_instant x.state) c.self.view_is ∙ c.requires.instant;
-      within = subst (λ (x : Standing). t ≤ x.end) (sym c.self.view_is) c.requires.within;
-      few = subst (λ (n : ℕ). n < i.limit) had (subst (λ (x : Standing). c.args.had < x.limit) (sym c.self.view_is) c.requires.few);
-    }
-    in
+    let begins = begins-at s c.args.self.now t c.args.had c.self.view_is (c.self.invariant.goes_on none).fits c.requires.instant c.requires.within c.requires.had c.requires.few in
     let costs = visits-are c.a_cycle_is_what_its_leaves_make_of_it.ensures.next c.leaves_move_one_after_another.ensures.moves c.a_stopping_cycle_costs_its_parts.ensures s t begins in
     subst (λ (x : Standing). c.run_cycle-result.new.steps ≤ c.args.steps.now + visits_of x (next_of x)) c.self.view_is
     (subst (λ (n : ℕ). c.run_cycle-result.new.steps ≤ c.args.steps.now + n) (sym costs) c.in-Err.ensures.visits)

@@ -30,6 +30,6 @@ invariant_of-self-2 g c =
     let none : i.stopped ≡ None = ap (λ (s : Standing). s.stopped) c.self.view_is ∙ c.requires.fresh.1 in
     let fits = put-fits (tree_by i.leaves) i.leaves.states leaf b.0 put.0 (c.self.invariant.goes_on none).fits b.1 (ap (λ (h : Held). h.kind) put.1.1) (ap (λ (h : Held). h.settings) put.1.1) in
     let next : c.box_next.result ≡ leaf_next (box_state put.0) = c.box_next.ensures ∙ ap leaf_next stands in
-    put-holds i.leaves c.put_box.new.self i.routes i.watchers i.events (g.Q.TimeQueue.waiting i.queue) (g.Q.TimeQueue.waiting c.set_next.new.queue) i.woken i.touched _ _ i.end i.limit i.count i.stopped
+    put-holds i.leaves c.put_box.new.self i.routes i.watchers i.events (g.Q.TimeQueue.waiting i.queue) (g.Q.TimeQueue.waiting c.set_next.new.queue) i.workspace.woken i.workspace.touched _ _ i.end i.limit i.count i.stopped
     leaf (box_state put.0) c.self.invariant fits put.2
     (c.set_next.ensures ∙ ap (slice_set (g.Q.TimeQueue.waiting i.queue) leaf) next)

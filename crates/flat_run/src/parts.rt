@@ -1,0 +1,41 @@
+// What a run has of its model.
+ghost use Rattle.std.specs.Prelude.{IfOk, IsTrue, vec_capacity};
+ghost use Rattle.model_tree.specs.Sound.{is_sound_model};
+ghost use Rattle.started_boxes.specs.Boxes.{BoxesStand};
+ghost use Rattle.flat_run.specs.Changes.{tree_with};
+ghost use Rattle.flat_run.specs.Holds.{ArePartsOf};
+
+use crate::workspace::Workspace;
+use atomic_face::{AtomicModel, Stock};
+use model_tree::Model;
+use quantity::OutOfMemory;
+use run_leaves::{FlatLeaves, Watchers};
+use std::alloc::Global;
+
+/// The leaves of a model at their start, who watches them, and a workspace for so many.
+#[derive(Drop)]
+pub(crate) struct Parts<M: AtomicModel> {
+    pub(crate) leaves: FlatLeaves<M>,
+    pub(crate) watchers: Watchers,
+    pub(crate) workspace: Workspace,
+}
+
+impl<M: AtomicModel> Parts<M> {
+    /// The parts of a model with its boxes.
+    pub(crate) fn new(alloc: Global, model: Model, stock: Stock<M>) -> Result<Parts<M>, OutOfMemory>
+        requires sound { IsTrue (is_sound_model (tree_with model stock)) }
+        requires boxes { BoxesStand stock model }
+        ensures { IfOk result (λ p. ArePartsOf model stock p.leaves p.watchers
+            p.workspace.woken p.workspace.touched
+            (vec_capacity p.workspace.due) (vec_capacity p.workspace.moving)) }
+    {
+        let workspace = Workspace::new(alloc, model.leaves())?;
+        let watchers = Watchers::new(alloc, &model)?;
+        let leaves = FlatLeaves::new(alloc, model, stock)?;
+        Ok(Parts {
+            leaves,
+            watchers,
+            workspace,
+        })
+    }
+}
