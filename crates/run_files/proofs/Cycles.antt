@@ -1,21 +1,25 @@
 -- What a cycle adds to the files, piece by piece, and to the frames.
 use Rattle.std.proofs.Common.{◌≡◌, ℕ, ◌+◌, ◌<◌, ◌≤◌, length, get_or, drop, ◌==◌, not, Bool, true, false, Option, Some, None, List, [], ◌∷◌, map, refl, sym, ap, ◌∙◌, arith}
-use Rattle.std.specs.Prelude.{if◌then◌else◌}
-use Rattle.std.specs.Option.{ForSome, option_map}
+use Rattle.std.specs.Prelude.{if◌then◌else◌, Result, Ok, Err}
+use Rattle.std.specs.Result.{IsOk, OnOk}
+use Rattle.std.specs.Option.{ForSome, option_map, is_some}
+use Rattle.std.specs.Borrow.{Bor}
 use Rattle.std.proofs.lemmas.List.{at_drop_more, at_drop_all}
 use Rattle.std.proofs.lemmas.Bool.Decides.{nat_tests}
-use Rattle.model_tree.specs.Tree.{Tree}
+use Rattle.model_tree.specs.Tree.{Word, Tree}
 use Rattle.run_model.specs.Run.{PortRecord, Cycle}
 use Rattle.record_text.specs.Held.{y_at}
 use Rattle.record_text.specs.declared.records.YRecord.{YRecord}
 use Rattle.text_forms.specs.Lines.{log_bytes, out_bytes}
+use Rattle.frame_draw.specs.Drawing.{frame_of}
 use Rattle.frame_draw.specs.Turns.{is_other}
 use Rattle.room_edge.specs.Outside.{Outside}
 use Rattle.run_files.specs.declared.outputs.Output.TheVariants.{Log, Out, Frames}
 use Rattle.run_files.specs.declared.outputs.Unwritten.{Unwritten}
+use Rattle.run_files.specs.AskedFiles.{text_of_name}
 use Rattle.run_files.specs.Texts.{Names, Texts, both, only}
-use Rattle.run_files.specs.Showing.{Showing, with_taken, shown_of, took, plain, ended, ended_before, after_cycle, frame_before, cycle_texts, BeginsAt}
-use Rattle.run_files.specs.Written.{Adds, Falls}
+use Rattle.run_files.specs.Showing.{Showing, with_taken, shown_of, took, plain, ended, ended_before, after_cycle, frame_before, last_frame, cycle_texts, is_begun_before, BeginsAt}
+use Rattle.run_files.specs.Written.{Adds, Falls, Writes}
 use Rattle.run_files.proofs.Adding.{three_parts, adds_both, adds_as, falls_after, falls_before, falls_as}
 
 -- ---- what records show
@@ -49,6 +53,44 @@ may_begin at (Some w) = by (is_other w.drawing.begun at) refl
     by : (b : Bool) → is_other w.drawing.begun at ≡ b → ForSome (if b then ended w else w).drawing.begun (λ t. t ≡ at)
     by true e = λ x q. absurd (cc)
     by false e = same_instant w.drawing.begun at e
+
+-- where an instant before is over, its frame is the last one
+pub frame_over : (at : ℕ) (w : Option Showing) → is_begun_before at w ≡ true → last_frame w ≡ frame_before at w
+frame_over at None e = refl
+frame_over at (Some w) e = sym (ap (λ b. if b then frame_of w.drawing else []) e)
+
+-- where none is over, there is no frame
+pub no_frame : (at : ℕ) (w : Option Showing) → is_begun_before at w ≡ false → [] ≡ frame_before at w
+no_frame at None e = refl
+no_frame at (Some w) e = sym (ap (λ b. if b then frame_of w.drawing else []) e)
+
+-- it is over
+pub is_over : (at : ℕ) (w : Option Showing) → is_begun_before at w ≡ true → option_map ended w ≡ option_map (ended_before at) w
+is_over at None e = refl
+is_over at (Some w) e = ap (λ (x : Showing). Some x) (sym (ap (λ b. if b then ended w else w) e))
+
+-- none is over
+pub none_over : (at : ℕ) (w : Option Showing) → is_begun_before at w ≡ false → w ≡ option_map (ended_before at) w
+none_over at None e = refl
+none_over at (Some w) e = ap (λ (x : Showing). Some x) (sym (ap (λ b. if b then ended w else w) e))
+
+-- ---- calls that may fail
+
+-- what holds at all
+pub on_ok_so : {T E P : Type 0} (r : Result T E) → P → OnOk r P
+on_ok_so (Ok x) p = p
+on_ok_so (Err e) p = tt
+
+-- what holds where a call before went well, without which this one doesn't
+pub on_ok_after : {T E U F : Type 0} (P : Type 0) (q : Result T E) (r : Result U F) → OnOk r (IsOk q) → OnOk q P → OnOk r P
+on_ok_after P (Ok x) (Ok y) is p = p
+on_ok_after P (Err e) (Ok y) is p = absurd (cc)
+on_ok_after P q (Err f) is p = tt
+
+-- a name that is left out has no text
+pub no_name : (name : Option (Bor Word)) → is_some name ≡ false → text_of_name name ≡ None
+no_name None e = refl
+no_name (Some n) e = absurd (cc)
 
 -- ---- the three pieces of a cycle
 
@@ -87,6 +129,11 @@ module _ (n : Names) (tree : Tree) (letters : List ℕ) (w : Option Showing) (c 
   outputs_fell why old first second new f l o =
       falls_as n why (both (both frame lines) outputs) (cycle_texts tree letters w c) old new (pieces tree letters w c at time)
       (falls_after n why (both frame lines) outputs old second new (adds_both n frame lines old first second f l) o)
+
+  -- whatever became of the lines of the output
+  pub cycle_written : (r : Result (Unit {0}) Unwritten) (old first second new : Outside) → Adds n frame old first → Adds n lines first second → Writes n outputs second new r → Writes n (cycle_texts tree letters w c) old new r
+  cycle_written (Ok x) old first second new f l o = cycle_added old first second new f l o
+  cycle_written (Err why) old first second new f l o = outputs_fell why old first second new f l o
 
 -- ---- records one after another
 

@@ -15,7 +15,7 @@ ghost use Rattle.run_files.specs.Written.{Writes};
 
 use crate::drawn::Drawn;
 use crate::outputs::{Named, Output, Unwritten};
-use crate::write::write_to;
+use crate::write::write_piece;
 use model_tree::Model;
 use quantity::{OutOfMemory, Time};
 use record_text::{Records, YRecord, log_bytes, out_bytes};
@@ -43,10 +43,9 @@ pub fn write_cycle<R: Room>(
         drawn.new ≡ option_map (after_cycle c) drawn.old) }
 {
     write_before(room, named, drawn, at, piece)?;
-    write_log(room, named, model, records, piece)?;
-    write_out(room, named, model, records, piece)?;
     take(drawn, at, &records.y);
-    Ok(())
+    write_log(room, named, model, records, piece)?;
+    write_out(room, named, model, records, piece)
 }
 
 /// Adds the frame of the instant that was begun, where a run ends.
@@ -62,10 +61,8 @@ pub fn write_last<R: Room>(
         (R.outside room.old) (R.outside room.new) result }
     ensures drawn { OnOk result (drawn.new ≡ option_map ended drawn.old) }
 {
-    if draw_last(drawn, piece).is_err() {
-        return Err(Unwritten::Memory);
-    }
-    write_to(room, named, Output::Frames, piece)
+    let filled = draw_last(drawn, piece);
+    write_piece(room, named, Output::Frames, filled, piece)
 }
 
 /// The frame of the instant that was begun stands in `piece`, and that instant is over.
@@ -132,10 +129,8 @@ fn write_log<R: Room>(
         return Ok(());
     }
     piece.clear();
-    let Ok(()) = log_bytes(records, &named.letters, model, piece) else {
-        return Err(Unwritten::Memory);
-    };
-    write_to(room, named, Output::Log, piece)
+    let filled = log_bytes(records, &named.letters, model, piece);
+    write_piece(room, named, Output::Log, filled, piece)
 }
 
 /// Adds the lines of the output.
@@ -157,10 +152,8 @@ fn write_out<R: Room>(
         return Ok(());
     }
     piece.clear();
-    let Ok(()) = out_bytes(records, model, piece) else {
-        return Err(Unwritten::Memory);
-    };
-    write_to(room, named, Output::Out, piece)
+    let filled = out_bytes(records, model, piece);
+    write_piece(room, named, Output::Out, filled, piece)
 }
 
 /// Takes what a cycle shows of the group that is drawn.

@@ -29,7 +29,7 @@ pub struct FramesFile<'a> {
 }
 
 /// One of the files.
-#[derive(Clone, Copy, PartialEq, Eq, Debug)]
+#[derive(Clone, Copy)]
 pub enum Output {
     Log,
     Out,
@@ -37,7 +37,7 @@ pub enum Output {
 }
 
 /// Why not all was written: a file could not be, or there is no memory.
-#[derive(Clone, Copy, PartialEq, Eq, Debug)]
+#[derive(Clone, Copy)]
 pub enum Unwritten {
     Fault(Output),
     Memory,

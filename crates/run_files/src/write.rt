@@ -1,13 +1,40 @@
 // Bytes for one of the files.
+ghost use Rattle.std.specs.Prelude.{◌≡◌};
+ghost use Rattle.std.specs.Result.{IsOk, OnOk};
+ghost use Rattle.quantity.specs.Bytes.{Bytes};
 ghost use Rattle.run_files.specs.AskedFiles.{names_of};
 ghost use Rattle.run_files.specs.Texts.{only, AreApart, AreCreated};
 ghost use Rattle.run_files.specs.Written.{Writes};
 
 use crate::outputs::{Named, Output, Unwritten};
+use quantity::OutOfMemory;
 use room_edge::{Room, WriteAll, write_all};
 
+/// Adds a piece to one of the files, where there was memory to fill it.
+pub(crate) fn write_piece<R: Room>(
+    room: &mut R,
+    named: &Named<'_>,
+    file: Output,
+    filled: Result<(), OutOfMemory>,
+    piece: &[u8],
+) -> Result<(), Unwritten>
+    requires apart { AreApart (names_of named.now) }
+    requires created { AreCreated (names_of named.now) (R.outside room.old).created }
+    // For the bytes that it is filled with.
+    ensures texts { (bytes : Bytes) → OnOk filled (piece.now ≡ bytes) →
+        Writes (names_of named.now) (only file bytes) (R.outside room.old) (R.outside room.new)
+        result }
+    ensures filled { OnOk result (IsOk filled) }
+    ensures created { (R.outside room.new).created ≡ (R.outside room.old).created }
+{
+    match filled {
+        Ok(()) => write_to(room, named, file, piece),
+        Err(_) => Err(Unwritten::Memory),
+    }
+}
+
 /// Adds bytes to one of the files, where it is made. They are handed over in one piece.
-pub(crate) fn write_to<R: Room>(
+fn write_to<R: Room>(
     room: &mut R,
     named: &Named<'_>,
     file: Output,

@@ -21,7 +21,7 @@ use told_lines::status::{BAD_DELAY, NO_MEMORY, NO_TRUE_RULE, OVERFLOW, TOO_MANY_
 use told_lines::{complain, show};
 
 /// The run is done, or it stopped.
-#[derive(Clone, Copy, PartialEq, Eq, Debug)]
+#[derive(Clone, Copy)]
 pub(crate) enum Ending {
     Done,
     Stopped(Stop),

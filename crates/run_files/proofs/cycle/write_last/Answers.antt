@@ -1,9 +1,11 @@
-use Rattle.run_files.specs.declared.outputs.Output.TheVariants.{Frames}
-use Rattle.run_files.specs.AskedFiles.{names_of}
-use Rattle.run_files.specs.Texts.{only}
+use Rattle.std.proofs.Common.{◌∙◌}
+use Rattle.std.proofs.lemmas.Result.{on_ok_weaker}
 use Rattle.run_files.specs.Showing.{last_frame}
-use Rattle.run_files.proofs.Adding.{fell_at_once}
+use Rattle.run_files.proofs.Cycles.{on_ok_after}
 use Rattle.run_files.proofs.cycle.write_last.Goals as goal
 
-pub returns-then-is_err-clause-texts : goal.returns-then-is_err-clause-texts
-returns-then-is_err-clause-texts g c = fell_at_once (names_of c.args.named.now) (only Frames (last_frame c.args.drawn.now)) (g.R.Room.outside c.args.room.now)
+pub returns : goal.returns
+returns g c = record {
+  texts = c.write_piece.ensures.texts (last_frame c.args.drawn.now) (on_ok_weaker c.draw_last-filled.result (λ text. c.deref.ensures.value ∙ text) c.draw_last-filled.ensures.text);
+  drawn = on_ok_after _ c.draw_last-filled.result c.write_piece.result c.write_piece.ensures.filled c.draw_last-filled.ensures.drawn;
+}

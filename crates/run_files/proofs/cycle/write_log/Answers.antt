@@ -1,25 +1,22 @@
-use Rattle.std.proofs.Common.{[], ◌∷◌, ◌++◌, ◌∙◌, ap, subst}
+use Rattle.std.proofs.Common.{[], ◌∷◌, ◌++◌, ◌∙◌, ap}
+use Rattle.std.proofs.lemmas.Result.{on_ok_weaker}
 use Rattle.model_tree.specs.Models.{tree_of}
 use Rattle.record_text.specs.Chosen.{letters_of}
 use Rattle.text_forms.specs.Lines.{log_bytes}
 use Rattle.run_files.specs.declared.outputs.Output.TheVariants.{Log}
 use Rattle.run_files.specs.AskedFiles.{names_of}
-use Rattle.run_files.specs.Texts.{only}
-use Rattle.run_files.specs.Written.{Writes}
-use Rattle.run_files.proofs.Adding.{fell_at_once, writes_created}
+use Rattle.run_files.proofs.Adding.{none_added}
+use Rattle.run_files.proofs.Cycles.{no_name}
 use Rattle.run_files.proofs.cycle.write_log.Goals as goal
 
-pub returns-in_default-clause-texts : goal.returns-in_default-clause-texts
-returns-in_default-clause-texts g c = λ cycle h settings.
-    fell_at_once (names_of c.args.named.now) (only Log (log_bytes (tree_of c.args.model.now settings) (letters_of c.args.named.now.letters) (cycle ∷ []))) (g.R.Room.outside c.args.room.now)
+pub returns-then-is_none-clause-texts : goal.returns-then-is_none-clause-texts
+returns-then-is_none-clause-texts g c = λ cycle h settings.
+    none_added (names_of c.args.named.now) Log (log_bytes (tree_of c.args.model.now settings) (letters_of c.args.named.now.letters) (cycle ∷ [])) (g.R.Room.outside c.args.room.now) (no_name c.args.named.now.log c.if-is_none.ensures)
 
-pub returns-clause-texts : goal.returns-clause-texts
-returns-clause-texts g c = λ cycle h settings.
-    let old = g.R.Room.outside c.args.room.now in
-    let new = g.R.Room.outside c.write_to.new.room in
-    let lines = log_bytes (tree_of c.args.model.now settings) (letters_of c.args.named.now.letters) (cycle ∷ []) in
-    let is = c.deref.ensures.value ∙ c.in-Ok.ensures.ok cycle h settings ∙ ap (λ xs. xs ++ lines) c.clear.ensures.items in
-    subst (λ text. Writes (names_of c.args.named.now) (only Log text) old new c.write_to.result) is c.write_to.ensures
-
-pub returns-clause-created : goal.returns-clause-created
-returns-clause-created g c = writes_created (names_of c.args.named.now) (only Log c.deref.result.now) (g.R.Room.outside c.args.room.now) (g.R.Room.outside c.write_to.new.room) c.write_to.result c.write_to.ensures
+pub returns : goal.returns
+returns g c = record {
+  texts = λ cycle h settings.
+      let lines = log_bytes (tree_of c.args.model.now settings) (letters_of c.args.named.now.letters) (cycle ∷ []) in
+      c.write_piece.ensures.texts lines (on_ok_weaker c.log_bytes-filled.result (λ ok. c.deref.ensures.value ∙ ok cycle h settings ∙ ap (λ xs. xs ++ lines) c.clear.ensures.items) c.log_bytes-filled.ensures.ok);
+  created = c.write_piece.ensures.created;
+}
