@@ -3,3 +3,5 @@ pub mod Taken
 pub mod Looked
 pub mod Asking
 pub mod Fewer
+pub mod Options
+pub mod Drawing

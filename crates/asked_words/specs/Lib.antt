@@ -1,2 +1,4 @@
 pub mod Shown
 pub mod Looking
+pub mod Options
+pub mod Running

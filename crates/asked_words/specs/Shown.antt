@@ -1,5 +1,5 @@
 -- What is asked for, without where it lies.
-use Rattle.std.specs.Prelude.{◌≤◌, Option, Some, None, List, [], ◌∷◌, IfSome, IsTrue, ⊤, codes}
+use Rattle.std.specs.Prelude.{◌≤◌, Option, None, List, [], ◌∷◌, IfSome, IsTrue, ⊤}
 use Rattle.std.specs.List.{filter_map}
 use Rattle.std.specs.Option.{option_map}
 use Rattle.std.specs.Borrow.{Bor}

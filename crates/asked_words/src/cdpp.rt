@@ -1,20 +1,33 @@
 // What the words of the simulator ask for.
-ghost use Rattle.std.specs.Prelude.{◌≡◌, ◌≤◌, [], ◌∷◌, IfOk, IfSome, IsTrue, map};
+ghost use Rattle.std.specs.Prelude.{◌≡◌, ◌≤◌, [], ◌∷◌, IfOk, IfSome, IsTrue, map, codes};
 ghost use Rattle.std.specs.List.{filter_map};
 ghost use Rattle.std.specs.Option.{option_map};
 ghost use Rattle.std.specs.String.{string_bytes};
-ghost use Rattle.clap.specs.Words.{rows_of, found_of};
+ghost use Rattle.clap.specs.Words.{rows_of, found_of, first_of};
 ghost use Rattle.answer_model.specs.Asked as A;
 ghost use Rattle.answer_model.specs.Asked.{built_letters};
 ghost use Rattle.asked_words.specs.Shown.{text_of_name, source_of, frames_of, asked_of, IsOfSize, CanBeShown, IsInBounds, given_names};
+ghost use Rattle.asked_words.specs.Running.{run_of, run_asked, IsRun};
 
 use crate::asked::{Asked, FramesFile, Source};
 use crate::command::cdpp_matches;
 use crate::looks::{Looks, looks_in};
 use crate::values::{differ_all, end_in, group_in, letters_or_y, number, number_or};
 use clap::ArgMatches;
-use quantity::OutOfMemory;
+use quantity::{OutOfMemory, Time};
 use std::alloc::Global;
+
+/// What is asked for beside the frames.
+#[derive(Clone, Copy)]
+struct Run<'a> {
+    source: Source<'a>,
+    end: Time,
+    events: Option<&'a str>,
+    log: Option<&'a str>,
+    out: Option<&'a str>,
+    letters: &'a str,
+    limit: u32,
+}
 
 /// A model's file, or the size of a made one, and not both.
 fn source_in<'a>(model: Option<&'a str>, size: Option<&'a str>) -> Option<Source<'a>>
@@ -80,49 +93,69 @@ fn names_differ(
     differ_all(&[model, events, log, out, frames])
 }
 
-/// What the matches ask for.
-#[tactic(auto, using(crate::proofs::Matched::value_is))]
-fn asked_in<'a>(alloc: Global, matches: &ArgMatches<'a>) -> Result<Option<Asked<'a>>, OutOfMemory>
-    ensures value { IfOk result (λ a. option_map asked_of a
-        ≡ A.asked_in built_letters (rows_of (found_of matches.now))) }
-    ensures bounds { IfOk result (λ a. IfSome a IsInBounds) }
+/// What is asked for beside the frames, where the names of files differ.
+fn run_in<'a>(matches: &ArgMatches<'a>) -> Option<Run<'a>>
+    ensures value { option_map run_of result ≡ run_asked (rows_of (found_of matches.now)) }
+    ensures bounds { IfSome result
+        (IsRun (first_of (codes "d") (rows_of (found_of matches.now)))) }
 {
     let model = matches.get_str("m");
     let events = matches.get_str("e");
     let log = matches.get_str("l");
     let out = matches.get_str("o");
-    let frames_name = matches.get_str("d");
+    let differ = names_differ(model, events, log, out, matches.get_str("d"));
     let Some(source) = source_in(model, matches.get_str("G")) else {
-        return Ok(None);
+        return None;
     };
     let Some(end) = end_in(matches.get_str("t")) else {
-        return Ok(None);
+        return None;
     };
     let Some(letters) = letters_or_y(matches.get_str("L")) else {
-        return Ok(None);
+        return None;
     };
     let Some(limit) = number_or(10000, 1, 1_000_000, matches.get_str("c")) else {
+        return None;
+    };
+    if differ {
+        Some(Run {
+            source,
+            end,
+            events,
+            log,
+            out,
+            letters,
+            limit,
+        })
+    } else {
+        None
+    }
+}
+
+/// What the matches ask for.
+fn asked_in<'a>(alloc: Global, matches: &ArgMatches<'a>) -> Result<Option<Asked<'a>>, OutOfMemory>
+    ensures value { IfOk result (λ a. option_map asked_of a
+        ≡ A.asked_in built_letters (rows_of (found_of matches.now))) }
+    ensures bounds { IfOk result (λ a. IfSome a IsInBounds) }
+{
+    let Some(asked) = run_in(matches) else {
         return Ok(None);
     };
     let Some(looks) = looks_in(matches) else {
         return Ok(None);
     };
-    let Some(frames) = frames_in(alloc, frames_name, matches.get_str("g"), looks)? else {
-        return Ok(None);
-    };
-    if !names_differ(model, events, log, out, frames_name) {
-        return Ok(None);
+    match frames_in(alloc, matches.get_str("d"), matches.get_str("g"), looks)? {
+        None => Ok(None),
+        Some(frames) => Ok(Some(Asked {
+            source: asked.source,
+            end: asked.end,
+            events: asked.events,
+            log: asked.log,
+            out: asked.out,
+            frames,
+            letters: asked.letters,
+            limit: asked.limit,
+        })),
     }
-    Ok(Some(Asked {
-        source,
-        end,
-        events,
-        log,
-        out,
-        frames,
-        letters,
-        limit,
-    }))
 }
 
 /// What the words ask for, of which the first is the program's name; None where they are refused.

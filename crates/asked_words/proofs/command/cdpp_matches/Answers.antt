@@ -1,24 +1,23 @@
-use Rattle.std.proofs.Common.{◌∙◌, ◌==◌, ap, sym, map, length}
+use Rattle.std.proofs.Common.{◌∙◌, ap, map}
+use Rattle.std.proofs.lemmas.Result.{IfOk-weaker}
 use Rattle.std.specs.String.{string_bytes}
-use Rattle.clap.specs.Words.{fault_of, matches_of, is_simple, is_simple_and_free}
-use Rattle.asked_words.proofs.Taken.{cdpp_simple, cdpp_free, no_faults, some_fault}
+use Rattle.clap.specs.Words.{is_simple, is_simple_and_free, matches_of}
+use Rattle.answer_model.specs.Asked.{is_taken}
+use Rattle.asked_words.proofs.Taken.{cdpp_simple, cdpp_free, rows_same}
 use Rattle.asked_words.proofs.command.cdpp_matches.Goals as goal
 
-pub returns-in-Ok-clause-taken : goal.returns-in-Ok-clause-taken
-returns-in-Ok-clause-taken c =
-    let words = map string_bytes c.args.words.now in
-    let is = c.in_ok-command.ensures in
-    no_faults _ (sym (ap (λ x. fault_of x words) is) ∙ c.in-Ok.ensures.kinds (ap is_simple_and_free is ∙ cdpp_free))
+pub matches_in-requires-clause-simple : goal.matches_in-requires-clause-simple
+matches_in-requires-clause-simple c = ap is_simple c.in_ok-cdpp_command.ensures ∙ cdpp_simple
 
-pub returns-in-Ok-clause-rows : goal.returns-in-Ok-clause-rows
-returns-in-Ok-clause-rows c =
-    let words = map string_bytes c.args.words.now in
-    let is = c.in_ok-command.ensures in
-    (c.in-Ok.ensures.matches (ap is_simple is ∙ cdpp_simple)).0 ∙ ap (λ x. matches_of x words) is
+pub matches_in-requires-clause-free : goal.matches_in-requires-clause-free
+matches_in-requires-clause-free c = ap is_simple_and_free c.in_ok-cdpp_command.ensures ∙ cdpp_free
 
 pub returns-clause-taken : goal.returns-clause-taken
 returns-clause-taken c =
     let words = map string_bytes c.args.words.now in
-    let is = c.in_ok-command.ensures in
-    let has = c.in-Err.ensures.kinds (ap is_simple_and_free is ∙ cdpp_free) in
-    some_fault _ c.in-Err.error has (λ e. c.in_default.not-OutOfMemory (c.kind.ensures ∙ e)) ∙ ap (λ x. length (fault_of x words) == 0) is
+    IfOk-weaker c.matches_in.result _ _ (λ m taken. taken ∙ ap (λ x. is_taken x words) c.in_ok-cdpp_command.ensures) c.matches_in.ensures.taken
+
+pub returns-clause-rows : goal.returns-clause-rows
+returns-clause-rows c =
+    let words = map string_bytes c.args.words.now in
+    IfOk-weaker c.matches_in.result _ _ (λ m rows. rows_same m _ _ (ap (λ x. matches_of x words) c.in_ok-cdpp_command.ensures) rows) c.matches_in.ensures.rows
