@@ -25,18 +25,24 @@ pub(crate) fn first_children(alloc: Global, section: &Section) -> Result<Vec<Ite
         ≡ first_items (W.children_of (section_of section.now))) }
 {
     let all = children(alloc, section)?;
-    first_of_names(alloc, &all)
+    let mut found = Vec::new(alloc);
+    add_first_of_names(alloc, &all, &mut found)?;
+    Ok(found)
 }
 
-fn first_of_names<'a>(alloc: Global, items: &[Item<'a>]) -> Result<Vec<Item<'a>>, OutOfMemory>
-    ensures { IfOk result (λ found. map item_of found.items ≡ first_items (map item_of items.now)) }
+fn add_first_of_names<'a>(
+    alloc: Global,
+    items: &[Item<'a>],
+    found: &mut Vec<Item<'a>>,
+) -> Result<(), OutOfMemory>
+    requires { map item_of found.old.items ≡ [] }
+    ensures { OnOk result (map item_of found.new.items ≡ first_items (map item_of items.now)) }
 {
     let mut names = TextSet::new(alloc);
-    let mut found = Vec::new(alloc);
     for item in items {
-        add_item(item, &mut names, &mut found)?;
+        add_item(item, &mut names, found)?;
     }
-    Ok(found)
+    Ok(())
 }
 
 /// Puts an item behind the others, unless one of its name is there.

@@ -2,9 +2,9 @@
 ghost use Rattle.std.specs.Prelude.{◌≡◌, ◌∷◌, ◌&&◌, [], IfOk};
 ghost use Rattle.std.specs.List.{list_any};
 ghost use Rattle.std.specs.Option.{option_map, option_and_then};
-ghost use Rattle.quantity.specs.Bytes.{is_byte};
+ghost use Rattle.quantity.specs.Bytes.{is_byte, words};
 ghost use Rattle.quantity.specs.Names.{is_name};
-ghost use Rattle.source_text.specs.Shown.{named_of};
+ghost use Rattle.source_text.specs.Shown.{named_of, texts};
 ghost use Rattle.source_text.specs.Tuples.{parts_of};
 ghost use Rattle.ma_lines.specs.Sections.{section_of};
 ghost use Rattle.model_text.specs.Links as L;
@@ -34,7 +34,21 @@ pub fn link_of(
     ensures { IfOk result (λ link. link ≡ L.link_of (section_of section.now) entry.now) }
 {
     let text = link_text(alloc, entry.value.as_bytes())?;
-    let Some((first, second)) = two_ends(&text) else {
+    link_in(alloc, section, grid, &text)
+}
+
+/// The link between the two words of a text.
+fn link_in(
+    alloc: Global,
+    section: &Section,
+    grid: Option<&Grid>,
+    text: &[u8],
+) -> Result<Option<Link>, OutOfMemory>
+    requires { IsSpaceOf (section_of section.now) grid }
+    ensures { IfOk result (λ link. link
+        ≡ L.link_of_texts (section_of section.now) (words text.now)) }
+{
+    let Some((first, second)) = two_ends(text) else {
         return Ok(None);
     };
     let from = end_in(alloc, section, grid, first)?;
@@ -141,9 +155,16 @@ fn one_tuple<'a>(
     let Some(parts) = parts(alloc, text)? else {
         return Ok(None);
     };
-    match parts.as_slice() {
-        [part] => Ok(tuple_of_group(section, part)),
-        _ => Ok(None),
+    Ok(tuple_of_parts(section, &parts))
+}
+
+/// The tuple of the one part; None where there are more or fewer parts.
+fn tuple_of_parts<'a>(section: &Section, parts: &[&'a [u8]]) -> Option<NamedTuple<'a>>
+    ensures { option_map named_of result ≡ L.one_tuple (section_of section.now) (texts parts.now) }
+{
+    match parts {
+        [part] => tuple_of_group(section, part),
+        _ => None,
     }
 }
 

@@ -51,13 +51,32 @@ pub fn face_of<'a>(
     ensures cells { IfOk result (λ face. face.cells ≡ cells_of (section_of section.now)) }
 {
     let children = first_children(alloc, section)?;
-    let sources = sources(alloc, sections, section, &children)?;
-    let targets = targets(alloc, sections, section, &children)?;
-    Ok(Face {
-        sources,
-        targets,
+    face_over(alloc, sections, section, &children, grid)
+}
+
+/// The face of a section that has these children.
+fn face_over<'a>(
+    alloc: Global,
+    sections: &'a Sections,
+    section: &'a Section,
+    children: &[Item<'a>],
+    grid: Option<&Grid>,
+) -> Result<Face<'a>, OutOfMemory>
+    requires { IsSpaceOf (section_of section.now) grid }
+    ensures sources { IfOk result (λ face. sources_of face
+        ≡ source_ends sections.now (section_of section.now) (map item_of children.now)) }
+    ensures targets { IfOk result (λ face. targets_of face
+        ≡ target_ends sections.now (section_of section.now) (map item_of children.now)) }
+    ensures cells { IfOk result (λ face. face.cells ≡ cells_of (section_of section.now)) }
+{
+    let mut face = Face {
+        sources: IndexSet::new(alloc),
+        targets: IndexSet::new(alloc),
         cells: cells(section, grid),
-    })
+    };
+    add_sources(alloc, sections, section, children, &mut face.sources)?;
+    add_targets(alloc, sections, section, children, &mut face.targets)?;
+    Ok(face)
 }
 
 fn cells(section: &Section, grid: Option<&Grid>) -> u32
@@ -71,64 +90,95 @@ fn cells(section: &Section, grid: Option<&Grid>) -> u32
     }
 }
 
-/// The inputs of a section and the outputs of these children.
-fn sources<'a>(
+/// Adds the inputs of a section and the outputs of these children.
+fn add_sources<'a>(
     alloc: Global,
     sections: &'a Sections,
     section: &'a Section,
     children: &[Item<'a>],
-) -> Result<IndexSet<LentEnd<'a>>, OutOfMemory>
-    ensures { IfOk result (λ ends. map end_of ends.keys
+    ends: &mut IndexSet<LentEnd<'a>>,
+) -> Result<(), OutOfMemory>
+    requires { map end_of ends.old.keys ≡ [] }
+    ensures { OnOk result (map end_of ends.new.keys
         ≡ source_ends sections.now (section_of section.now) (map item_of children.now)) }
 {
-    let mut ends = own(alloc, section, b"in")?;
+    add_own(alloc, section, b"in", ends)?;
     for child in children {
-        let ports = outputs(alloc, sections, child)?;
-        add_of_child(name_of(child), &ports, &mut ends)?;
+        add_outputs(alloc, sections, child, ends)?;
     }
-    Ok(ends)
+    Ok(())
 }
 
-/// The outputs of a section and the inputs of these children.
-fn targets<'a>(
+/// Adds the outputs of a section and the inputs of these children.
+fn add_targets<'a>(
     alloc: Global,
     sections: &'a Sections,
     section: &'a Section,
     children: &[Item<'a>],
-) -> Result<IndexSet<LentEnd<'a>>, OutOfMemory>
-    ensures { IfOk result (λ ends. map end_of ends.keys
+    ends: &mut IndexSet<LentEnd<'a>>,
+) -> Result<(), OutOfMemory>
+    requires { map end_of ends.old.keys ≡ [] }
+    ensures { OnOk result (map end_of ends.new.keys
         ≡ target_ends sections.now (section_of section.now) (map item_of children.now)) }
 {
-    let mut ends = own(alloc, section, b"out")?;
+    add_own(alloc, section, b"out", ends)?;
     for child in children {
-        let ports = inputs(alloc, sections, child)?;
-        add_of_child(name_of(child), &ports, &mut ends)?;
+        add_inputs(alloc, sections, child, ends)?;
     }
-    Ok(ends)
+    Ok(())
 }
 
-/// The ports of a section under a key.
-fn own<'a>(
+/// Adds the outputs of a child.
+fn add_outputs<'a>(
+    alloc: Global,
+    sections: &'a Sections,
+    child: &Item<'a>,
+    ends: &mut IndexSet<LentEnd<'a>>,
+) -> Result<(), OutOfMemory>
+    ensures { OnOk result (map end_of ends.new.keys
+        ≡ with_ends (map end_of ends.old.keys) (output_ends sections.now (item_of child.now))) }
+{
+    let ports = outputs(alloc, sections, child)?;
+    add_of_child(name_of(child), &ports, ends)
+}
+
+/// Adds the inputs of a child.
+fn add_inputs<'a>(
+    alloc: Global,
+    sections: &'a Sections,
+    child: &Item<'a>,
+    ends: &mut IndexSet<LentEnd<'a>>,
+) -> Result<(), OutOfMemory>
+    ensures { OnOk result (map end_of ends.new.keys
+        ≡ with_ends (map end_of ends.old.keys) (input_ends sections.now (item_of child.now))) }
+{
+    let ports = inputs(alloc, sections, child)?;
+    add_of_child(name_of(child), &ports, ends)
+}
+
+/// Adds the ports of a section under a key.
+fn add_own<'a>(
     alloc: Global,
     section: &'a Section,
     key: &[u8],
-) -> Result<IndexSet<LentEnd<'a>>, OutOfMemory>
-    ensures { IfOk result (λ ends. map end_of ends.keys
-        ≡ with_ends [] (own_ends (texts_of key.now (section_of section.now)))) }
+    ends: &mut IndexSet<LentEnd<'a>>,
+) -> Result<(), OutOfMemory>
+    ensures { OnOk result (map end_of ends.new.keys
+        ≡ with_ends (map end_of ends.old.keys)
+        (own_ends (texts_of key.now (section_of section.now)))) }
 {
     let ports = ports(alloc, section, key)?;
-    own_ends(alloc, &ports)
+    add_own_ends(&ports, ends)
 }
 
-fn own_ends<'a>(alloc: Global, ports: &[&'a [u8]]) -> Result<IndexSet<LentEnd<'a>>, OutOfMemory>
-    ensures { IfOk result (λ ends. map end_of ends.keys
-        ≡ with_ends [] (own_ends (texts ports.now))) }
+fn add_own_ends<'a>(ports: &[&'a [u8]], ends: &mut IndexSet<LentEnd<'a>>) -> Result<(), OutOfMemory>
+    ensures { OnOk result (map end_of ends.new.keys
+        ≡ with_ends (map end_of ends.old.keys) (own_ends (texts ports.now))) }
 {
-    let mut ends = IndexSet::new(alloc);
     for port in ports {
-        add_end(LentEnd::Own(*port), &mut ends)?;
+        add_end(LentEnd::Own(*port), ends)?;
     }
-    Ok(ends)
+    Ok(())
 }
 
 /// Adds ports of a child.

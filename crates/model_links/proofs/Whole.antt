@@ -1,6 +1,6 @@
 -- The entries of a section, and the sections, one after another.
-use Rattle.std.proofs.Common.{◌≡◌, ℕ, suc, ◌+◌, ◌<◌, ◌≤◌, Bool, true, false, not, cond, Option, Some, List, [], ◌∷◌, ◌++◌, map, length, get_or, take, drop, slice_get, Vec, Global, refl, sym, ap, ◌∙◌, Bor, arith, codes}
-use Rattle.std.proofs.lemmas.List.{take_more, drop_more, map-append, take-append-drop, length-map, length-append, map_push}
+use Rattle.std.proofs.Common.{◌≡◌, ℕ, suc, ◌+◌, ◌<◌, ◌≤◌, Bool, true, false, not, cond, Option, Some, List, [], ◌∷◌, ◌++◌, map, length, get_or, take, drop, slice_get, refl, sym, ap, ◌∙◌, Bor, arith, codes}
+use Rattle.std.proofs.lemmas.List.{take_more, drop_more, map-append, take-append-drop, length-map, length-append}
 use Rattle.std.specs.List.{filter, flat_map}
 use Rattle.std.specs.Int.{from_bool}
 use Rattle.std.specs.Str.{bytes_eq}
@@ -104,9 +104,9 @@ group_at rs i d spaces lt e h =
     ap (λ ys. slice_get ys (length front)) spaces_are ∙ ap (slice_get (map space_of front ++ space_of x ∷ map space_of rest)) (sym (length-map front space_of)) ∙ at_front (map space_of front) (space_of x) (map space_of rest)
 
 -- the links of one more section
-pub links_step : (rs : List (Bor code.Section)) (i : ℕ) (d : Bor code.Section) (old new : List (Vec Link Global)) (links : Vec Link Global) → i < length rs → new ≡ old ++ links ∷ [] → links.items ≡ links_of (section_of (get_or rs i d).now)
-    → map (λ (l : Vec Link Global). l.items) old ≡ map links_of (sections (take i rs)) → map (λ (l : Vec Link Global). l.items) new ≡ map links_of (sections (take (i + 1) rs))
-links_step rs i d old new links lt e same h =
-    ap (map (λ (l : Vec Link Global). l.items)) e ∙ map_push (λ (l : Vec Link Global). l.items) old links ∙ ap (λ xs. xs ++ links.items ∷ []) h ∙ ap (λ l. map links_of (sections (take i rs)) ++ l ∷ []) same
+pub links_step : (rs : List (Bor code.Section)) (i : ℕ) (d : Bor code.Section) (old new : List (List Link)) → i < length rs → new ≡ old ++ links_of (section_of (get_or rs i d).now) ∷ []
+    → old ≡ map links_of (sections (take i rs)) → new ≡ map links_of (sections (take (i + 1) rs))
+links_step rs i d old new lt e h =
+    e ∙ ap (λ xs. xs ++ links_of (section_of (get_or rs i d).now) ∷ []) h
     ∙ sym (ap (λ ys. map links_of (sections ys)) (take_more rs i d lt) ∙ ap (map links_of) (map-append (λ (r : Bor code.Section). section_of r.now) (take i rs) (get_or rs i d ∷ []))
     ∙ map-append links_of (sections (take i rs)) (section_of (get_or rs i d).now ∷ []))

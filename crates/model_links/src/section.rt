@@ -47,12 +47,29 @@ pub(crate) fn section_links(
         ≡ least_refusal (L.of_links sections.now (section_of section.now))) }
 {
     let found = found_links(alloc, section, grid)?;
-    let face = face_of(alloc, sections, section, grid)?;
-    let refused = first_refused(alloc, &face, &found)?;
+    let refused = refused_of(alloc, sections, section, grid, &found)?;
     Ok(ReadLinks {
         links: formed(alloc, found)?,
         refused,
     })
+}
+
+/// The least refusal of the links of a section, all of which these are.
+fn refused_of(
+    alloc: Global,
+    sections: &Sections,
+    section: &Section,
+    grid: Option<&Grid>,
+    found: &[FoundLink],
+) -> Result<Option<Refused>, OutOfMemory>
+    requires space { IsSpaceOf (section_of section.now) grid }
+    requires found { let s = section_of section.now in
+        found.now ≡ map (found_at s) (L.link_entries s) }
+    ensures { IfOk result (λ why. option_map refusal_of why
+        ≡ least_refusal (L.of_links sections.now (section_of section.now))) }
+{
+    let face = face_of(alloc, sections, section, grid)?;
+    first_refused(alloc, &face, found)
 }
 
 /// The links of a section's entries, in their order.

@@ -1,5 +1,5 @@
 // The links of all sections that the walk met.
-ghost use Rattle.std.specs.Prelude.{◌≡◌, true, Some, map, slice_get, IfOk};
+ghost use Rattle.std.specs.Prelude.{◌≡◌, ◌∷◌, ◌++◌, [], true, Some, map, slice_get, IfOk, OnOk};
 ghost use Rattle.std.specs.List.{filter, flat_map};
 ghost use Rattle.std.specs.Option.{option_map};
 ghost use Rattle.ma_lines.specs.Sections.{section_of};
@@ -8,6 +8,7 @@ ghost use Rattle.model_text.specs.Walk as W;
 ghost use Rattle.model_text.specs.Spaces.{space_of};
 ghost use Rattle.model_text.specs.Links as L;
 ghost use Rattle.model_walk.specs.Shown.{refusal_of};
+ghost use Rattle.model_walk.specs.Least.{merged};
 ghost use Rattle.link_ends.specs.Around.{IsSpaceOf};
 
 use crate::section::section_links;
@@ -43,16 +44,44 @@ pub(crate) fn all_links(
         ≡ least_refusal (flat_map (L.of_links sections.now)
         (map (λ r. section_of r.now) met.now))) }
 {
-    let mut links = Vec::with_capacity(alloc, met.len())?;
-    let mut refused = None;
+    let mut all = AllLinks {
+        links: Vec::with_capacity(alloc, met.len())?,
+        refused: None,
+    };
     let mut next: usize = 0;
     for section in met {
-        let read = section_links(alloc, sections, section, grid_of(section, groups, next))?;
-        refused = least(refused, read.refused);
-        links.push(read.links).map_err(AllocError::from)?;
+        add_section(
+            alloc,
+            sections,
+            section,
+            grid_of(section, groups, next),
+            &mut all,
+        )?;
         next += usize::from(is_group(section));
     }
-    Ok(AllLinks { links, refused })
+    Ok(all)
+}
+
+/// Reads and judges the links of one more section.
+fn add_section(
+    alloc: Global,
+    sections: &Sections,
+    section: &Section,
+    grid: Option<&Grid>,
+    all: &mut AllLinks,
+) -> Result<(), OutOfMemory>
+    requires { IsSpaceOf (section_of section.now) grid }
+    ensures links { OnOk result (map (λ list. list.items) all.new.links.items
+        ≡ map (λ list. list.items) all.old.links.items
+        ++ L.links_of (section_of section.now) ∷ []) }
+    ensures refused { OnOk result (option_map refusal_of all.new.refused
+        ≡ merged (option_map refusal_of all.old.refused)
+        (least_refusal (L.of_links sections.now (section_of section.now)))) }
+{
+    let read = section_links(alloc, sections, section, grid)?;
+    all.refused = least(all.refused, read.refused);
+    all.links.push(read.links).map_err(AllocError::from)?;
+    Ok(())
 }
 
 /// The grid of a group's section, for which the next group is; None for that of a coupled

@@ -1,4 +1,4 @@
-use Rattle.std.proofs.Common.{◌≡◌, ◌≤◌, Bool, true, false, ◌+◌, ◌++◌, ◌∷◌, [], Some, map, get_or, drop, take, slice_get, sym, ap, ◌∙◌, Bor, arith, rules}
+use Rattle.std.proofs.Common.{◌≤◌, Bool, true, false, ◌+◌, ◌++◌, ◌∷◌, [], Some, map, get_or, drop, take, slice_get, sym, ap, ◌∙◌, Bor, Vec, Global, List, arith}
 use Rattle.std.proofs.lemmas.List.{length-take}
 use Rattle.std.proofs.lemmas.Option.{slice_get-map}
 use Rattle.std.specs.Option.{option_map}
@@ -6,6 +6,7 @@ use Rattle.std.specs.Int.{from_bool}
 use Rattle.ma_lines.specs.declared.section.Section as code
 use Rattle.ma_lines.specs.Sections.{section_of}
 use Rattle.cell_grid.specs.Space.{Space}
+use Rattle.model_tree.specs.declared.link.Link.{Link}
 use Rattle.model_text.specs.Keyed.{least_refusal}
 use Rattle.model_text.specs.Walk.{is_group}
 use Rattle.model_text.specs.Spaces.{space_of}
@@ -19,6 +20,9 @@ use Rattle.model_links.proofs.walked.all_links.Goals as goal
 from_bool_small : (b : Bool) → from_bool b ≤ 1
 from_bool_small true = omega arith
 from_bool_small false = omega arith
+
+abbrev items_in : Vec Link Global → List Link
+items_in links = links.items
 
 abbrev grid_in : PlacedGroup → Space
 grid_in g = g.grid
@@ -38,7 +42,7 @@ overflow_add-next c =
     let few = groups_few (take c.loop-section.section-index c.args.met.now) in
     let front = length-take c.loop-section.section-index c.args.met.now in
     let one = from_bool_small c.is_group.result in
-    let is = c.from-next.ensures in
+    let is = c.from.ensures in
     omega arith
 
 pub loop-section-preserved : goal.loop-section-preserved
@@ -47,14 +51,13 @@ loop-section-preserved c =
     let i = c.loop-section.section-index in
     let r = c.section-item.result in
     let ss = c.args.sections.now in
-    let pushed : c.push.new.self.items ≡ c.loop-section.links.items ++ c.in_ok-read.read.links ∷ [] = search rules in
-    let read = c.in_ok-read.ensures in
+    let added = c.in_ok-add_section.ensures in
     record {
-      next = ap (λ n. c.loop-section.next + n) (c.from-next.ensures ∙ ap from_bool (c.is_group.ensures ∙ ap (λ (q : Bor code.Section). is_group (section_of q.now)) c.section-item.is))
+      next = ap (λ n. c.loop-section.next + n) (c.from.ensures ∙ ap from_bool (c.is_group.ensures ∙ ap (λ (q : Bor code.Section). is_group (section_of q.now)) c.section-item.is))
           ∙ ap (λ n. n + from_bool (is_group (section_of (get_or rs i r).now))) c.loop-section.invariant.next ∙ sym (groups_more rs i r c.loop-section-test.true);
-      links = links_step rs i r c.loop-section.links.items c.push.new.self.items c.in_ok-read.read.links c.loop-section-test.true pushed
-          (read.links ∙ ap (λ (q : Bor code.Section). links_of (section_of q.now)) c.section-item.is) c.loop-section.invariant.links;
-      refused = ap (λ o. merged o (least_refusal (all_refused ss (drop (i + 1) rs)))) c.least-refused.ensures
-          ∙ section_step ss rs i r (option_map refusal_of c.loop-section.refused) (option_map refusal_of c.in_ok-read.read.refused) (least_refusal (all_refused ss rs)) c.loop-section-test.true
-          (read.refused ∙ ap (λ (q : Bor code.Section). least_refusal (of_links ss (section_of q.now))) c.section-item.is) c.loop-section.invariant.refused;
+      links = links_step rs i r (map items_in c.loop-section.all.links.items) (map items_in c.add_section.new.all.links.items) c.loop-section-test.true
+          (added.links ∙ ap (λ (q : Bor code.Section). map items_in c.loop-section.all.links.items ++ links_of (section_of q.now) ∷ []) c.section-item.is) c.loop-section.invariant.links;
+      refused = ap (λ o. merged o (least_refusal (all_refused ss (drop (i + 1) rs)))) added.refused
+          ∙ section_step ss rs i r (option_map refusal_of c.loop-section.all.refused) (least_refusal (of_links ss (section_of r.now))) (least_refusal (all_refused ss rs)) c.loop-section-test.true
+          (ap (λ (q : Bor code.Section). least_refusal (of_links ss (section_of q.now))) c.section-item.is) c.loop-section.invariant.refused;
     }

@@ -10,6 +10,6 @@ use Rattle.model_links.proofs.walked.all_links.Given as goal
 abbrev pub invariant-loop-section : goal.invariant-loop-section
 invariant-loop-section l = record {
   next : l.next ≡ groups_in (take l.section-index l.met);
-  links : map (λ list. list.items) l.links.items ≡ map links_of (sections (take l.section-index l.met));
-  refused : merged (option_map refusal_of l.refused) (least_refusal (all_refused l.sections (drop l.section-index l.met))) ≡ least_refusal (all_refused l.sections l.met);
+  links : map (λ list. list.items) l.all.links.items ≡ map links_of (sections (take l.section-index l.met));
+  refused : merged (option_map refusal_of l.all.refused) (least_refusal (all_refused l.sections (drop l.section-index l.met))) ≡ least_refusal (all_refused l.sections l.met);
 }
