@@ -12,16 +12,15 @@ ghost use Rattle.cdpp_top.specs.Reading.{answer_by_file, answer_by_events};
 ghost use Rattle.cdpp_top.specs.Visits.{visits_by_events, visits_by_file, visits_with};
 
 use crate::run::run_from;
+use crate::start::Start;
 use crate::tell::tell_events;
 use answer_model::drawn::accepted_events_are_at_ports;
 use asked_words::Asked;
-use atomic_face::{AtomicModel, Stock};
+use atomic_face::AtomicModel;
 use event_list::{EventRefusal, Events};
 use flat_run::Steps;
-use model_tree::Model;
 use quantity::MAX_FILE_BYTES;
 use room_edge::{ReadWhole, Room, read_whole};
-use route_flat::Routes;
 use std::alloc::Global;
 use std::sync::ledger::Ledger;
 use told_lines::complain_named;
@@ -35,25 +34,23 @@ pub(crate) fn run_with_events<R: Room, M: AtomicModel, L: Ledger>(
     alloc: Global,
     room: &mut R,
     asked: &Asked<'_>,
-    model: Model,
-    routes: Routes,
-    stock: Stock<M>,
+    start: Start<M>,
     steps: &mut Steps<L>,
 ) -> u8
-    requires { MayStart asked.now stock model routes }
+    requires { MayStart asked.now start.stock start.model start.routes }
     ensures ends { IfSome (R.outside room.old).files (λ files. (inputs : List Word) → EndsWith
-        (answer_with (asked_of asked.now) files (tree_on model stock) inputs)
+        (answer_with (asked_of asked.now) files (tree_on start.model start.stock) inputs)
         (looked_for inputs) (R.outside room.old) (R.outside room.new) result) }
     ensures causes { EndsBy (R.outside room.old) (R.outside room.new) result }
     ensures visits { IfSome (R.outside room.old).files (λ files. steps.new ≤ steps.old
-        + visits_with (asked_of asked.now) files (tree_on model stock)) }
+        + visits_with (asked_of asked.now) files (tree_on start.model start.stock)) }
 {
     match asked.events {
         None => {
             let none = Events::none(alloc);
-            run_from(alloc, room, asked, model, routes, stock, none, steps)
+            run_from(alloc, room, asked, start, none, steps)
         }
-        Some(name) => run_with_file(alloc, room, asked, name, model, routes, stock, steps),
+        Some(name) => run_with_file(alloc, room, asked, name, start, steps),
     }
 }
 
@@ -63,21 +60,19 @@ fn run_with_file<R: Room, M: AtomicModel, L: Ledger>(
     room: &mut R,
     asked: &Asked<'_>,
     name: &str,
-    model: Model,
-    routes: Routes,
-    stock: Stock<M>,
+    start: Start<M>,
     steps: &mut Steps<L>,
 ) -> u8
-    requires { MayStart asked.now stock model routes }
+    requires { MayStart asked.now start.stock start.model start.routes }
     ensures ends { IfSome (R.outside room.old).files (λ files. (inputs : List Word) → EndsWith
-        (answer_by_file (asked_of asked.now) (tree_on model stock) name.now inputs (files name.now))
+        (answer_by_file (asked_of asked.now) (tree_on start.model start.stock) name.now inputs (files name.now))
         (looked_for inputs) (R.outside room.old) (R.outside room.new) result) }
     ensures causes { EndsBy (R.outside room.old) (R.outside room.new) result }
     ensures visits { IfSome (R.outside room.old).files (λ files. steps.new ≤ steps.old
-        + visits_by_file (asked_of asked.now) (tree_on model stock) (files name.now)) }
+        + visits_by_file (asked_of asked.now) (tree_on start.model start.stock) (files name.now)) }
 {
     match read_whole(alloc, room, name, LONGEST) {
-        Ok(bytes) => run_with_bytes(alloc, room, asked, &bytes, model, routes, stock, steps),
+        Ok(bytes) => run_with_bytes(alloc, room, asked, &bytes, start, steps),
         Err(ReadWhole::Missing) => complain_named(alloc, room, b"missing: ", name, MISSING),
         Err(ReadWhole::ReadFault) => {
             complain_named(alloc, room, b"read fault: ", name, READ_FAULT)
@@ -93,25 +88,23 @@ fn run_with_bytes<R: Room, M: AtomicModel, L: Ledger>(
     room: &mut R,
     asked: &Asked<'_>,
     bytes: &[u8],
-    model: Model,
-    routes: Routes,
-    stock: Stock<M>,
+    start: Start<M>,
     steps: &mut Steps<L>,
 ) -> u8
-    requires start { MayStart asked.now stock model routes }
+    requires start { MayStart asked.now start.stock start.model start.routes }
     requires short { length bytes.now ≤ MAX_FILE_BYTES }
     ensures ends { (inputs : List Word) → EndsWith
-        (answer_by_events (asked_of asked.now) (tree_on model stock) inputs
-        (events_of bytes.now (ins_of (tree_on model stock))))
+        (answer_by_events (asked_of asked.now) (tree_on start.model start.stock) inputs
+        (events_of bytes.now (ins_of (tree_on start.model start.stock))))
         (looked_for inputs) (R.outside room.old) (R.outside room.new) result }
     ensures causes { EndsBy (R.outside room.old) (R.outside room.new) result }
     ensures visits { steps.new ≤ steps.old + visits_by_events (asked_of asked.now)
-        (tree_on model stock) (events_of bytes.now (ins_of (tree_on model stock))) }
+        (tree_on start.model start.stock) (events_of bytes.now (ins_of (tree_on start.model start.stock))) }
 {
     accepted_events_are_at_ports();
-    let read = Events::read(alloc, bytes, &model.top().ins);
+    let read = Events::read(alloc, bytes, &start.model.top().ins);
     match read {
-        Ok(events) => run_from(alloc, room, asked, model, routes, stock, events, steps),
+        Ok(events) => run_from(alloc, room, asked, start, events, steps),
         Err(why) => tell_events(alloc, room, why),
     }
 }

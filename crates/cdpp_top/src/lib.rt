@@ -8,6 +8,7 @@ mod outputs;
 mod program;
 mod reading;
 mod run;
+mod start;
 mod sure;
 mod tell;
 

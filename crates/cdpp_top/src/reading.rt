@@ -16,6 +16,7 @@ ghost use Rattle.cdpp_top.specs.Reading.{source_read};
 ghost use Rattle.cdpp_top.specs.Visits.{visits_to};
 
 use crate::events::run_with_events;
+use crate::start::Start;
 use crate::tell::tell_model;
 use asked_words::{Asked, FramesFile, Source};
 use atomic_face::{AtomicModel, Stock};
@@ -47,7 +48,14 @@ pub(crate) fn read_asked<R: Room, M: AtomicModel, L: Ledger>(
 {
     let mut stock = stock;
     match read_source(alloc, room, asked, &mut stock) {
-        Ok((model, routes)) => run_with_events(alloc, room, asked, model, routes, stock, steps),
+        Ok((model, routes)) => {
+            let start = Start {
+                model,
+                routes,
+                stock,
+            };
+            run_with_events(alloc, room, asked, start, steps)
+        }
         Err(why) => tell_model(alloc, room, why),
     }
 }

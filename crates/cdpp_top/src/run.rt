@@ -11,14 +11,13 @@ ghost use Rattle.cdpp_top.specs.Starting.{tree_on, MayStart};
 ghost use Rattle.cdpp_top.specs.Statuses.{EndsBy};
 
 use crate::outputs::outputs_of;
+use crate::start::Start;
 use asked_words::Asked;
-use atomic_face::{AtomicModel, Stock};
+use atomic_face::AtomicModel;
 use event_list::Events;
 use flat_run::{FlatRun, Steps};
 use linked_queue::LinkedQueue;
-use model_tree::Model;
 use room_edge::Room;
-use route_flat::Routes;
 use run_loop::run_and_tell;
 use std::alloc::Global;
 use std::sync::ledger::Ledger;
@@ -29,30 +28,28 @@ pub(crate) fn run_from<R: Room, M: AtomicModel, L: Ledger>(
     alloc: Global,
     room: &mut R,
     asked: &Asked<'_>,
-    model: Model,
-    routes: Routes,
-    stock: Stock<M>,
+    start: Start<M>,
     events: Events,
     steps: &mut Steps<L>,
 ) -> u8
-    requires start { MayStart asked.now stock model routes }
-    requires at_inputs { AreAtInputs (ins_of (tree_on model stock)) events }
+    requires start { MayStart asked.now start.stock start.model start.routes }
+    requires at_inputs { AreAtInputs (ins_of (tree_on start.model start.stock)) events }
     ensures ends { (inputs : List Word) → EndsWith
-        (answer_from (asked_of asked.now) (tree_on model stock) events inputs None)
+        (answer_from (asked_of asked.now) (tree_on start.model start.stock) events inputs None)
         (looked_for inputs) (R.outside room.old) (R.outside room.new) result }
     ensures causes { EndsBy (R.outside room.old) (R.outside room.new) result }
     // The visits that the reference run may cost.
-    ensures visits { let tree = tree_on model stock in
+    ensures visits { let tree = tree_on start.model start.stock in
         steps.new ≤ steps.old + visits tree (run_of tree events asked.now.end asked.now.limit) }
 {
-    let Ok(queue) = LinkedQueue::with_leaves(alloc, model.leaves()) else {
+    let Ok(queue) = LinkedQueue::with_leaves(alloc, start.model.leaves()) else {
         return NO_MEMORY;
     };
     let run = FlatRun::new(
         alloc,
-        model,
-        routes,
-        stock,
+        start.model,
+        start.routes,
+        start.stock,
         events,
         queue,
         asked.end,

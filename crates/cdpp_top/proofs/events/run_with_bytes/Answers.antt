@@ -18,19 +18,19 @@ use Rattle.cdpp_top.proofs.events.run_with_bytes.Goals as goal
 pub read-read-requires-clause-few : goal.read-read-requires-clause-few
 read-read-requires-clause-few g c =
     let ports = c.deref.ensures.value ∙ ap (λ (top : Coupled). top.ins.items) c.top.ensures in
-    subst (λ names. length names ≤ 65536) (sym ports) (sound_is (tree_on c.args.model c.args.stock) c.requires.start.ready.sound).ins
+    subst (λ names. length names ≤ 65536) (sym ports) (sound_is (tree_on c.args.start.model c.args.start.stock) c.requires.start.ready.sound).ins
 
 pub run_from-requires-clause-at_inputs : goal.run_from-requires-clause-at_inputs
 run_from-requires-clause-at_inputs g c =
     let bytes = c.args.bytes.now in
     let ports = c.deref.ensures.value ∙ ap (λ (top : Coupled). top.ins.items) c.top.ensures in
-    c.accepted_events_are_at_ports.ensures bytes (ins_of (tree_on c.args.model c.args.stock)) c.in-Ok.events (sym (ap (events_of bytes) ports) ∙ c.in-Ok.ensures.ok)
+    c.accepted_events_are_at_ports.ensures bytes (ins_of (tree_on c.args.start.model c.args.start.stock)) c.in-Ok.events (sym (ap (events_of bytes) ports) ∙ c.in-Ok.ensures.ok)
 
 pub returns-in-Ok-clause-ends : goal.returns-in-Ok-clause-ends
 returns-in-Ok-clause-ends g c = λ inputs.
     let a = asked_of c.args.asked.now in
     let bytes = c.args.bytes.now in
-    let tree = tree_on c.args.model c.args.stock in
+    let tree = tree_on c.args.start.model c.args.start.stock in
     let old = g.R.Room.outside c.args.room.now in
     let new = g.R.Room.outside c.run_from.new.room in
     let ports = c.deref.ensures.value ∙ ap (λ (top : Coupled). top.ins.items) c.top.ensures in
@@ -41,7 +41,7 @@ pub returns-in-Err-clause-ends : goal.returns-in-Err-clause-ends
 returns-in-Err-clause-ends g c = λ inputs.
     let a = asked_of c.args.asked.now in
     let bytes = c.args.bytes.now in
-    let tree = tree_on c.args.model c.args.stock in
+    let tree = tree_on c.args.start.model c.args.start.stock in
     let old = g.R.Room.outside c.args.room.now in
     let new = g.R.Room.outside c.tell_events.new.room in
     let ports = c.deref.ensures.value ∙ ap (λ (top : Coupled). top.ins.items) c.top.ensures in
@@ -56,7 +56,7 @@ pub returns-in-Ok-clause-visits : goal.returns-in-Ok-clause-visits
 returns-in-Ok-clause-visits g c =
     let a = asked_of c.args.asked.now in
     let bytes = c.args.bytes.now in
-    let tree = tree_on c.args.model c.args.stock in
+    let tree = tree_on c.args.start.model c.args.start.stock in
     let ports = c.deref.ensures.value ∙ ap (λ (top : Coupled). top.ins.items) c.top.ensures in
     let is = sym (ap (events_of bytes) ports) ∙ c.in-Ok.ensures.ok in
     subst (λ (r : Result (List Event) EventRefusal). c.run_from.new.steps ≤ c.args.steps.now + visits_by_events a tree r) (sym is) c.run_from.ensures.visits

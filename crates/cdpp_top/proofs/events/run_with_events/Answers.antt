@@ -16,14 +16,14 @@ returns-in-None-clause-ends g c =
     let old = g.R.Room.outside c.args.room.now in
     let new = g.R.Room.outside c.run_from.new.room in
     if_some_all old.files _ (λ files inputs.
-    no_events c.args.asked.now files (tree_on c.args.model c.args.stock) inputs c.none-none.result old new c.run_from.result (ap text_of_name c.in-None.is) c.none-none.ensures (c.run_from.ensures.ends inputs))
+    no_events c.args.asked.now files (tree_on c.args.start.model c.args.start.stock) inputs c.none-none.result old new c.run_from.result (ap text_of_name c.in-None.is) c.none-none.ensures (c.run_from.ensures.ends inputs))
 
 pub returns-in-Some-clause-ends : goal.returns-in-Some-clause-ends
 returns-in-Some-clause-ends g c =
     let old = g.R.Room.outside c.args.room.now in
     let new = g.R.Room.outside c.run_with_file.new.room in
     let a = c.args.asked.now in
-    let tree = tree_on c.args.model c.args.stock in
+    let tree = tree_on c.args.start.model c.args.start.stock in
     let name = c.in-Some.name.now in
     let given = c.run_with_file.result in
     IfSome_then old.files {P = λ files. (inputs : List Word) → EndsWith (answer_by_file (asked_of a) tree name inputs (files name)) (looked_for inputs) old new given} c.run_with_file.ensures.ends
@@ -33,7 +33,7 @@ pub returns-in-None-clause-visits : goal.returns-in-None-clause-visits
 returns-in-None-clause-visits g c =
     let old = g.R.Room.outside c.args.room.now in
     let a = asked_of c.args.asked.now in
-    let tree = tree_on c.args.model c.args.stock in
+    let tree = tree_on c.args.start.model c.args.start.stock in
     let within = λ (k : ℕ). c.run_from.new.steps ≤ c.args.steps.now + k in
     if_some_all old.files (λ files. within (visits_with a files tree)) (λ files.
     subst (λ (o : Option Word). within (visits_by_name a files tree o)) (sym (ap text_of_name c.in-None.is))
@@ -43,7 +43,7 @@ pub returns-in-Some-clause-visits : goal.returns-in-Some-clause-visits
 returns-in-Some-clause-visits g c =
     let old = g.R.Room.outside c.args.room.now in
     let a = asked_of c.args.asked.now in
-    let tree = tree_on c.args.model c.args.stock in
+    let tree = tree_on c.args.start.model c.args.start.stock in
     let name = c.in-Some.name.now in
     let within = λ (k : ℕ). c.run_with_file.new.steps ≤ c.args.steps.now + k in
     IfSome_then old.files {P = λ files. within (visits_by_file a tree (files name))} {Q = λ files. within (visits_with a files tree)} c.run_with_file.ensures.visits

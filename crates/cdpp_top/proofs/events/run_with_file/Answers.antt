@@ -21,7 +21,7 @@ use Rattle.cdpp_top.proofs.events.run_with_file.Goals as goal
 pub returns-in-Ok-clause-ends : goal.returns-in-Ok-clause-ends
 returns-in-Ok-clause-ends g c =
     let a = asked_of c.args.asked.now in
-    let tree = tree_on c.args.model c.args.stock in
+    let tree = tree_on c.args.start.model c.args.start.stock in
     let name = c.args.name.now in
     let old = g.R.Room.outside c.args.room.now in
     let mid = g.R.Room.outside c.read_whole.new.room in
@@ -43,7 +43,7 @@ returns-in-Ok-clause-causes g c =
 pub returns-in-Err-Missing-clause-ends : goal.returns-in-Err-Missing-clause-ends
 returns-in-Err-Missing-clause-ends g c =
     let a = asked_of c.args.asked.now in
-    let tree = tree_on c.args.model c.args.stock in
+    let tree = tree_on c.args.start.model c.args.start.stock in
     let name = c.args.name.now in
     let old = g.R.Room.outside c.args.room.now in
     let mid = g.R.Room.outside c.read_whole.new.room in
@@ -62,7 +62,7 @@ returns-in-Err-Missing-clause-causes g c =
 pub returns-in-Err-ReadFault-clause-ends : goal.returns-in-Err-ReadFault-clause-ends
 returns-in-Err-ReadFault-clause-ends g c =
     let a = asked_of c.args.asked.now in
-    let tree = tree_on c.args.model c.args.stock in
+    let tree = tree_on c.args.start.model c.args.start.stock in
     let name = c.args.name.now in
     let old = g.R.Room.outside c.args.room.now in
     let mid = g.R.Room.outside c.read_whole.new.room in
@@ -80,7 +80,7 @@ returns-in-Err-ReadFault-clause-causes g c =
 pub returns-in-Err-TooLong-clause-ends : goal.returns-in-Err-TooLong-clause-ends
 returns-in-Err-TooLong-clause-ends g c =
     let a = asked_of c.args.asked.now in
-    let tree = tree_on c.args.model c.args.stock in
+    let tree = tree_on c.args.start.model c.args.start.stock in
     let name = c.args.name.now in
     let old = g.R.Room.outside c.args.room.now in
     let mid = g.R.Room.outside c.read_whole.new.room in
@@ -101,7 +101,7 @@ returns-in-Err-TooLong-clause-causes g c =
 pub returns-clause-ends : goal.returns-clause-ends
 returns-clause-ends g c =
     let a = asked_of c.args.asked.now in
-    let tree = tree_on c.args.model c.args.stock in
+    let tree = tree_on c.args.start.model c.args.start.stock in
     let name = c.args.name.now in
     let old = g.R.Room.outside c.args.room.now in
     let mid = g.R.Room.outside c.read_whole.new.room in
@@ -117,7 +117,7 @@ returns-clause-causes g c = memory_ends _ _
 pub returns-in-Ok-clause-visits : goal.returns-in-Ok-clause-visits
 returns-in-Ok-clause-visits g c =
     let a = asked_of c.args.asked.now in
-    let tree = tree_on c.args.model c.args.stock in
+    let tree = tree_on c.args.start.model c.args.start.stock in
     let name = c.args.name.now in
     let old = g.R.Room.outside c.args.room.now in
     let within = λ (k : ℕ). c.run_with_bytes.new.steps ≤ c.args.steps.now + k in

@@ -10,18 +10,18 @@ use Rattle.cdpp_top.proofs.run.run_from.Goals as goal
 
 pub returns-in_default-clause-ends : goal.returns-in_default-clause-ends
 returns-in_default-clause-ends g c = λ inputs.
-    no_memory (answer_from (asked_of c.args.asked.now) (tree_on c.args.model c.args.stock) c.args.events inputs None) inputs (g.R.Room.outside c.args.room.now)
+    no_memory (answer_from (asked_of c.args.asked.now) (tree_on c.args.start.model c.args.start.stock) c.args.events inputs None) inputs (g.R.Room.outside c.args.room.now)
 
 pub returns-in_default-clause-causes : goal.returns-in_default-clause-causes
 returns-in_default-clause-causes g c = memory_ends _ _
 
 pub new-run-requires-clause-starts : goal.new-run-requires-clause-starts
 new-run-requires-clause-starts g c =
-    starts_from c.args.asked.now c.args.stock c.args.model c.args.routes c.args.events c.leaves.result c.in-Ok.queue c.requires.start c.requires.at_inputs c.leaves.ensures c.in-Ok.ensures
+    starts_from c.args.asked.now c.args.start.stock c.args.start.model c.args.start.routes c.args.events c.leaves.result c.in-Ok.queue c.requires.start c.requires.at_inputs c.leaves.ensures c.in-Ok.ensures
 
 pub returns-in_default-run-clause-ends : goal.returns-in_default-run-clause-ends
 returns-in_default-run-clause-ends g c = λ inputs.
-    no_memory (answer_from (asked_of c.args.asked.now) (tree_on c.args.model c.args.stock) c.args.events inputs None) inputs (g.R.Room.outside c.args.room.now)
+    no_memory (answer_from (asked_of c.args.asked.now) (tree_on c.args.start.model c.args.start.stock) c.args.events inputs None) inputs (g.R.Room.outside c.args.room.now)
 
 pub returns-in_default-run-clause-causes : goal.returns-in_default-run-clause-causes
 returns-in_default-run-clause-causes g c = memory_ends _ _
@@ -29,7 +29,7 @@ returns-in_default-run-clause-causes g c = memory_ends _ _
 pub run_and_tell-requires : goal.run_and_tell-requires
 run_and_tell-requires g c =
     let e = c.in-Ok-run.ensures in
-    may_run c.args.asked.now c.outputs_of-outputs.result c.in-Ok-run.run' c.args.model c.args.stock c.args.routes c.args.events c.requires.start c.outputs_of-outputs.ensures
+    may_run c.args.asked.now c.outputs_of-outputs.result c.in-Ok-run.run' c.args.start.model c.args.start.stock c.args.start.routes c.args.events c.requires.start c.outputs_of-outputs.ensures
     (record { model = e.model; settings = e.settings; state = e.state; end_is = e.end; limit_is = e.limit; goes = e.goes })
 
 pub returns-clause-ends : goal.returns-clause-ends
@@ -38,7 +38,7 @@ returns-clause-ends g c = λ inputs.
     let a = asked_of c.args.asked.now in
     let old = g.R.Room.outside c.args.room.now in
     let new = g.R.Room.outside c.run_and_tell.new.room in
-    let same = same_answer c.args.asked.now c.in-Ok-run.run' c.args.model c.args.stock c.args.events inputs (record { model = e.model; settings = e.settings; state = e.state; end_is = e.end; limit_is = e.limit; goes = e.goes }) in
+    let same = same_answer c.args.asked.now c.in-Ok-run.run' c.args.start.model c.args.start.stock c.args.events inputs (record { model = e.model; settings = e.settings; state = e.state; end_is = e.end; limit_is = e.limit; goes = e.goes }) in
     subst (λ (x : Answer). EndsWith x (looked_for inputs) old new c.run_and_tell.result) same (c.run_and_tell.ensures.ends a inputs c.outputs_of-outputs.ensures)
 
 pub returns-clause-causes : goal.returns-clause-causes
@@ -49,7 +49,7 @@ returns-clause-visits g c =
     let e = c.in-Ok-run.ensures in
     let a = c.args.asked.now in
     let s = c.in-Ok-run.run' in
-    let made : IsMadeOf s c.args.model c.args.stock c.args.events a.end a.limit = record { model = e.model; settings = e.settings; state = e.state; end_is = e.end; limit_is = e.limit; goes = e.goes } in
-    let may = may_run a c.outputs_of-outputs.result s c.args.model c.args.stock c.args.routes c.args.events c.requires.start c.outputs_of-outputs.ensures made in
+    let made : IsMadeOf s c.args.start.model c.args.start.stock c.args.events a.end a.limit = record { model = e.model; settings = e.settings; state = e.state; end_is = e.end; limit_is = e.limit; goes = e.goes } in
+    let may = may_run a c.outputs_of-outputs.result s c.args.start.model c.args.start.stock c.args.start.routes c.args.events c.requires.start c.outputs_of-outputs.ensures made in
     subst (λ (k : ℕ). c.run_and_tell.new.steps ≤ c.args.steps.now + k)
-    (run_visits c.outputs_of-outputs.result s c.args.model c.args.stock c.args.events a.end a.limit may made) c.run_and_tell.ensures.visits
+    (run_visits c.outputs_of-outputs.result s c.args.start.model c.args.start.stock c.args.events a.end a.limit may made) c.run_and_tell.ensures.visits
