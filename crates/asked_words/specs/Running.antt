@@ -1,5 +1,6 @@
 -- What is asked for beside the frames. Only private clauses name this.
-use Rattle.std.specs.Prelude.{◌≤◌, ℕ, Option, Some, None, List, [], ◌∷◌, IsTrue, codes, if◌then◌else◌}
+use Rattle.std.specs.Prelude.{◌≤◌, ℕ, Option, Some, None, List, [], ◌∷◌}
+use Rattle.std.specs.Prelude.{IsTrue, codes, if◌then◌else◌}
 use Rattle.std.specs.List.{filter_map}
 use Rattle.clap.specs.Walk.{Row}
 use Rattle.quantity.specs.declared.bounds.TheConstants.{MAX_DELAY}

@@ -1,7 +1,8 @@
 // The commands, each with options that take one value.
 ghost use Rattle.std.specs.Prelude.{◌≡◌, true, IfOk, IfSome, Some, map, is_some};
 ghost use Rattle.std.specs.String.{string_bytes};
-ghost use Rattle.clap.specs.Words.{app_of, new_rule, with_rule, rows_of, found_of, matches_of, is_simple, is_simple_and_free};
+ghost use Rattle.clap.specs.Words.{app_of, new_rule, with_rule, rows_of};
+ghost use Rattle.clap.specs.Words.{found_of, matches_of, is_simple, is_simple_and_free};
 ghost use Rattle.answer_model.specs.Asked.{is_taken, cdpp_app};
 ghost use Rattle.answer_model.specs.AskedDrawing.{drawlog_app};
 ghost use Rattle.asked_words.specs.Options.{with_named};
