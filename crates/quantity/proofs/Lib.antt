@@ -4,5 +4,6 @@ pub mod DigitLemmas
 pub mod TimeLemmas
 pub mod Lengths
 pub mod LiteralLemmas
+pub mod Wide
 pub mod Written
 pub mod NothingElse

@@ -1,8 +1,11 @@
 -- What whole reads and writes give.
-use Rattle.std.specs.Prelude.{◌≡◌, ℕ, ◌+◌, ◌≤◌, List, [], ◌∷◌, ◌++◌, ◌⊎◌, length, drop, Option, Some, None, Result, Ok, Err, Vec, IsTrue, ⊤}
+use Rattle.std.specs.Prelude.{◌≡◌, ℕ, ◌+◌, ◌≤◌, IfSome, List, [], ◌∷◌, ◌++◌, ◌⊎◌, length, drop}
+use Rattle.std.specs.Prelude.{Option, Some, None, Result, Ok, Err, Vec, IsTrue, ⊤}
 use Rattle.std.specs.declared.alloc.Global.{Global}
-use Rattle.room_edge.specs.Outside.{Outside, Files}
+use Rattle.room_edge.specs.Outside.{Outside, Files, OnlyRest}
 use Rattle.room_edge.specs.Faults.{Rose}
+use Rattle.room_edge.specs.declared.room.OpenError.{OpenError}
+use Rattle.room_edge.specs.declared.room.OpenError.TheVariants as open_error
 use Rattle.room_edge.specs.declared.whole.ReadWhole.{ReadWhole}
 use Rattle.room_edge.specs.declared.whole.ReadWhole.TheVariants as read
 use Rattle.room_edge.specs.declared.whole.WriteAll.{WriteAll}
@@ -72,3 +75,36 @@ abbrev pub CountsFaultOfAll : {T : Type 0} → Result T WriteAll → ℕ → ℕ
 CountsFaultOfAll (Ok _) old new = new ≡ old
 CountsFaultOfAll (Err (write.WriteFault _)) old new = Rose old new
 CountsFaultOfAll (Err (write.Memory _)) old new = new ≡ old
+
+-- ---- a file that is read whole, in steps: only private clauses name these
+
+-- why a file is not read that could not be opened
+abbrev pub unopened_as : OpenError → ReadWhole
+unopened_as open_error.Missing = read.Missing
+unopened_as open_error.Failed = read.ReadFault
+unopened_as open_error.Memory = read.Memory
+
+-- what was taken of what was left: all, or one byte more than the limit
+abbrev pub IsRestOf : {T : Type 0} → Result T ReadWhole → List ℕ → List ℕ → Option (List ℕ) → Type 0
+IsRestOf (Ok _) rest taken left = (rest ≡ taken) × (left ≡ Some [])
+IsRestOf (Err (read.TooLong n)) rest taken left = (n ≤ length rest) × (left ≡ Some (drop n rest))
+IsRestOf (Err read.Missing) rest taken left = ⊤
+IsRestOf (Err read.ReadFault) rest taken left = ⊤
+IsRestOf (Err read.Memory) rest taken left = ⊤
+
+-- how much was taken of an opened input: no more than the limit, or one byte more
+abbrev pub IsWithin : {T : Type 0} → Result T ReadWhole → ℕ → List ℕ → Type 0
+IsWithin (Ok _) limit taken = length taken ≤ limit
+IsWithin (Err (read.TooLong n)) limit taken = n ≡ limit + 1
+IsWithin (Err read.Missing) limit taken = ⊥
+IsWithin (Err read.ReadFault) limit taken = ⊤
+IsWithin (Err read.Memory) limit taken = ⊤
+
+-- what is left of an opened input is taken
+pub record ReadsRest {T : Type 0} (result : Result T ReadWhole) (limit : ℕ) (taken : List ℕ)
+    (old new : Outside) : Type 0 where
+  pub bytes : IfSome old.rest (λ rest. IsRestOf result rest taken new.rest)
+  pub within : IsWithin result limit taken
+  pub counted : CountsFaultOfWhole result old.read_faults new.read_faults
+  pub faults : old.read_faults ≤ new.read_faults
+  pub only : OnlyRest old new

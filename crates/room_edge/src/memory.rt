@@ -96,8 +96,15 @@ impl Calls {
         ensures counted { self.new ≡ with_call self.old call }
     {
         let number = self.count(call);
-        failing.iter().any(|f| f.0 == call && f.1 == number)
+        failing.iter().any(|f| is_of(f, call, number))
     }
+}
+
+// Whether a call that is to fail is this one.
+fn is_of(failing: &(RoomCall, u64), call: RoomCall, number: u64) -> bool
+    ensures { IsTrue result ↔ ((failing.now.0 ≡ call) × (failing.now.1 ≡ number)) }
+{
+    failing.0 == call && failing.1 == number
 }
 
 impl MemoryRoom {

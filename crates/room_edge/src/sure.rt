@@ -207,13 +207,10 @@ impl Room for SureRoom {
         ensures room { Creates result name.now (sure_outside self.old) (sure_outside self.new) }
         ensures piece { sure_piece self.new ≡ sure_piece self.old }
     {
-        let Ok(key) = String::from_str(self.alloc, name) else {
-            return Err(WriteError::Memory);
-        };
         let Ok(()) = add_name(self.alloc, &mut self.created, name) else {
             return Err(WriteError::Memory);
         };
-        let Ok(_) = self.made.insert(key, Vec::new(self.alloc)) else {
+        let Ok(()) = put(self.alloc, &mut self.made, name, &[]) else {
             let _ = self.created.pop();
             return Err(WriteError::Memory);
         };

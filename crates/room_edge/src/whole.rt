@@ -1,8 +1,11 @@
 //! Whole files and whole pieces, over any room.
-ghost use Rattle.std.specs.Prelude.{◌≡◌, ℕ, ◌+◌, ◌<◌, ◌≤◌, length, take, Contains, IfOk, OnErr, IsErrOf, IfSome};
+ghost use Rattle.std.specs.Prelude.{◌≡◌, ℕ, ◌+◌, ◌<◌, ◌≤◌, [], length, take};
+ghost use Rattle.std.specs.Prelude.{Contains, IsTrue, IfOk, OnErr, IsErrOf, IfSome};
 ghost use Rattle.room_edge.specs.Outside.{OnlyInput, OnlyMade, OnlyShown, OnlyComplained, adds, streams};
 ghost use Rattle.room_edge.specs.Faults.{MissCounted, ReadFaultCounted, WriteFaultCounted, ComplaintFaultCounted, KeepsMisses, KeepsReadFaults, KeepsWriteFaults, KeepsComplaintFaults};
-ghost use Rattle.room_edge.specs.Whole.{IsReadOf, IsLeftOf, KeepsOpen, Tries, CountsMissOfWhole, CountsFaultOfWhole, CountsFaultOfAll, written};
+ghost use Rattle.room_edge.specs.Whole.{IsReadOf, IsLeftOf, KeepsOpen, Tries, CountsMissOfWhole};
+ghost use Rattle.room_edge.specs.Whole.{CountsFaultOfWhole, CountsFaultOfAll, written};
+ghost use Rattle.room_edge.specs.Whole.{unopened_as, ReadsRest};
 
 use crate::{OpenError, Room, WriteError};
 use std::alloc::{AllocError, Global};
@@ -48,6 +51,46 @@ fn left_to_ask(limit: u32, read: usize) -> usize
     limit as usize + 1 - read
 }
 
+// Why a file is not read that could not be opened.
+fn unopened(error: OpenError) -> ReadWhole
+    ensures { result ≡ unopened_as error }
+{
+    match error {
+        OpenError::Missing => ReadWhole::Missing,
+        OpenError::Failed => ReadWhole::ReadFault,
+        OpenError::Memory => ReadWhole::Memory,
+    }
+}
+
+// Takes what is left of an opened input, a piece at a time.
+fn read_rest<R: Room>(
+    room: &mut R,
+    piece: &mut Vec<u8>,
+    bytes: &mut Vec<u8>,
+    limit: u32,
+) -> Result<(), ReadWhole>
+    requires opened { IsTrue (R.outside room.old).opened }
+    requires asked { 0 < length piece.old.items }
+    requires none { bytes.old.items ≡ [] }
+    ensures { ReadsRest result limit bytes.new.items (R.outside room.old) (R.outside room.new) }
+{
+    loop {
+        piece.truncate(left_to_ask(limit, bytes.len()));
+        let Ok(n) = room.read_input(piece) else {
+            return Err(ReadWhole::ReadFault);
+        };
+        if n == 0 {
+            return Ok(());
+        }
+        if n > limit as usize - bytes.len() {
+            return Err(ReadWhole::TooLong(bytes.len() as u64 + n as u64));
+        }
+        if bytes.extend_from_slice(&piece[..n]).is_err() {
+            return Err(ReadWhole::Memory);
+        }
+    }
+}
+
 /// Reads a file of at most `limit` bytes.
 ///
 /// # Errors
@@ -87,25 +130,12 @@ pub fn read_whole<R: Room>(
     };
     match room.open_input(name) {
         Ok(()) => {}
-        Err(OpenError::Missing) => return Err(ReadWhole::Missing),
-        Err(OpenError::Failed) => return Err(ReadWhole::ReadFault),
-        Err(OpenError::Memory) => return Err(ReadWhole::Memory),
+        Err(error) => return Err(unopened(error)),
     }
     let mut bytes: Vec<u8> = Vec::new(alloc);
-    loop {
-        piece.truncate(left_to_ask(limit, bytes.len()));
-        let Ok(n) = room.read_input(&mut piece) else {
-            return Err(ReadWhole::ReadFault);
-        };
-        if n == 0 {
-            return Ok(bytes);
-        }
-        if n > limit as usize - bytes.len() {
-            return Err(ReadWhole::TooLong(bytes.len() as u64 + n as u64));
-        }
-        if bytes.extend_from_slice(&piece[..n]).is_err() {
-            return Err(ReadWhole::Memory);
-        }
+    match read_rest(room, &mut piece, &mut bytes, limit) {
+        Ok(()) => Ok(bytes),
+        Err(error) => Err(error),
     }
 }
 

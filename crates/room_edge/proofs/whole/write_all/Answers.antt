@@ -1,4 +1,5 @@
-use Rattle.std.proofs.Common.{refl, sym, ◌∙◌, rules, arith}
+use Rattle.std.proofs.Common.{refl, sym, ◌∙◌, subst, rules, arith}
+use Rattle.std.specs.Prelude.{Contains}
 use Rattle.room_edge.proofs.Adding.{adds-nil, adds_piece}
 use Rattle.room_edge.proofs.Only.{OnlyMade-refl, OnlyMade-trans}
 use Rattle.room_edge.proofs.whole.write_all.Goals as goal
@@ -17,3 +18,6 @@ loop-done-preserved g c =
       counts_faults = step.failed ∙ was.counts_faults;
       only = OnlyMade-trans _ _ _ was.only step.only;
     }
+
+pub append-requires : goal.append-requires
+append-requires g c = subst (λ names. Contains names c.args.name.now) (sym c.loop-done.invariant.created) c.requires

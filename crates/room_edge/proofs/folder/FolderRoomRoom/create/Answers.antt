@@ -1,4 +1,4 @@
-use Rattle.std.proofs.Common.{map, ap, subst}
+use Rattle.std.proofs.Common.{map, subst}
 use Rattle.std.specs.Prelude.{is_some}
 use Rattle.std.specs.String.{string_bytes}
 use Rattle.room_edge.specs.Calls.{Creates}
