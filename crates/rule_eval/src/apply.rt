@@ -4,7 +4,8 @@ ghost use Rattle.std.specs.Result.{result_ok};
 ghost use Rattle.quantity.specs.declared.value.Value.{Value as AnyValue};
 ghost use Rattle.quantity.specs.Arithmetic.{test_of, is_even, is_odd, is_whole};
 ghost use Rattle.quantity.specs.Truth.{tri_of};
-ghost use Rattle.rule_tree.specs.Meaning.{Sight, number_answered, truth_in, as_answer, one_meaning, two_meaning, by_truth, is_undefined, call_meaning};
+ghost use Rattle.rule_tree.specs.Meaning.{Sight, number_answered, truth_in, as_answer, one_meaning};
+ghost use Rattle.rule_tree.specs.Meaning.{two_meaning, by_truth, is_undefined, call_meaning};
 ghost use Rattle.rule_eval.specs.Seen.{IsView, seen};
 
 use crate::seen::{cell_position, state_count};

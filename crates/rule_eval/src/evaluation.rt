@@ -11,7 +11,8 @@ ghost use Rattle.rule_forms.specs.Depth.{depth_of};
 ghost use Rattle.rule_forms.specs.Forms.{expr_of_form};
 ghost use Rattle.rule_forms.specs.RuleCodes.{codes_of, deepest, rule_depth};
 ghost use Rattle.rule_forms.specs.Numbered.{plain};
-ghost use Rattle.rule_forms.specs.ByCode.{no_values, number_by_code, truth_by_code, given_by_code, set_by_code, delay_by_code, made_by_code, first_by_code};
+ghost use Rattle.rule_forms.specs.ByCode.{no_values, number_by_code, truth_by_code, given_by_code};
+ghost use Rattle.rule_forms.specs.ByCode.{set_by_code, delay_by_code, made_by_code, first_by_code};
 ghost use Rattle.rule_eval.specs.Evaluated.{Evaluates, Makes, GivesValues, SetsVariables};
 
 use crate::answers::{run, truth};
@@ -142,7 +143,6 @@ fn give(
 }
 
 /// The same, where its forms are evaluated.
-#[tactic(auto, using(crate::proofs::Making::made_well, crate::proofs::Making::stopped_by_a_value, crate::proofs::Making::stopped_by_the_delay, crate::proofs::Making::stopped_by_a_set))]
 fn give_formed(
     rule: &RuleCode,
     view: &View,

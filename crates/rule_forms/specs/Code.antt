@@ -5,7 +5,8 @@ use Rattle.rule_tree.specs.declared.node.Node.{Node}
 use Rattle.rule_tree.specs.Expression as E
 use Rattle.rule_tree.specs.Expression.{Expr, Exprs, expr_of}
 use Rattle.rule_forms.specs.declared.code.Op.{Op}
-use Rattle.rule_forms.specs.declared.code.Op.TheVariants.{Number, Truth, Neighbour, Variable, Now, PortValue, Counted, One, Two, Call}
+use Rattle.rule_forms.specs.declared.code.Op.TheVariants.{Number, Truth, Neighbour, Variable, Now}
+use Rattle.rule_forms.specs.declared.code.Op.TheVariants.{PortValue, Counted, One, Two, Call}
 
 -- how many expressions these are
 abbrev pub count_of : Exprs → ℕ

@@ -1,7 +1,8 @@
 -- How many answers stand on the stack.
 use Rattle.std.specs.Prelude.{ℕ, ◌+◌, ◌-◌, max, List, [], ◌∷◌}
 use Rattle.rule_forms.specs.declared.code.Op.{Op}
-use Rattle.rule_forms.specs.declared.code.Op.TheVariants.{Number, Truth, Neighbour, Variable, Now, PortValue, Counted, One, Two, Call}
+use Rattle.rule_forms.specs.declared.code.Op.TheVariants.{Number, Truth, Neighbour, Variable, Now}
+use Rattle.rule_forms.specs.declared.code.Op.TheVariants.{PortValue, Counted, One, Two, Call}
 
 -- after a step, where so many stood before it
 abbrev pub height_after : Op → ℕ → ℕ

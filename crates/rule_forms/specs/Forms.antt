@@ -5,14 +5,17 @@ use Rattle.quantity.specs.declared.value.Compare.TheVariants.{Equal}
 use Rattle.rule_tree.specs.Meaning.{whole}
 use Rattle.rule_tree.specs.declared.node.Unary.TheVariants.{Not}
 use Rattle.rule_tree.specs.declared.node.Binary.TheVariants.{Or, And, Cmp, Add}
-use Rattle.rule_tree.specs.Expression.{Expr, Exprs, number, truth, neighbour, variable, now, port_value, counted, one, two, call, nil, cons}
+use Rattle.rule_tree.specs.Expression.{Expr, Exprs, number, truth, neighbour, variable, now}
+use Rattle.rule_tree.specs.Expression.{port_value, counted, one, two, call, nil, cons}
 use Rattle.rule_forms.specs.declared.forms.PortAt.{PortAt}
 use Rattle.rule_forms.specs.declared.forms.PlainTest.{PlainTest}
 use Rattle.rule_forms.specs.declared.forms.PlainTest.TheVariants.{Truth, NeighbourIs, CountIs, OutIs, CountEquals}
 use Rattle.rule_forms.specs.declared.forms.Test.{Test}
 use Rattle.rule_forms.specs.declared.forms.Test.TheVariants.{Plain, Not', Both', Either', PlainBoth', PlainEither'}
 use Rattle.rule_forms.specs.declared.forms.Form.{Form, Row_of-Form, end_of-Form, more_of-Form}
-use Rattle.rule_forms.specs.declared.forms.Form.TheVariants.{Number, Neighbour, Variable, Now, PortValue, Counted, Test as Tests, Sum, One', Two', Call'}
+use Rattle.rule_forms.specs.declared.forms.Form.TheVariants.{Number, Neighbour, Variable, Now}
+use Rattle.rule_forms.specs.declared.forms.Form.TheVariants.{PortValue, Counted, Test as Tests, Sum}
+use Rattle.rule_forms.specs.declared.forms.Form.TheVariants.{One', Two', Call'}
 
 -- the expression that a test stands for which is made of no other tests
 abbrev pub expr_of_plain : PlainTest → Expr

@@ -4,9 +4,11 @@ use Rattle.std.specs.Option.{unwrap_or}
 use Rattle.quantity.specs.Written.{for_some}
 use Rattle.rule_tree.specs.declared.outcome.Answer.{Answer}
 use Rattle.rule_tree.specs.Expression.{Expr}
-use Rattle.rule_tree.specs.Meaning.{Sight, value_at, outs, number, logic, whole, counted, one_meaning, two_meaning, call_meaning, meaning}
+use Rattle.rule_tree.specs.Meaning.{Sight, value_at, outs, number, logic, whole, counted}
+use Rattle.rule_tree.specs.Meaning.{one_meaning, two_meaning, call_meaning, meaning}
 use Rattle.rule_forms.specs.declared.code.Op.{Op}
-use Rattle.rule_forms.specs.declared.code.Op.TheVariants.{Number, Truth, Neighbour, Variable, Now, PortValue, Counted, One, Two, Call}
+use Rattle.rule_forms.specs.declared.code.Op.TheVariants.{Number, Truth, Neighbour, Variable, Now}
+use Rattle.rule_forms.specs.declared.code.Op.TheVariants.{PortValue, Counted, One, Two, Call}
 use Rattle.rule_forms.specs.Code.{code_of}
 
 -- an answer on top of the stack

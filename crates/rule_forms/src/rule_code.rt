@@ -124,8 +124,8 @@ impl RuleCode {
         self.constant_delay
     }
 
-    /// All that it gives, where its values and its delay are numbers and nothing is set: that is the
-    /// same whatever a cell sees.
+    /// All that it gives, where its values and its delay are numbers and nothing is set: that is
+    /// the same whatever a cell sees.
     #[inline(always)]
     pub fn constant(&self) -> Option<&Constant>
         ensures always { IfSome result (λ c. AlwaysMakes self.now c.now) }

@@ -1,3 +1,4 @@
+mod Numbers
 pub mod Edges
 pub mod Apart
 pub mod Found

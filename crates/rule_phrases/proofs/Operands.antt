@@ -11,8 +11,25 @@ use Rattle.rule_tree.specs.Scope.{Names}
 use Rattle.rule_words.specs.Reading.{Part, operator_in}
 use Rattle.rule_words.specs.Descent.{Reader, then_on, joined}
 use Rattle.rule_phrases.specs.Between.{operator_before, most_operators, operands_before}
-use Rattle.rule_words.specs.Shown.{tokens_of}
+use Rattle.rule_words.specs.Shown.{level_of, tokens_of}
+use Rattle.rule_words.specs.declared.level.Level as L
+use Rattle.rule_words.specs.declared.level.Level.TheVariants.{Expression, Disjunction, Conjunction, Negation, Comparison, Sum, Product, Signed, Primary}
 use Rattle.rule_terms.specs.Terms.{Stands, IsFront}
+
+-- how many operators join operands: a comparison is joined to no other
+pub one_operator : (l : L.Level) (n : ℕ) → l ≡ Comparison → 1 ≡ most_operators (level_of l) n
+one_operator l n e = let Q : L.Level → Type 0 = λ k. 1 ≡ most_operators (level_of k) n in subst Q (sym e) refl
+
+pub many_operators : (l : L.Level) (n : ℕ) → ((l ≡ Comparison) → ⊥) → n ≡ most_operators (level_of l) n
+many_operators Expression n h = refl
+many_operators Disjunction n h = refl
+many_operators Conjunction n h = refl
+many_operators Negation n h = refl
+many_operators Comparison n h = absurd (h refl)
+many_operators Sum n h = refl
+many_operators Product n h = refl
+many_operators Signed n h = refl
+many_operators Primary n h = refl
 
 -- a term is what was read so far, where so many of at most so many operators were read
 pub record Joining (names : Names) (operand : Reader) (l : Level) (most turns : ℕ) (all : Part Phrase) (t : Term) (rest : List Token) : Type 0 where

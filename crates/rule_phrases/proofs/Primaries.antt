@@ -1,16 +1,16 @@
 -- What stands in parentheses is read one level of parentheses deeper.
-use Rattle.std.proofs.Common.{◌≡◌, ◌<◌, ◌≤◌, ℕ, zero, suc, Option, Some, None, List, length, sym, ap, subst, arith}
+use Rattle.std.proofs.Common.{◌≡◌, ◌<◌, ◌≤◌, ℕ, zero, suc, Option, Some, None, List, length, refl, sym, ap, subst, arith}
 use Rattle.std.specs.Option.{option_or}
 use Rattle.rule_words.specs.declared.level.Level as L
 use Rattle.rule_words.specs.declared.level.Level.TheVariants.{Expression, Disjunction, Conjunction, Negation, Comparison, Sum, Product, Signed, Primary}
 use Rattle.rule_tree.specs.declared.function.Function.{Function}
 use Rattle.rule_terms.specs.declared.front.Front.{Front}
 use Rattle.rule_words.specs.Tokens.{Token}
-use Rattle.rule_tree.specs.Phrases.{Phrase, expr, comp, primary}
+use Rattle.rule_tree.specs.Phrases.{Level, Phrase, expr, disj, conj, neg, comp, sum, prod, signed, primary, tighter}
 use Rattle.rule_tree.specs.Scope.{Names}
 use Rattle.rule_words.specs.Reading.{Part}
 use Rattle.rule_words.specs.Descent.{Reader, then_on, atom_before, opening_before, opened, primary_before, enclosed_before, call_before, prefixed, at_level, reading}
-use Rattle.rule_phrases.specs.Between.{sign_at}
+use Rattle.rule_phrases.specs.Between.{operands_before, sign_at}
 use Rattle.rule_words.specs.Shown.{level_of, token_of, tokens_of}
 use Rattle.rule_words.specs.declared.token.Token as T
 use Rattle.std.proofs.lemmas.List.{length-map}
@@ -18,16 +18,19 @@ use Rattle.std.specs.Option.{IfSome}
 use Rattle.rule_terms.specs.Terms.{IsFront}
 
 -- how many levels are tighter
+abbrev pub tighter_than : Level → ℕ
+tighter_than expr = 8
+tighter_than disj = 7
+tighter_than conj = 6
+tighter_than neg = 5
+tighter_than comp = 4
+tighter_than sum = 3
+tighter_than prod = 2
+tighter_than signed = 1
+tighter_than primary = 0
+
 abbrev pub looseness : L.Level → ℕ
-looseness Expression = 8
-looseness Disjunction = 7
-looseness Conjunction = 6
-looseness Negation = 5
-looseness Comparison = 4
-looseness Sum = 3
-looseness Product = 2
-looseness Signed = 1
-looseness Primary = 0
+looseness l = tighter_than (level_of l)
 
 pub deeper : (names : Names) (read : Reader → Part Phrase) (o : Option Front) (n m : ℕ) → m < n → ((k : ℕ) → m ≤ k → IsFront names (read (at_level (reading k) expr)) o) → IsFront names (read (reading n)) o
 deeper names read o zero m h found = absurd (omega arith)
@@ -72,15 +75,31 @@ call_is_primary names n m ts us f g o h e is lt found =
 
 -- ---- levels
 
-pub at_negation : (names : Names) (l : L.Level) (read : Reader) (ts : List Token) (o : Option Front) → l ≡ Negation → IsFront names (prefixed (sign_at (level_of l)) (at_level read comp) ts) o → IsFront names (at_level read (level_of l) ts) o
-at_negation names l read ts o e h =
-    let Q : L.Level → Type 0 = λ l. IsFront names (prefixed (sign_at (level_of l)) (at_level read comp) ts) o → IsFront names (at_level read (level_of l) ts) o in
-    subst Q (sym e) (λ h. h) h
+pub at_negation : (names : Names) (l k : L.Level) (read : Reader) (ts : List Token) (o : Option Front) → l ≡ Negation → level_of k ≡ tighter (level_of l) → IsFront names (prefixed (sign_at (level_of l)) (at_level read (level_of k)) ts) o → IsFront names (at_level read (level_of l) ts) o
+at_negation names l k read ts o e t h =
+    let Q : L.Level → Type 0 = λ l. IsFront names (prefixed (sign_at (level_of l)) (at_level read (tighter (level_of l))) ts) o → IsFront names (at_level read (level_of l) ts) o in
+    subst Q (sym e) (λ h. h) (subst (λ (p : Level). IsFront names (prefixed (sign_at (level_of l)) (at_level read p) ts) o) t h)
 
-pub at_signed : (names : Names) (l : L.Level) (read : Reader) (ts : List Token) (o : Option Front) → l ≡ Signed → IsFront names (prefixed (sign_at (level_of l)) (at_level read primary) ts) o → IsFront names (at_level read (level_of l) ts) o
-at_signed names l read ts o e h =
-    let Q : L.Level → Type 0 = λ l. IsFront names (prefixed (sign_at (level_of l)) (at_level read primary) ts) o → IsFront names (at_level read (level_of l) ts) o in
-    subst Q (sym e) (λ h. h) h
+pub at_signed : (names : Names) (l k : L.Level) (read : Reader) (ts : List Token) (o : Option Front) → l ≡ Signed → level_of k ≡ tighter (level_of l) → IsFront names (prefixed (sign_at (level_of l)) (at_level read (level_of k)) ts) o → IsFront names (at_level read (level_of l) ts) o
+at_signed names l k read ts o e t h =
+    let Q : L.Level → Type 0 = λ l. IsFront names (prefixed (sign_at (level_of l)) (at_level read (tighter (level_of l))) ts) o → IsFront names (at_level read (level_of l) ts) o in
+    subst Q (sym e) (λ h. h) (subst (λ (p : Level). IsFront names (prefixed (sign_at (level_of l)) (at_level read p) ts) o) t h)
+
+pub at_operands : (names : Names) (l k : L.Level) (read : Reader) (ts : List Token) (o : Option Front) → level_of k ≡ tighter (level_of l) → ((l ≡ Negation) → ⊥) → ((l ≡ Signed) → ⊥) → ((l ≡ Primary) → ⊥)
+    → IsFront names (operands_before (level_of l) (at_level read (level_of k)) ts) o → IsFront names (at_level read (level_of l) ts) o
+at_operands names l k read ts o t n s p h =
+    at l n s p (subst (λ (q : Level). IsFront names (operands_before (level_of l) (at_level read q) ts) o) t h)
+  where
+    at : (l : L.Level) → ((l ≡ Negation) → ⊥) → ((l ≡ Signed) → ⊥) → ((l ≡ Primary) → ⊥) → IsFront names (operands_before (level_of l) (at_level read (tighter (level_of l))) ts) o → IsFront names (at_level read (level_of l) ts) o
+    at Expression n s p h = h
+    at Disjunction n s p h = h
+    at Conjunction n s p h = h
+    at Negation n s p h = absurd (n refl)
+    at Comparison n s p h = h
+    at Sum n s p h = h
+    at Product n s p h = h
+    at Signed n s p h = absurd (s refl)
+    at Primary n s p h = absurd (p refl)
 
 pub at_primary : (names : Names) (l : L.Level) (read : Reader) (ts : List Token) (o : Option Front) → l ≡ Primary → IsFront names (primary_before read ts) o → IsFront names (at_level read (level_of l) ts) o
 at_primary names l read ts o e h = let Q : L.Level → Type 0 = λ l. IsFront names (at_level read (level_of l) ts) o in subst Q (sym e) h

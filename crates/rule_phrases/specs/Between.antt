@@ -1,11 +1,14 @@
 -- What a descent reads between phrases: operators, signs and marks.
 use Rattle.std.specs.Prelude.{ℕ, ⊤, ◌≡◌, Option, Some, None, List, [], ◌∷◌, length}
 use Rattle.std.specs.Option.{option_map}
+use Rattle.quantity.specs.Literals.{unsigned_literal}
+use Rattle.quantity.specs.declared.value.Value.{Value}
+use Rattle.quantity.specs.declared.value.Value.TheVariants.{Num}
 use Rattle.rule_tree.specs.declared.node.Unary.{Unary}
 use Rattle.rule_tree.specs.declared.node.Binary.{Binary}
 use Rattle.rule_tree.specs.declared.function.Function.{Function}
 use Rattle.rule_phrases.specs.declared.between.Arguments.{Arguments}
-use Rattle.rule_words.specs.Tokens.{Token}
+use Rattle.rule_words.specs.Tokens.{Token, number}
 use Rattle.rule_tree.specs.Phrases as P
 use Rattle.rule_tree.specs.Phrases.{Phrase, Level, neg, comp}
 use Rattle.rule_tree.specs.Scope.{Names}
@@ -13,6 +16,11 @@ use Rattle.rule_words.specs.Reading.{Part, operator_in, called}
 use Rattle.rule_words.specs.Descent.{Reader, then_on, joined, closed, not_in, sign_in}
 use Rattle.rule_words.specs.Shown.{tokens_of}
 use Rattle.rule_terms.specs.Terms.{AllStand}
+
+-- a number without a sign, and the tokens behind it; only private clauses name this
+abbrev pub unsigned_before : List Token → Part Value
+unsigned_before (number text ∷ ts) = option_map (λ n. (Num n, ts)) (unsigned_literal text)
+unsigned_before ts = None
 
 -- an operator of a level, and the tokens behind it
 abbrev pub operator_before : Level → List Token → Part Binary

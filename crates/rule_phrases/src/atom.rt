@@ -3,6 +3,7 @@ ghost use Rattle.std.specs.Prelude.{◌≡◌, ◌<◌, ◌≤◌, ◌∷◌, le
 ghost use Rattle.std.specs.List.{position};
 ghost use Rattle.std.specs.Option.{option_map};
 ghost use Rattle.quantity.specs.Literals.{unsigned_literal};
+ghost use Rattle.rule_phrases.specs.Between.{unsigned_before};
 ghost use Rattle.rule_words.specs.Descent.{atom_before, opening_before, port_value_before};
 ghost use Rattle.rule_words.specs.Descent.{variable_before, word_before};
 ghost use Rattle.rule_words.specs.AtomParts.{after_word, behind_this_port, marked_before};
@@ -52,16 +53,27 @@ pub fn number_before<'t, 'a>(tokens: &'t [Token<'a>]) -> Option<(Value, &'t [Tok
     ensures { option_map (λ cut. (P.value cut.0, tokens_of cut.1.now)) result
         ≡ number_before (tokens_of tokens.now) }
 {
-    match tokens {
-        [Token::Number(text), rest @ ..] => Some((Value::parse_unsigned(text)?, rest)),
-        [Token::Mark(Mark::Plus), Token::Number(text), rest @ ..] => {
-            Some((Value::parse_unsigned(text)?, rest))
-        }
-        [Token::Mark(Mark::Minus), Token::Number(text), rest @ ..] => {
-            Some((Value::parse_unsigned(text)?.neg(), rest))
-        }
-        _ => None,
+    if let Some(behind) = after_mark(Mark::Minus, tokens) {
+        let Some((value, rest)) = unsigned_before(behind) else {
+            return None;
+        };
+        return Some((value.neg(), rest));
     }
+    match after_mark(Mark::Plus, tokens) {
+        Some(behind) => unsigned_before(behind),
+        None => unsigned_before(tokens),
+    }
+}
+
+/// A number without a sign at the front, and the tokens behind it.
+fn unsigned_before<'t, 'a>(tokens: &'t [Token<'a>]) -> Option<(Value, &'t [Token<'a>])>
+    ensures { option_map (λ cut. (cut.0, tokens_of cut.1.now)) result
+        ≡ unsigned_before (tokens_of tokens.now) }
+{
+    let [Token::Number(text), rest @ ..] = tokens else {
+        return None;
+    };
+    Some((Value::parse_unsigned(text)?, rest))
 }
 
 /// A cell at the front, and the tokens behind it.

@@ -4,6 +4,7 @@ ghost use Rattle.std.specs.Prelude.{◌≡◌, ◌<◌, ◌≤◌, [], ◌∷◌
 ghost use Rattle.rule_phrases.specs.Between.{AreArguments, behind_signs, called_before};
 ghost use Rattle.rule_phrases.specs.Between.{most_operators, operator_before, sign_at};
 ghost use Rattle.rule_phrases.specs.Between.{signs_before, with_signs};
+ghost use Rattle.rule_tree.specs.Phrases.{tighter};
 ghost use Rattle.rule_words.specs.Descent.{closed, then_on};
 ghost use Rattle.rule_words.specs.Shown.{level_of, token_of, tokens_of};
 ghost use Rattle.rule_terms.specs.Terms.{IsFront, Stands};
@@ -30,6 +31,23 @@ pub struct Arguments<'t, 'a> {
 pub struct Signs<'t, 'a> {
     pub signs: Vec<Unary>,
     pub rest: &'t [Token<'a>],
+}
+
+/// The level of the operands of a level: the next tighter one.
+pub fn operand_level(level: Level) -> Level
+    ensures { level_of result ≡ tighter (level_of level) }
+{
+    match level {
+        Level::Expression => Level::Disjunction,
+        Level::Disjunction => Level::Conjunction,
+        Level::Conjunction => Level::Negation,
+        Level::Negation => Level::Comparison,
+        Level::Comparison => Level::Sum,
+        Level::Sum => Level::Product,
+        Level::Product => Level::Signed,
+        Level::Signed => Level::Primary,
+        Level::Primary => Level::Primary,
+    }
 }
 
 /// An operator of a level at the front, and the tokens behind it.

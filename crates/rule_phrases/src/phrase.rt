@@ -11,7 +11,8 @@ ghost use Rattle.rule_terms.specs.Terms.{IsFront, IsTerm};
 
 use crate::atom::{atom_before, opening_before};
 use crate::between::{
-    Arguments, called, closed, most_operators, operator_before, push, signs_before, with_signs,
+    Arguments, called, closed, most_operators, operand_level, operator_before, push, signs_before,
+    with_signs,
 };
 use quantity::OutOfMemory;
 use rule_terms::front::Front;
@@ -55,16 +56,12 @@ fn front<'t, 'a>(
     ensures shorter { IfOk result (λ front. IfSome front
         (λ f. length f.rest.now < length tokens.now)) }
 {
+    let operand = operand_level(level);
     match level {
-        Level::Expression => operands(alloc, names, level, Level::Disjunction, tokens),
-        Level::Disjunction => operands(alloc, names, level, Level::Conjunction, tokens),
-        Level::Conjunction => operands(alloc, names, level, Level::Negation, tokens),
-        Level::Negation => prefixed(alloc, names, level, Level::Comparison, tokens),
-        Level::Comparison => operands(alloc, names, level, Level::Sum, tokens),
-        Level::Sum => operands(alloc, names, level, Level::Product, tokens),
-        Level::Product => operands(alloc, names, level, Level::Signed, tokens),
-        Level::Signed => prefixed(alloc, names, level, Level::Primary, tokens),
+        Level::Negation => prefixed(alloc, names, level, operand, tokens),
+        Level::Signed => prefixed(alloc, names, level, operand, tokens),
         Level::Primary => primary(alloc, names, tokens),
+        _ => operands(alloc, names, level, operand, tokens),
     }
 }
 

@@ -1,11 +1,11 @@
 -- The parts of a rule, read one behind the other.
-use Rattle.std.proofs.Common.{◌≡◌, ℕ, true, Option, Some, None, List, [], ◌∷◌, map, length, refl, sym, ap, subst, ◌∙◌}
+use Rattle.std.proofs.Common.{◌≡◌, ℕ, Bool, true, false, Option, Some, None, List, [], ◌∷◌, map, length, refl, sym, ap, subst, ◌∙◌}
 use Rattle.std.specs.Prelude.{codes, ◌&&◌}
 use Rattle.std.specs.Bool.{then_some}
 use Rattle.std.specs.List.{list_all}
 use Rattle.std.specs.Option.{option_map}
 use Rattle.quantity.specs.declared.value.Value.TheVariants.{Undefined}
-use Rattle.quantity.specs.Bytes.{has_repeat}
+use Rattle.quantity.specs.Bytes.{has_repeat, is_empty}
 use Rattle.quantity.specs.Written.{for_some}
 use Rattle.rule_tree.specs.Expression.{Expr, expr_of}
 use Rattle.rule_tree.specs.Expression as E
@@ -31,6 +31,7 @@ use Rattle.rule_tree.specs.declared.node.SetVariable.{SetVariable}
 use Rattle.rule_terms.specs.declared.term.Term.{Term}
 use Rattle.rule_words.specs.declared.token.Token as T
 use Rattle.rule_syntax.specs.declared.written.ReadRule.{ReadRule}
+use Rattle.rule_syntax.proofs.TokenParts.{shown_empty}
 
 -- ---- values in blocks
 
@@ -125,6 +126,26 @@ last_step names (Some x) whole t r h k = k x h
 pub no_last_step : (names : Names) (o : Option Phrase) (whole : Phrase → Written) → IsTerm names o None → AreRead names (option_map whole o) None
 no_last_step names None whole h = tt
 no_last_step names (Some x) whole h = absurd h
+
+-- ---- a phrase in braces behind which nothing stands
+
+abbrev if_last : Part Phrase → Option Phrase
+if_last o = for_some o (λ c. then_some (is_empty c.1) c.0)
+
+pub no_last : (names : Names) (o : Part Phrase) → IsFront names o None → IsTerm names (if_last o) None
+no_last names None h = tt
+no_last names (Some p) h = absurd h
+
+nothing_behind : (f : Front) (ts : List Token) (b : Bool) → tokens_of f.rest.now ≡ ts → is_empty f.rest.now ≡ b → is_empty ts ≡ b
+nothing_behind f ts b e h = ap is_empty (sym e) ∙ shown_empty f.rest.now ∙ h
+
+pub last_left : (names : Names) (o : Part Phrase) (f : Front) → IsFront names o (Some f) → is_empty f.rest.now ≡ false → IsTerm names (if_last o) None
+last_left names None f h e = absurd h
+last_left names (Some p) f h e = subst (λ b. IsTerm names (then_some b p.0) None) (sym (nothing_behind f p.1 false h.1 e)) tt
+
+pub last_found : (names : Names) (o : Part Phrase) (f : Front) → IsFront names o (Some f) → is_empty f.rest.now ≡ true → IsTerm names (if_last o) (Some f.term)
+last_found names None f h e = absurd h
+last_found names (Some p) f h e = subst (λ b. IsTerm names (then_some b p.0) (Some f.term)) (sym (nothing_behind f p.1 true h.1 e)) h.0
 
 -- ---- the parts of a rule
 

@@ -1,19 +1,21 @@
 -- The rule of a text by the steps that find it.
-use Rattle.std.proofs.Common.{◌≡◌, true, Option, Some, None, List, refl, sym, subst, IfOk, IfErr}
+use Rattle.std.proofs.Common.{◌≡◌, Bool, true, false, ap, length, ◌∙◌, Option, Some, None, List, refl, sym, subst, IfOk, IfErr}
+use Rattle.std.specs.Prelude.{not, if◌then◌else◌}
+use Rattle.std.specs.List.{list_any}
 use Rattle.std.specs.Option.{option_map}
 use Rattle.std.specs.declared.result.Result.{Result}
 use Rattle.std.specs.declared.result.Result.TheVariants.{Ok, Err}
 use Rattle.quantity.specs.Bytes.{Bytes}
 use Rattle.rule_tree.specs.declared.node.RuleTree.{RuleTree}
 use Rattle.rule_words.specs.declared.refusal.RuleRefusal.{RuleRefusal}
-use Rattle.rule_words.specs.declared.refusal.RuleRefusal.TheVariants.{BadRule, Memory, TooLarge}
+use Rattle.rule_words.specs.declared.refusal.RuleRefusal.TheVariants.{BadRule, BadSort, Memory, NotANeighbour, TooLarge, UnknownNeighbourPort, UnknownVariable}
 use Rattle.rule_syntax.specs.declared.written.ReadRule.{ReadRule}
 use Rattle.rule_tree.specs.Expression as E
 use Rattle.rule_tree.specs.Phrases.{Written}
 use Rattle.rule_words.specs.Reading.{written_rule}
-use Rattle.rule_words.specs.RuleOf.{words_refused, judged, rule_of, Readable}
-use Rattle.rule_syntax.specs.RulesRead.{IsRead, AreRead}
-use Rattle.rule_tree.specs.Scope.{Names, extent_of, is_sound}
+use Rattle.rule_words.specs.RuleOf.{words_refused, judged, rule_of, unless, where_true, Readable}
+use Rattle.rule_syntax.specs.RulesRead.{IsRead, AreRead, first_refusal}
+use Rattle.rule_tree.specs.Scope.{Names, extent_of, has_right_sorts, is_no_neighbour, is_no_port, is_no_variable, is_sound, named_by, rule_in}
 use Rattle.rule_words.specs.Shown.{tokens_of}
 use Rattle.rule_words.specs.declared.token.Token as T
 use Rattle.rule_words.specs.Tokens.{Token, tokens, words_in, is_large}
@@ -56,6 +58,52 @@ no_rule names text ts h r =
 judged_rule : (names : Names) (text : Bytes) (ts : List Token) (w : Written) → Readable text ts → written_rule ts ≡ Some w → judged names w ≡ rule_of names text
 unfolding rule_of
 judged_rule names text ts w h e = rw (h.tokens, h.words, h.size, e) refl
+
+-- ---- the first refusal that applies
+
+-- a rule, unless one of these tests stops it
+abbrev judged_by : Bool → Bool → Bool → Bool → Bool → E.Rule → Result E.Rule RuleRefusal
+judged_by a b c d e rule =
+    unless (where_true a BadRule) (unless (where_true b NotANeighbour) (unless (where_true c UnknownVariable)
+    (unless (where_true d UnknownNeighbourPort) (unless (where_true (not e) BadSort) (Ok rule)))))
+
+by_tests : (a b c d e : Bool) (rule : E.Rule) → judged_by a b c d e rule
+    ≡ unless (if a then Some BadRule else (if b then Some NotANeighbour else (if c then Some UnknownVariable else (if d then Some UnknownNeighbourPort else (if not e then Some BadSort else None))))) (Ok rule)
+by_tests true b c d e rule = refl
+by_tests false true c d e rule = refl
+by_tests false false true d e rule = refl
+by_tests false false false true e rule = refl
+by_tests false false false false true rule = refl
+by_tests false false false false false rule = refl
+
+judged_first : (names : Names) (r : ReadRule) (w : Written) → IsRead names r w → judged names w ≡ unless (first_refusal r) (Ok (E.rule_of r.tree))
+judged_first names r w h =
+    sym (ap (λ a. judged_by a (list_any (is_no_neighbour names) (named_by w)) (list_any (is_no_variable names) (named_by w)) (list_any (is_no_port names) (named_by w)) (has_right_sorts (length names.offsets) (rule_in names w)) (rule_in names w)) h.repeats)
+    ∙ sym (ap (λ b. judged_by r.port_twice b (list_any (is_no_variable names) (named_by w)) (list_any (is_no_port names) (named_by w)) (has_right_sorts (length names.offsets) (rule_in names w)) (rule_in names w)) h.misses.neighbours)
+    ∙ sym (ap (λ c. judged_by r.port_twice r.lacks.neighbour c (list_any (is_no_port names) (named_by w)) (has_right_sorts (length names.offsets) (rule_in names w)) (rule_in names w)) h.misses.variables)
+    ∙ sym (ap (λ d. judged_by r.port_twice r.lacks.neighbour r.lacks.variable d (has_right_sorts (length names.offsets) (rule_in names w)) (rule_in names w)) h.misses.ports)
+    ∙ sym (ap (λ e. judged_by r.port_twice r.lacks.neighbour r.lacks.variable r.lacks.port e (rule_in names w)) h.sorted)
+    ∙ sym (ap (judged_by r.port_twice r.lacks.neighbour r.lacks.variable r.lacks.port r.right_sorts) h.tree)
+    ∙ by_tests r.port_twice r.lacks.neighbour r.lacks.variable r.lacks.port r.right_sorts (E.rule_of r.tree)
+
+-- each test, where none before it stops the rule
+pub stops_at_port : (r : ReadRule) → r.port_twice ≡ true → Some BadRule ≡ first_refusal r
+stops_at_port r a = rw a refl
+
+pub stops_at_cell : (r : ReadRule) → r.port_twice ≡ false → r.lacks.neighbour ≡ true → Some NotANeighbour ≡ first_refusal r
+stops_at_cell r a b = rw (a, b) refl
+
+pub stops_at_variable : (r : ReadRule) → r.port_twice ≡ false → r.lacks.neighbour ≡ false → r.lacks.variable ≡ true → Some UnknownVariable ≡ first_refusal r
+stops_at_variable r a b c = rw (a, b, c) refl
+
+pub stops_at_name : (r : ReadRule) → r.port_twice ≡ false → r.lacks.neighbour ≡ false → r.lacks.variable ≡ false → r.lacks.port ≡ true → Some UnknownNeighbourPort ≡ first_refusal r
+stops_at_name r a b c d = rw (a, b, c, d) refl
+
+pub judged_refused : (names : Names) (r : ReadRule) (w : Written) (o : Option RuleRefusal) (why : RuleRefusal) → o ≡ first_refusal r → o ≡ Some why → IsRead names r w → judged names w ≡ Err why
+judged_refused names r w o why e s h = judged_first names r w h ∙ ap (λ q. unless q (Ok (E.rule_of r.tree))) (sym e ∙ s)
+
+pub judged_right : (names : Names) (r : ReadRule) (w : Written) (o : Option RuleRefusal) → o ≡ first_refusal r → o ≡ None → IsRead names r w → judged names w ≡ Ok (E.rule_of r.tree)
+judged_right names r w o e n h = judged_first names r w h ∙ ap (λ q. unless q (Ok (E.rule_of r.tree))) (sym e ∙ n)
 
 -- what a written rule that was read is judged to be
 pub record Judged (names : Names) (text : Bytes) (result : Result RuleTree RuleRefusal) : Type 0 where

@@ -55,7 +55,7 @@ shown_behind : (ps : List (Bor (List T.Token))) (p : Bor (List T.Token)) → sho
 shown_behind [] p = refl
 shown_behind (q ∷ qs) p = ap (λ rs. tokens_of q.now ∷ rs) (shown_behind qs p)
 
-shown_empty : (ts : List T.Token) → is_empty (tokens_of ts) ≡ is_empty ts
+pub shown_empty : (ts : List T.Token) → is_empty (tokens_of ts) ≡ is_empty ts
 shown_empty [] = refl
 shown_empty (t ∷ ts) = refl
 

@@ -1,6 +1,6 @@
 -- What is known of a rule when it is read.
 use Rattle.std.specs.Prelude.{◌≡◌, ◌&&◌, not, ℕ, Bool, true, false, ⊤, Option, Some, None, List, []}
-use Rattle.std.specs.Prelude.{◌∷◌, ◌++◌, map, length, codes}
+use Rattle.std.specs.Prelude.{◌∷◌, ◌++◌, map, length, codes, if◌then◌else◌}
 use Rattle.std.specs.Bool.{then_some}
 use Rattle.std.specs.Borrow.{Bor}
 use Rattle.std.specs.List.{flat_map, list_all}
@@ -14,6 +14,11 @@ use Rattle.rule_tree.specs.Phrases.{Phrase, Assigned, Written}
 use Rattle.rule_words.specs.Reading.{Part, block, cell_phrase_before, given_in}
 use Rattle.rule_words.specs.Reading.{number_before, question_before}
 use Rattle.rule_words.specs.RuleOf.{has_port_twice}
+use Rattle.rule_words.specs.declared.refusal.RuleRefusal.{RuleRefusal}
+use Rattle.rule_words.specs.declared.refusal.RuleRefusal.TheVariants.{BadRule, BadSort}
+use Rattle.rule_words.specs.declared.refusal.RuleRefusal.TheVariants.{NotANeighbour}
+use Rattle.rule_words.specs.declared.refusal.RuleRefusal.TheVariants.{UnknownNeighbourPort}
+use Rattle.rule_words.specs.declared.refusal.RuleRefusal.TheVariants.{UnknownVariable}
 use Rattle.rule_tree.specs.Scope.{Names, Named, a_port, a_variable, named_by, named_in, numbered}
 use Rattle.rule_tree.specs.Scope.{port_number, rule_in, variable_number, has_right_sorts}
 use Rattle.rule_words.specs.Shown.{tokens_of}
@@ -37,6 +42,15 @@ pub record IsRead (names : Names) (r : ReadRule) (w : Written) : Type 0 where
   pub misses : Misses names r.lacks (named_by w)
   pub repeats : r.port_twice ≡ has_port_twice w
   pub sorted : r.right_sorts ≡ has_right_sorts (length names.offsets) (rule_in names w)
+
+-- the first refusal that applies to a rule that was read; only private clauses name this
+abbrev pub first_refusal : ReadRule → Option RuleRefusal
+first_refusal r =
+    if r.port_twice then Some BadRule else
+    (if r.lacks.neighbour then Some NotANeighbour else
+    (if r.lacks.variable then Some UnknownVariable else
+    (if r.lacks.port then Some UnknownNeighbourPort else
+    (if not r.right_sorts then Some BadSort else None))))
 
 -- the same, where the tokens are a rule
 abbrev pub AreRead : Names → Option Written → Option ReadRule → Type 0

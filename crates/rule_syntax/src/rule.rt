@@ -3,7 +3,7 @@ ghost use Rattle.std.specs.Prelude.{◌≡◌, true, IfOk, IfErr};
 ghost use Rattle.std.specs.declared.result.Result.TheVariants.{Ok, Err};
 ghost use Rattle.rule_tree.specs.Expression as E;
 ghost use Rattle.rule_words.specs.RuleOf.{judged, rule_of};
-ghost use Rattle.rule_syntax.specs.RulesRead.{IsRead};
+ghost use Rattle.rule_syntax.specs.RulesRead.{IsRead, first_refusal};
 ghost use Rattle.rule_tree.specs.Scope.{extent_of, is_sound};
 ghost use Rattle.rule_words.specs.Shown.{names_of};
 
@@ -55,17 +55,27 @@ fn judged(rule: ReadRule) -> Result<RuleTree, RuleRefusal>
     ensures refusal { (names : _) (w : _) → IsRead names rule w
         → IfErr result (λ why. judged names w ≡ Err why) }
 {
+    match refused(&rule) {
+        Some(why) => Err(why),
+        None => Ok(rule.tree),
+    }
+}
+
+/// The first refusal that applies to a rule of the grammar.
+fn refused(rule: &ReadRule) -> Option<RuleRefusal>
+    ensures { result ≡ first_refusal rule.now }
+{
     if rule.port_twice {
-        Err(RuleRefusal::BadRule)
+        Some(RuleRefusal::BadRule)
     } else if rule.lacks.neighbour {
-        Err(RuleRefusal::NotANeighbour)
+        Some(RuleRefusal::NotANeighbour)
     } else if rule.lacks.variable {
-        Err(RuleRefusal::UnknownVariable)
+        Some(RuleRefusal::UnknownVariable)
     } else if rule.lacks.port {
-        Err(RuleRefusal::UnknownNeighbourPort)
+        Some(RuleRefusal::UnknownNeighbourPort)
     } else if !rule.right_sorts {
-        Err(RuleRefusal::BadSort)
+        Some(RuleRefusal::BadSort)
     } else {
-        Ok(rule.tree)
+        None
     }
 }

@@ -1,3 +1,4 @@
+mod Ints
 pub mod OpenParentheses
 pub mod CellPieces
 pub mod PieceTokens

@@ -39,6 +39,32 @@ mark_tokens c cs e f g =
     fourth (is_blank c) (is_ascii_alphabetic c) (is_of_run c) (Some []) _ (number_token (c ∷ cs)) (if is_among marks (c ∷ cs) then Some (mark (c ∷ cs) ∷ []) else None) e f g
     ∙ as_list (is_among marks (c ∷ cs)) (mark (c ∷ cs))
 
+first : {A : Type 0} (a : Bool) (x y : A) → a ≡ true → (if a then x else y) ≡ x
+first a x y e = rw e refl
+
+second : {A : Type 0} (a b : Bool) (x y z : A) → a ≡ false → b ≡ true → (if a then x else if b then y else z) ≡ y
+second a b x y z e f = rw (e, f) refl
+
+third : {A : Type 0} (a b d : Bool) (x y z w : A) → a ≡ false → b ≡ false → d ≡ true → (if a then x else if b then y else if d then z else w) ≡ z
+third a b d x y z w e f g = rw (e, f, g) refl
+
+pub put_blank : (front : List Token) (piece : Bytes) → 0 < length piece → is_blank (get_or piece 0 0) ≡ true → option_map (λ ts. front ++ ts) (tokens_in piece) ≡ Some front
+put_blank front [] some e = absurd (omega arith)
+put_blank front (c ∷ cs) some e =
+    ap (option_map (λ ts. front ++ ts)) (first (is_blank c) (Some []) _ e) ∙ ap (λ ts. Some ts) (append-nil front)
+
+pub word_tokens : (piece : Bytes) → 0 < length piece → is_blank (get_or piece 0 0) ≡ false → is_ascii_alphabetic (get_or piece 0 0) ≡ true → run_tokens piece ≡ tokens_in piece
+word_tokens [] some e f = absurd (omega arith)
+word_tokens (c ∷ cs) some e f = sym (second (is_blank c) (is_ascii_alphabetic c) (Some []) (run_tokens (c ∷ cs)) _ e f)
+
+pub put_run : (front : List Token) (piece : Bytes) (o : Option T.Token) → 0 < length piece → is_blank (get_or piece 0 0) ≡ false → is_ascii_alphabetic (get_or piece 0 0) ≡ false → is_of_run (get_or piece 0 0) ≡ true
+    → option_map (λ t. token_of t ∷ []) o ≡ number_token piece
+    → option_map (λ ts. front ++ ts) (tokens_in piece) ≡ option_map (λ t. front ++ token_of t ∷ []) o
+put_run front [] o some e f g is = absurd (omega arith)
+put_run front (c ∷ cs) o some e f g is =
+    ap (option_map (λ ts. front ++ ts)) (third (is_blank c) (is_ascii_alphabetic c) (is_of_run c) (Some []) _ (number_token (c ∷ cs)) _ e f g ∙ sym is)
+    ∙ behind front o
+
 pub put_mark : (front : List Token) (piece : Bytes) (o : Option T.Token) → 0 < length piece → is_blank (get_or piece 0 0) ≡ false → is_ascii_alphabetic (get_or piece 0 0) ≡ false → is_of_run (get_or piece 0 0) ≡ false
     → option_map (λ t. token_of t) o ≡ then_some (is_among marks piece) (mark piece)
     → option_map (λ ts. front ++ ts) (tokens_in piece) ≡ option_map (λ t. front ++ token_of t ∷ []) o

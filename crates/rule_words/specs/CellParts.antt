@@ -9,6 +9,11 @@ use Rattle.rule_words.specs.Reading.{Part, is_sign, port_in}
 use Rattle.rule_words.specs.Shown.{plane_of}
 use Rattle.rule_words.specs.AtomParts.{after_mark}
 
+-- a whole number without a sign
+abbrev pub digits_before : List Token → Part ℤ
+digits_before (number text ∷ ts) = option_map (λ n. (pos n, ts)) (whole_number 10 text)
+digits_before ts = None
+
 -- a whole number, with a sign or without
 abbrev pub int_before : List Token → Part ℤ
 int_before (number text ∷ ts) = option_map (λ n. (pos n, ts)) (whole_number 10 text)

@@ -5,7 +5,8 @@ ghost use Rattle.std.specs.Prelude.{IfSome};
 ghost use Rattle.std.specs.Option.{option_map};
 ghost use Rattle.quantity.specs.Digits.{whole_number};
 ghost use Rattle.rule_words.specs.AtomParts.{after_mark};
-ghost use Rattle.rule_words.specs.CellParts.{int_before, next_int, place_before, plane_before};
+ghost use Rattle.rule_words.specs.CellParts.{digits_before, int_before, next_int};
+ghost use Rattle.rule_words.specs.CellParts.{place_before, plane_before};
 ghost use Rattle.rule_words.specs.Reading.{port_in};
 ghost use Rattle.rule_words.specs.Shown.{plane_of, text_of, tokens_of};
 
@@ -47,12 +48,27 @@ fn int_before<'t, 'a>(tokens: &'t [Token<'a>]) -> Option<(i64, &'t [Token<'a>])>
         ≡ int_before (tokens_of tokens.now) }
     ensures shorter { IfSome result (λ cut. length cut.1.now < length tokens.now) }
 {
-    match tokens {
-        [Token::Number(text), rest @ ..] => Some((digits(text)?, rest)),
-        [Token::Mark(Mark::Plus), Token::Number(text), rest @ ..] => Some((digits(text)?, rest)),
-        [Token::Mark(Mark::Minus), Token::Number(text), rest @ ..] => Some((-digits(text)?, rest)),
-        _ => None,
+    if let Some(behind) = after_mark(Mark::Minus, tokens) {
+        let (number, rest) = digits_before(behind)?;
+        return Some((-number, rest));
     }
+    match after_mark(Mark::Plus, tokens) {
+        Some(behind) => digits_before(behind),
+        None => digits_before(tokens),
+    }
+}
+
+/// A whole number of at most ten digits without a sign at the front, and the tokens behind it.
+fn digits_before<'t, 'a>(tokens: &'t [Token<'a>]) -> Option<(i64, &'t [Token<'a>])>
+    ensures int { option_map (λ cut. (cut.0, tokens_of cut.1.now)) result
+        ≡ digits_before (tokens_of tokens.now) }
+    ensures bounded { IfSome result (λ cut. unsigned_abs cut.0 < 10 ^ 10) }
+    ensures shorter { IfSome result (λ cut. length cut.1.now < length tokens.now) }
+{
+    let [Token::Number(text), rest @ ..] = tokens else {
+        return None;
+    };
+    Some((digits(text)?, rest))
 }
 
 fn digits(text: &[u8]) -> Option<i64>

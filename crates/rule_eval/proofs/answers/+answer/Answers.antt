@@ -1,5 +1,7 @@
-use Rattle.std.proofs.Common.{◌≡◌, ◌+◌, ◌≤◌, Option, Some, None, Err, List, [], ◌∷◌, ◌++◌, length, drop, vec_len, vec_capacity, subst, sym, ap, ◌∙◌, rules, arith, refl}
+use Rattle.std.proofs.Common.{◌≡◌, ◌+◌, ◌≤◌, Option, Some, None, Ok, Err, List, [], ◌∷◌, ◌++◌, length, drop, vec_len, vec_capacity, subst, sym, ap, ◌∙◌, rules, arith, refl}
+use Rattle.std.specs.Prelude.{OnOk}
 use Rattle.std.proofs.lemmas.Grind.{common_steps}
+use Rattle.std.proofs.lemmas.Result.{IfOk-from_err}
 use Rattle.std.specs.declared.result.Result.{Result}
 use Rattle.std.specs.Result.{result_ok}
 use Rattle.quantity.specs.declared.value.Value.{Value}
@@ -223,3 +225,165 @@ stack_answers-loop-form-preserved t c =
       capacity = capacity ∙ c.loop-form.invariant.capacity;
       counts = c.in_ok-argument.ensures.counts;
     }
+
+-- what stays as it was, return by return
+
+in-any-case : {T E P : Type 0} (r : Result T E) → P → OnOk r P
+in-any-case (Ok x) p = p
+in-any-case (Err e) p = tt
+
+pub answer-returns-in-Number-clause-stack : goal.answer-returns-in-Number-clause-stack
+answer-returns-in-Number-clause-stack t c = refl
+
+pub answer-returns-in-Number-clause-capacity : goal.answer-returns-in-Number-clause-capacity
+answer-returns-in-Number-clause-capacity t c = refl
+
+pub answer-returns-in-Number-clause-counts : goal.answer-returns-in-Number-clause-counts
+answer-returns-in-Number-clause-counts t c = c.requires.counts
+
+pub answer-returns-in-Neighbour-clause-stack : goal.answer-returns-in-Neighbour-clause-stack
+answer-returns-in-Neighbour-clause-stack t c = refl
+
+pub answer-returns-in-Neighbour-clause-capacity : goal.answer-returns-in-Neighbour-clause-capacity
+answer-returns-in-Neighbour-clause-capacity t c = refl
+
+pub answer-returns-in-Neighbour-clause-counts : goal.answer-returns-in-Neighbour-clause-counts
+answer-returns-in-Neighbour-clause-counts t c = c.requires.counts
+
+pub answer-returns-in-Variable-clause-stack : goal.answer-returns-in-Variable-clause-stack
+answer-returns-in-Variable-clause-stack t c = refl
+
+pub answer-returns-in-Variable-clause-capacity : goal.answer-returns-in-Variable-clause-capacity
+answer-returns-in-Variable-clause-capacity t c = refl
+
+pub answer-returns-in-Variable-clause-counts : goal.answer-returns-in-Variable-clause-counts
+answer-returns-in-Variable-clause-counts t c = c.requires.counts
+
+pub answer-returns-in-Now-clause-stack : goal.answer-returns-in-Now-clause-stack
+answer-returns-in-Now-clause-stack t c = refl
+
+pub answer-returns-in-Now-clause-capacity : goal.answer-returns-in-Now-clause-capacity
+answer-returns-in-Now-clause-capacity t c = refl
+
+pub answer-returns-in-Now-clause-counts : goal.answer-returns-in-Now-clause-counts
+answer-returns-in-Now-clause-counts t c = c.requires.counts
+
+pub answer-returns-in-PortValue-clause-stack : goal.answer-returns-in-PortValue-clause-stack
+answer-returns-in-PortValue-clause-stack t c = refl
+
+pub answer-returns-in-PortValue-clause-capacity : goal.answer-returns-in-PortValue-clause-capacity
+answer-returns-in-PortValue-clause-capacity t c = refl
+
+pub answer-returns-in-PortValue-clause-counts : goal.answer-returns-in-PortValue-clause-counts
+answer-returns-in-PortValue-clause-counts t c = c.requires.counts
+
+pub answer-returns-in-Counted-clause-stack : goal.answer-returns-in-Counted-clause-stack
+answer-returns-in-Counted-clause-stack t c = refl
+
+pub answer-returns-in-Counted-clause-capacity : goal.answer-returns-in-Counted-clause-capacity
+answer-returns-in-Counted-clause-capacity t c = refl
+
+pub answer-returns-in-Counted-clause-counts : goal.answer-returns-in-Counted-clause-counts
+answer-returns-in-Counted-clause-counts t c = c.number_counted.ensures.counts
+
+pub answer-returns-in-Test-clause-stack : goal.answer-returns-in-Test-clause-stack
+answer-returns-in-Test-clause-stack t c = refl
+
+pub answer-returns-in-Test-clause-capacity : goal.answer-returns-in-Test-clause-capacity
+answer-returns-in-Test-clause-capacity t c = refl
+
+pub answer-returns-in-Test-clause-counts : goal.answer-returns-in-Test-clause-counts
+answer-returns-in-Test-clause-counts t c = c.truth.ensures.counts
+
+pub answer-returns-in-Sum-clause-stack : goal.answer-returns-in-Sum-clause-stack
+answer-returns-in-Sum-clause-stack t c = in-any-case c.as_answer.result refl
+
+pub answer-returns-in-Sum-clause-capacity : goal.answer-returns-in-Sum-clause-capacity
+answer-returns-in-Sum-clause-capacity t c = refl
+
+pub answer-returns-in-Sum-clause-counts : goal.answer-returns-in-Sum-clause-counts
+answer-returns-in-Sum-clause-counts t c = c.requires.counts
+
+pub answer-returns-in_err-a-in-One-clause-stack : goal.answer-returns-in_err-a-in-One-clause-stack
+answer-returns-in_err-a-in-One-clause-stack t c = IfOk-from_err c.from_residual.result _ c.from_residual.ensures.0
+
+pub answer-returns-in_err-a-in-One-clause-capacity : goal.answer-returns-in_err-a-in-One-clause-capacity
+answer-returns-in_err-a-in-One-clause-capacity t c = c.in_err-a-in-One.ensures.capacity
+
+pub answer-returns-in_err-a-in-One-clause-counts : goal.answer-returns-in_err-a-in-One-clause-counts
+answer-returns-in_err-a-in-One-clause-counts t c = c.in_err-a-in-One.ensures.counts
+
+pub answer-returns-in_ok-a-in-One-clause-stack : goal.answer-returns-in_ok-a-in-One-clause-stack
+answer-returns-in_ok-a-in-One-clause-stack t c = c.in_ok-a-in-One.ensures.stack
+
+pub answer-returns-in_ok-a-in-One-clause-capacity : goal.answer-returns-in_ok-a-in-One-clause-capacity
+answer-returns-in_ok-a-in-One-clause-capacity t c = c.in_ok-a-in-One.ensures.capacity
+
+pub answer-returns-in_ok-a-in-One-clause-counts : goal.answer-returns-in_ok-a-in-One-clause-counts
+answer-returns-in_ok-a-in-One-clause-counts t c = c.in_ok-a-in-One.ensures.counts
+
+pub answer-returns-in_err-a-in-Two-clause-stack : goal.answer-returns-in_err-a-in-Two-clause-stack
+answer-returns-in_err-a-in-Two-clause-stack t c = IfOk-from_err c.from_residual-in_err-a-in-Two.result _ c.from_residual-in_err-a-in-Two.ensures.0
+
+pub answer-returns-in_err-a-in-Two-clause-capacity : goal.answer-returns-in_err-a-in-Two-clause-capacity
+answer-returns-in_err-a-in-Two-clause-capacity t c = c.in_err-a-in-Two.ensures.capacity
+
+pub answer-returns-in_err-a-in-Two-clause-counts : goal.answer-returns-in_err-a-in-Two-clause-counts
+answer-returns-in_err-a-in-Two-clause-counts t c = c.in_err-a-in-Two.ensures.counts
+
+pub answer-returns-in-Some-clause-stack : goal.answer-returns-in-Some-clause-stack
+answer-returns-in-Some-clause-stack t c = in-any-case c.apply_binary.result c.in_ok-a-in-Two.ensures.stack
+
+pub answer-returns-in-Some-clause-capacity : goal.answer-returns-in-Some-clause-capacity
+answer-returns-in-Some-clause-capacity t c = c.in_ok-a-in-Two.ensures.capacity
+
+pub answer-returns-in-Some-clause-counts : goal.answer-returns-in-Some-clause-counts
+answer-returns-in-Some-clause-counts t c = c.in_ok-a-in-Two.ensures.counts
+
+pub answer-returns-in_err-c-in-None-clause-stack : goal.answer-returns-in_err-c-in-None-clause-stack
+answer-returns-in_err-c-in-None-clause-stack t c = IfOk-from_err c.from_residual-in_err-c-in-None.result _ c.from_residual-in_err-c-in-None.ensures.0
+
+pub answer-returns-in_err-c-in-None-clause-capacity : goal.answer-returns-in_err-c-in-None-clause-capacity
+answer-returns-in_err-c-in-None-clause-capacity t c = c.in_err-c-in-None.ensures.capacity ∙ c.in_ok-a-in-Two.ensures.capacity
+
+pub answer-returns-in_err-c-in-None-clause-counts : goal.answer-returns-in_err-c-in-None-clause-counts
+answer-returns-in_err-c-in-None-clause-counts t c = c.in_err-c-in-None.ensures.counts
+
+pub answer-returns-in_ok-c-in-None-clause-stack : goal.answer-returns-in_ok-c-in-None-clause-stack
+answer-returns-in_ok-c-in-None-clause-stack t c = in-any-case c.apply_binary-in-None.result (c.in_ok-c-in-None.ensures.stack ∙ c.in_ok-a-in-Two.ensures.stack)
+
+pub answer-returns-in_ok-c-in-None-clause-capacity : goal.answer-returns-in_ok-c-in-None-clause-capacity
+answer-returns-in_ok-c-in-None-clause-capacity t c = c.in_ok-c-in-None.ensures.capacity ∙ c.in_ok-a-in-Two.ensures.capacity
+
+pub answer-returns-in_ok-c-in-None-clause-counts : goal.answer-returns-in_ok-c-in-None-clause-counts
+answer-returns-in_ok-c-in-None-clause-counts t c = c.in_ok-c-in-None.ensures.counts
+
+pub answer-returns-in_err-stack_answers-in-Call-clause-stack : goal.answer-returns-in_err-stack_answers-in-Call-clause-stack
+answer-returns-in_err-stack_answers-in-Call-clause-stack t c = IfOk-from_err c.from_residual-in_err-stack_answers-in-Call.result _ c.from_residual-in_err-stack_answers-in-Call.ensures.0
+
+pub answer-returns-in_err-stack_answers-in-Call-clause-capacity : goal.answer-returns-in_err-stack_answers-in-Call-clause-capacity
+answer-returns-in_err-stack_answers-in-Call-clause-capacity t c = c.in_err-stack_answers-in-Call.ensures.capacity
+
+pub answer-returns-in_err-stack_answers-in-Call-clause-counts : goal.answer-returns-in_err-stack_answers-in-Call-clause-counts
+answer-returns-in_err-stack_answers-in-Call-clause-counts t c = c.in_err-stack_answers-in-Call.ensures.counts
+
+pub answer-returns-in_ok-stack_answers-in-Call-clause-counts : goal.answer-returns-in_ok-stack_answers-in-Call-clause-counts
+answer-returns-in_ok-stack_answers-in-Call-clause-counts t c = c.in_ok-stack_answers-in-Call.ensures.counts
+
+pub answer-number_counted-requires : goal.answer-number_counted-requires
+answer-number_counted-requires t c = record { view = c.requires.view; counts = c.requires.counts }
+
+pub answer-truth-requires : goal.answer-truth-requires
+answer-truth-requires t c = record { view = c.requires.view; counts = c.requires.counts }
+
+pub answer-neighbour-requires : goal.answer-neighbour-requires
+answer-neighbour-requires t c = c.requires.view
+
+pub answer-neighbour-requires-in-Sum : goal.answer-neighbour-requires-in-Sum
+answer-neighbour-requires-in-Sum t c = c.requires.view
+
+pub answer-sum-requires : goal.answer-sum-requires
+answer-sum-requires t c = c.requires.view
+
+pub answer-apply_function-made-requires : goal.answer-apply_function-made-requires
+answer-apply_function-made-requires t c = c.requires.view

@@ -2,7 +2,7 @@ use Rattle.std.proofs.Common.{◌<◌, ◌≤◌, ℕ, Option, Some, List, [], �
 use Rattle.std.proofs.lemmas.Result.{IfOk-weaker}
 use Rattle.rule_terms.specs.declared.front.Front.{Front}
 use Rattle.rule_phrases.specs.declared.between.Arguments.{Arguments}
-use Rattle.rule_tree.specs.Phrases.{Phrase, expr, comp, primary}
+use Rattle.rule_tree.specs.Phrases.{Phrase, expr}
 use Rattle.rule_tree.specs.Scope.{Names}
 use Rattle.rule_words.specs.Reading.{Part}
 use Rattle.rule_words.specs.Descent.{at_level, reading, prefixed, primary_before, list_before, enclosed_before, call_before}
@@ -12,7 +12,7 @@ use Rattle.rule_terms.specs.Terms.{IsFront}
 use Rattle.rule_phrases.proofs.Prefixes.{nothing_behind_signs, operand_behind_signs}
 use Rattle.rule_phrases.proofs.Operands.{joining_begins, joining_goes_on, joining_lost, joining_ends, joining_done}
 use Rattle.rule_phrases.proofs.Listed.{listing_begins, listing_goes_on, listing_lost, listing_ends, arguments_at}
-use Rattle.rule_phrases.proofs.Primaries.{atom_is_primary, no_primary, enclosed_is_primary, call_is_primary, at_negation, at_signed, at_primary, tokens_length, shorter_at}
+use Rattle.rule_phrases.proofs.Primaries.{atom_is_primary, no_primary, enclosed_is_primary, call_is_primary, at_negation, at_operands, at_primary, at_signed, tokens_length, shorter_at}
 use Rattle.rule_phrases.proofs.phrase.+descent.Goals as goal
 
 pub arguments-commas-init : goal.arguments-commas-init
@@ -56,21 +56,29 @@ call-returns-clause-read t c =
 
 pub front-returns-in-Negation-clause-read : goal.front-returns-in-Negation-clause-read
 front-returns-in-Negation-clause-read t c =
-    let before : Option Front → Type 0 = λ front. (n : ℕ) → length c.args.tokens.now ≤ n → IsFront (names_of c.args.names.now) (prefixed (sign_at (level_of c.args.level)) (at_level (reading n) comp) (tokens_of c.args.tokens.now)) front in
+    let before : Option Front → Type 0 = λ front. (n : ℕ) → length c.args.tokens.now ≤ n → IsFront (names_of c.args.names.now) (prefixed (sign_at (level_of c.args.level)) (at_level (reading n) (level_of c.operand_level-operand.result)) (tokens_of c.args.tokens.now)) front in
     let after : Option Front → Type 0 = λ front. (n : ℕ) → length c.args.tokens.now ≤ n → IsFront (names_of c.args.names.now) (at_level (reading n) (level_of c.args.level) (tokens_of c.args.tokens.now)) front in
-    IfOk-weaker c.prefixed.result before after (λ o f n h. at_negation (names_of c.args.names.now) c.args.level (reading n) (tokens_of c.args.tokens.now) o c.in-Negation.is (f n h)) c.prefixed.ensures.read
+    IfOk-weaker c.prefixed.result before after (λ o f n h. at_negation (names_of c.args.names.now) c.args.level c.operand_level-operand.result (reading n) (tokens_of c.args.tokens.now) o c.in-Negation.is c.operand_level-operand.ensures (f n h)) c.prefixed.ensures.read
 
 pub front-returns-in-Signed-clause-read : goal.front-returns-in-Signed-clause-read
 front-returns-in-Signed-clause-read t c =
-    let before : Option Front → Type 0 = λ front. (n : ℕ) → length c.args.tokens.now ≤ n → IsFront (names_of c.args.names.now) (prefixed (sign_at (level_of c.args.level)) (at_level (reading n) primary) (tokens_of c.args.tokens.now)) front in
+    let before : Option Front → Type 0 = λ front. (n : ℕ) → length c.args.tokens.now ≤ n → IsFront (names_of c.args.names.now) (prefixed (sign_at (level_of c.args.level)) (at_level (reading n) (level_of c.operand_level-operand.result)) (tokens_of c.args.tokens.now)) front in
     let after : Option Front → Type 0 = λ front. (n : ℕ) → length c.args.tokens.now ≤ n → IsFront (names_of c.args.names.now) (at_level (reading n) (level_of c.args.level) (tokens_of c.args.tokens.now)) front in
-    IfOk-weaker c.prefixed-in-Signed.result before after (λ o f n h. at_signed (names_of c.args.names.now) c.args.level (reading n) (tokens_of c.args.tokens.now) o c.in-Signed.is (f n h)) c.prefixed-in-Signed.ensures.read
+    IfOk-weaker c.prefixed-in-Signed.result before after (λ o f n h. at_signed (names_of c.args.names.now) c.args.level c.operand_level-operand.result (reading n) (tokens_of c.args.tokens.now) o c.in-Signed.is c.operand_level-operand.ensures (f n h)) c.prefixed-in-Signed.ensures.read
 
 pub front-returns-in-Primary-clause-read : goal.front-returns-in-Primary-clause-read
 front-returns-in-Primary-clause-read t c =
     let before : Option Front → Type 0 = λ front. (n : ℕ) → length c.args.tokens.now ≤ n → IsFront (names_of c.args.names.now) (primary_before (reading n) (tokens_of c.args.tokens.now)) front in
     let after : Option Front → Type 0 = λ front. (n : ℕ) → length c.args.tokens.now ≤ n → IsFront (names_of c.args.names.now) (at_level (reading n) (level_of c.args.level) (tokens_of c.args.tokens.now)) front in
     IfOk-weaker c.primary.result before after (λ o f n h. at_primary (names_of c.args.names.now) c.args.level (reading n) (tokens_of c.args.tokens.now) o c.in-Primary.is (f n h)) c.primary.ensures.read
+
+pub front-returns-in_default-clause-read : goal.front-returns-in_default-clause-read
+front-returns-in_default-clause-read t c =
+    let before : Option Front → Type 0 = λ front. (n : ℕ) → length c.args.tokens.now ≤ n → IsFront (names_of c.args.names.now) (operands_before (level_of c.args.level) (at_level (reading n) (level_of c.operand_level-operand.result)) (tokens_of c.args.tokens.now)) front in
+    let after : Option Front → Type 0 = λ front. (n : ℕ) → length c.args.tokens.now ≤ n → IsFront (names_of c.args.names.now) (at_level (reading n) (level_of c.args.level) (tokens_of c.args.tokens.now)) front in
+    IfOk-weaker c.operands.result before after
+    (λ o f n h. at_operands (names_of c.args.names.now) c.args.level c.operand_level-operand.result (reading n) (tokens_of c.args.tokens.now) o c.operand_level-operand.ensures c.in_default.not-Negation c.in_default.not-Signed c.in_default.not-Primary (f n h))
+    c.operands.ensures.read
 
 pub operands-operators-init : goal.operands-operators-init
 operands-operators-init t c = record {
