@@ -11,7 +11,7 @@ use Rattle.model_tree.specs.declared.growing.Growing.{Growing}
 use Rattle.model_tree.specs.Tree.{Word}
 use Rattle.model_tree.specs.Pull.{class_ports, cell_ports}
 use Rattle.model_tree.specs.Stands.{group_of}
-use Rattle.model_tree.specs.Table.{Seat, box_seat, seats, seat_at, seats_from, cell_seat_of, groups_in}
+use Rattle.model_tree.specs.Table.{Seat, box_seat, cell_seat, seats, seat_at, seats_from, cell_seat_of, groups_in}
 
 -- its rows show these seats
 abbrev pub Shows : Growing → List Seat → Type 0
@@ -39,6 +39,12 @@ cell_seats g number = map (cell_seat_of g number) (range_with_len 0 (cell_count 
 abbrev pub part_seats : PartAt → Word → CellGroup → List Seat
 part_seats at name g =
     map (λ n. seat_at at name n (cell_ports (group_of g) n)) (range_with_len 0 (cell_count g.grid))
+
+-- Only private clauses name this: each cell of a part is seated as one of the group of this number.
+abbrev pub IsPartOf : CellGroup → ℕ → Part → Type 0
+IsPartOf g number p =
+    (n : ℕ) (ins : List Word)
+    → seat_at p.at p.name n ins ≡ cell_seat g.name g.grid number n g.ports.items ins
 
 -- the number of groups in some components
 abbrev pub groups_in_all : List Component → ℕ

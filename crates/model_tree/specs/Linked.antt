@@ -53,3 +53,8 @@ LinksCoupled old l r new =
 -- a link more in a group, or its refusal
 abbrev pub LinksGroup : CellGroup → Link → Result Unit LinkRefusal → CellGroup → Type 0
 LinksGroup old l r new = LinkGives (cells (group_of old)) l r (cells (group_of new))
+
+-- a link more behind these, or none and want of memory; only private clauses name this
+abbrev pub PutsLink : List Link → Link → Result Unit LinkRefusal → List Link → Type 0
+PutsLink old l (Ok u) new = new ≡ old ++ l ∷ []
+PutsLink old l (Err why) new = (new ≡ old) × (why ≡ Memory)

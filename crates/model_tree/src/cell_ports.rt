@@ -6,9 +6,9 @@ ghost use Rattle.model_tree.specs.Pull.{cell_ports, port_of_cell};
 ghost use Rattle.model_tree.specs.Stands.{group_of};
 ghost use Rattle.model_tree.specs.CellPorts.{with_name, with_port, ports_of_cells, none_each, with_end};
 
+use crate::copies::put_name;
 use crate::faces::is_among;
 use crate::group::CellGroup;
-use crate::growing::copied;
 use crate::link::{End, Link};
 use quantity::{Name, OutOfMemory};
 use std::alloc::{AllocError, Global};
@@ -97,7 +97,5 @@ fn add_name(alloc: Global, name: &Name, names: &mut Vec<Name>) -> Result<(), Out
     if is_among(names, name) {
         return Ok(());
     }
-    let copy = copied(alloc, name)?;
-    names.push(copy).map_err(AllocError::from)?;
-    Ok(())
+    put_name(alloc, name.as_bytes(), names)
 }

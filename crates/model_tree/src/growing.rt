@@ -1,9 +1,9 @@
 // The making of a model's table: one walk over its components.
-ghost use Rattle.std.specs.Prelude.{◌≡◌, ◌+◌, ◌<◌, ◌^◌, ◌++◌, [], ◌∷◌, Some, IfOk, OnOk, slice_get};
-ghost use Rattle.model_tree.specs.declared.table.Part.{Part};
+ghost use Rattle.std.specs.Prelude.{◌≡◌, ◌+◌, ◌<◌, ◌^◌, [], ◌∷◌, Some, IfOk, OnOk, slice_get};
 ghost use Rattle.model_tree.specs.Table.{seat_at};
-ghost use Rattle.model_tree.specs.Growing.{AtPart, box_seat_of, cell_seats, part_seats};
+ghost use Rattle.model_tree.specs.Growing.{AtPart, IsPartOf, box_seat_of, cell_seats, part_seats};
 
+use crate::copies::{all_copied, put_copies, written};
 use crate::group::{Atomic, CellGroup};
 use crate::input_names::inputs_of_class;
 use crate::table::{Part, PartAt, Row};
@@ -35,20 +35,6 @@ impl Growing {
         }
     }
 
-    /// More names of ports, behind the others.
-    fn names(&mut self, alloc: Global, names: &[Name]) -> Result<(), OutOfMemory>
-        ensures ok { OnOk result (self.new.ports.items ≡ self.old.ports.items ++ names.now) }
-        ensures rows { self.new.rows.items ≡ self.old.rows.items }
-        ensures parts { self.new.parts.items ≡ self.old.parts.items }
-        ensures groups { self.new.groups ≡ self.old.groups }
-    {
-        for name in names {
-            let copy = copied(alloc, name)?;
-            self.ports.push(copy).map_err(AllocError::from)?;
-        }
-        Ok(())
-    }
-
     /// One more leaf, of a part that stands already.
     fn seat(
         &mut self,
@@ -65,7 +51,7 @@ impl Growing {
     {
         let first_port = counted(self.ports.len())?;
         let ports = counted(names.len())?;
-        self.names(alloc, names)?;
+        put_copies(alloc, names, &mut self.ports)?;
         let row = Row {
             part,
             cell,
@@ -77,16 +63,14 @@ impl Growing {
     }
 
     /// One more part: its number.
-    fn part(&mut self, name: Name, at: PartAt) -> Result<u32, OutOfMemory>
+    fn part(&mut self, part: Part) -> Result<u32, OutOfMemory>
         ensures grows { Grows self.old self.new [] }
-        ensures part { let made : Part = record { name = name; at = at } in
-            IfOk result (λ number. slice_get self.new.parts.items number ≡ Some made) }
+        ensures part { IfOk result
+            (λ number. slice_get self.new.parts.items number ≡ Some part) }
         ensures groups { self.new.groups ≡ self.old.groups }
     {
         let number = counted(self.parts.len())?;
-        self.parts
-            .push(Part { name, at })
-            .map_err(AllocError::from)?;
+        self.parts.push(part).map_err(AllocError::from)?;
         Ok(number)
     }
 
@@ -95,8 +79,9 @@ impl Growing {
         ensures ok { OnOk result (Grows self.old self.new (box_seat_of atomic.now ∷ [])) }
         ensures groups { OnOk result (self.new.groups ≡ self.old.groups) }
     {
-        let name = copied(alloc, &atomic.name)?;
-        let part = self.part(name, PartAt::Atomic(atomic.at))?;
+        let name = written(alloc, atomic.name.as_bytes())?;
+        let at = PartAt::Atomic(atomic.at);
+        let part = self.part(Part { name, at })?;
         let names = inputs_of_class(alloc, atomic.class)?;
         self.seat(alloc, part, 0, &names)
     }
@@ -106,12 +91,10 @@ impl Growing {
         ensures ok { OnOk result (Grows self.old self.new (cell_seats group.now self.old.groups)) }
         ensures groups { OnOk result (self.new.groups ≡ self.old.groups + 1) }
     {
-        let name = copied(alloc, &group.name)?;
-        let ports = all_copied(alloc, &group.ports)?;
-        let number = self.groups;
-        let part = self.part(name, PartAt::Cells(number, group.grid, ports))?;
+        let part = group_part(alloc, group, self.groups)?;
+        let part = self.part(part)?;
         self.cells(alloc, group, part)?;
-        self.groups = number.checked_add(1).ok_or(OutOfMemory)?;
+        self.groups = next(self.groups)?;
         Ok(())
     }
 
@@ -131,28 +114,30 @@ impl Growing {
     }
 }
 
+/// The part of a group of this number.
+fn group_part(alloc: Global, group: &CellGroup, number: u32) -> Result<Part, OutOfMemory>
+    ensures { IfOk result (IsPartOf group.now number) }
+{
+    let name = written(alloc, group.name.as_bytes())?;
+    let ports = all_copied(alloc, &group.ports)?;
+    let at = PartAt::Cells(number, group.grid, ports);
+    Ok(Part { name, at })
+}
+
+/// The number behind this one, which is refused as if there were no memory for it.
+fn next(number: u32) -> Result<u32, OutOfMemory>
+    ensures { IfOk result (λ n. n ≡ number + 1) }
+{
+    if number == u32::MAX {
+        return Err(OutOfMemory);
+    }
+    Ok(number + 1)
+}
+
 /// A number of things that the table can count, which refuses as if there were no memory for more.
 pub(crate) fn counted(number: usize) -> Result<u32, OutOfMemory>
     ensures number { IfOk result (λ n. n ≡ number) }
     ensures few { OnOk result (number < 2 ^ 32) }
 {
     u32::try_from(number).map_err(|_| OutOfMemory)
-}
-
-/// The same name once more.
-pub(crate) fn copied(alloc: Global, name: &Name) -> Result<Name, OutOfMemory>
-    ensures { IfOk result (λ copy. copy ≡ name.now) }
-{
-    Name::parse(alloc, name.as_bytes()).map_err(|_| OutOfMemory)
-}
-
-fn all_copied(alloc: Global, names: &[Name]) -> Result<Vec<Name>, OutOfMemory>
-    ensures { IfOk result (λ copies. copies.items ≡ names.now) }
-{
-    let mut copies = Vec::new(alloc);
-    for name in names {
-        let copy = copied(alloc, name)?;
-        copies.push(copy).map_err(AllocError::from)?;
-    }
-    Ok(copies)
 }

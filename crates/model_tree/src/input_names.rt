@@ -2,9 +2,10 @@
 ghost use Rattle.std.specs.Prelude.{◌≡◌, map, IfOk};
 ghost use Rattle.model_tree.specs.Pull.{class_ports};
 
+use crate::copies::put_name;
 use atomic_face::Class;
 use quantity::{Name, OutOfMemory};
-use std::alloc::{AllocError, Global};
+use std::alloc::Global;
 
 /// The names of the input ports of a class, in the order of their numbers.
 pub fn inputs_of_class(alloc: Global, class: Class) -> Result<Vec<Name>, OutOfMemory>
@@ -19,8 +20,7 @@ fn names_of(alloc: Global, texts: &[&[u8]]) -> Result<Vec<Name>, OutOfMemory>
 {
     let mut names = Vec::new(alloc);
     for text in texts {
-        let name = Name::parse(alloc, text).map_err(|_| OutOfMemory)?;
-        names.push(name).map_err(AllocError::from)?;
+        put_name(alloc, text, &mut names)?;
     }
     Ok(names)
 }

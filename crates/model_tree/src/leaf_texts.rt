@@ -2,7 +2,7 @@
 ghost use Rattle.std.specs.Prelude.{◌≡◌, ◌<◌, ◌++◌, ◌∷◌, take, length, decimal, OnOk};
 ghost use Rattle.rule_tree.specs.Meaning.{coordinates};
 ghost use Rattle.cell_grid.specs.Space.{cell_count, place_of, dims_of};
-ghost use Rattle.model_tree.specs.LeafTexts.{at_text, name_at};
+ghost use Rattle.model_tree.specs.LeafTexts.{at_text, plane_text, name_at};
 ghost use Rattle.model_tree.specs.PartTexts.{part_text, part_outs, HasCell};
 
 use crate::table::{Part, PartAt};
@@ -33,8 +33,16 @@ fn put_place(grid: &Grid, cell: u32, into: &mut Vec<u8>) -> Result<(), OutOfMemo
     let place = grid.position(cell);
     put_number(b'(', place.row, into)?;
     put_number(b',', place.column, into)?;
+    put_plane(grid, place.plane, into)
+}
+
+/// What stands behind row and column: the plane, where a space has planes, and the parenthesis.
+fn put_plane(grid: &Grid, plane: u32, into: &mut Vec<u8>) -> Result<(), OutOfMemory>
+    ensures ok { OnOk result (into.new.items ≡ into.old.items ++ plane_text grid.now plane) }
+    ensures kept { take (length into.old.items) into.new.items ≡ into.old.items }
+{
     if grid.dims() == 3 {
-        put_number(b',', place.plane, into)?;
+        put_number(b',', plane, into)?;
     }
     put(b")", into)
 }

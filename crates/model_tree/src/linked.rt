@@ -2,7 +2,7 @@
 ghost use Rattle.std.specs.Prelude.{◌≡◌};
 ghost use Rattle.std.specs.List.{list_any};
 ghost use Rattle.model_tree.specs.Faces.{is_source, is_target, same_link};
-ghost use Rattle.model_tree.specs.Linked.{LinksCoupled, LinksGroup};
+ghost use Rattle.model_tree.specs.Linked.{LinksCoupled, LinksGroup, PutsLink};
 ghost use Rattle.model_tree.specs.Causes.{OfCoupled, OfGroup, first_cause, face_in, refused_in};
 
 use crate::component::Coupled;
@@ -19,11 +19,10 @@ impl Coupled {
     pub fn link(&mut self, link: Link) -> Result<(), LinkRefusal>
         ensures { LinksCoupled self.old link result self.new }
     {
-        if let Some(refusal) = self.refusal(&link) {
-            return Err(refusal);
+        match self.refusal(&link) {
+            Some(refusal) => Err(refusal),
+            None => put_link(link, &mut self.links),
         }
-        self.links.push(link).map_err(|_| LinkRefusal::Memory)?;
-        Ok(())
     }
 
     /// Why a link is refused, if it is.
@@ -71,11 +70,10 @@ impl CellGroup {
     pub fn link(&mut self, link: Link) -> Result<(), LinkRefusal>
         ensures { LinksGroup self.old link result self.new }
     {
-        if let Some(refusal) = self.refusal(&link) {
-            return Err(refusal);
+        match self.refusal(&link) {
+            Some(refusal) => Err(refusal),
+            None => put_link(link, &mut self.links),
         }
-        self.links.push(link).map_err(|_| LinkRefusal::Memory)?;
-        Ok(())
     }
 
     /// Why a link is refused, if it is.
@@ -109,6 +107,14 @@ impl CellGroup {
             End::Cell(_, cell) => *cell < self.grid.cells(),
         }
     }
+}
+
+/// Adds a link behind the others, unless there is no memory for it.
+fn put_link(link: Link, links: &mut Vec<Link>) -> Result<(), LinkRefusal>
+    ensures { PutsLink links.old.items link result links.new.items }
+{
+    links.push(link).map_err(|_| LinkRefusal::Memory)?;
+    Ok(())
 }
 
 /// The first cause to refuse a link that stands after these. `known` says whether its ends are

@@ -87,6 +87,14 @@ coupled-leaves ns c first os settings h =
     counts-are ns c.children.items first os settings h
     ∙ sym (counts-row row.0 row.1 settings ∙ ap (λ cs. counted_in cs settings) (items_hidden-the_row-Component-0 c.children))
 
+-- ---- an atomic component, and none
+
+pub atomic-outputs : (ns : List Node) (c : Component) (a : _) (first : ℕ) (out : Outputs) → c ≡ in_tree.Atomic a → out.first ≡ first → out.leaves ≡ 1 → AreOutputs ns c first out
+atomic-outputs ns c a first out is e f = subst (λ (x : Component). AreOutputs ns x first out) (sym is) (record { first = e; leaves = λ settings. f; gives = tt })
+
+pub leaves-none : (first : ℕ) (os : List Outputs) → os ≡ [] → first ≡ first + leaves_of os
+leaves-none first os e = (let none : first ≡ first + 0 = omega arith in none) ∙ ap (λ (ps : List Outputs). first + leaves_of ps) (sym e)
+
 -- ---- one component more
 
 outputs-behind : (a b : List Node) (cs : List Component) (c : Component) (first : ℕ) (os : List Outputs) (o : Outputs) → Extends a b → AllOutputs a cs first os → AreOutputs b c (first + leaves_of os) o → AllOutputs b (cs ++ c ∷ []) first (os ++ o ∷ [])

@@ -1,6 +1,7 @@
 // Nodes of links, looked up by where the links lead.
-ghost use Rattle.std.specs.Prelude.{◌≡◌, ◌∷◌, [], IfOk, OnOk, slice_get};
+ghost use Rattle.std.specs.Prelude.{◌≡◌, ◌∷◌, ◌++◌, [], IfOk, OnOk, slice_get};
 ghost use Rattle.std.specs.Str.{bytes_eq};
+ghost use Rattle.model_tree.specs.declared.link.End.TheVariants.{Child};
 ghost use Rattle.port_net.specs.Arriving.{end_of, nodes_to, Arrive, Adds};
 ghost use Rattle.port_net.specs.Outside.{is_at, end_at};
 
@@ -67,10 +68,7 @@ impl Arrivals {
         let Some(list) = self.by_place.get_index_mut(at) else {
             return Err(OutOfMemory);
         };
-        let Ok(()) = list.push(node) else {
-            return Err(OutOfMemory);
-        };
-        Ok(())
+        append(list, node)
     }
 
     /// The nodes of those links that lead to a port, in their order.
@@ -106,11 +104,18 @@ fn port_place(alloc: Global, at: &At<'_>, port: &Name) -> Result<Place, OutOfMem
     ensures { IfOk result (λ place. end_of place ≡ end_at at.now port.now) }
 {
     let port = bytes(alloc, port)?;
-    Ok(match at {
-        At::Own => Place::Own(port),
-        At::Child(child) => Place::Child(port, bytes(alloc, child)?),
-        At::Cell(cell) => Place::Cell(port, *cell),
-    })
+    match at {
+        At::Own => Ok(Place::Own(port)),
+        At::Child(child) => child_place(alloc, port, child),
+        At::Cell(cell) => Ok(Place::Cell(port, *cell)),
+    }
+}
+
+/// The place of a port of a child.
+fn child_place(alloc: Global, port: Vec<u8>, child: &Name) -> Result<Place, OutOfMemory>
+    ensures { IfOk result (λ place. end_of place ≡ Child port.items child.now) }
+{
+    Ok(Place::Child(port, bytes(alloc, child)?))
 }
 
 /// The bytes of a name.
@@ -134,6 +139,16 @@ fn one(alloc: Global, node: u32) -> Result<Vec<u32>, OutOfMemory>
     let mut list = Vec::new(alloc);
     list.push(node).map_err(AllocError::from)?;
     Ok(list)
+}
+
+/// Puts a node behind others.
+fn append(list: &mut Vec<u32>, node: u32) -> Result<(), OutOfMemory>
+    ensures { OnOk result (list.new.items ≡ list.old.items ++ node ∷ []) }
+{
+    let Ok(()) = list.push(node) else {
+        return Err(OutOfMemory);
+    };
+    Ok(())
 }
 
 /// Whether both are the same name.

@@ -1,10 +1,9 @@
 -- A tree's routes have a list for each port.
-use Rattle.std.proofs.Common.{◌≡◌, ◌+◌, ◌++◌, ℕ, List, [], ◌∷◌, map, length, refl, sym, ap, ◌∙◌}
+use Rattle.std.proofs.Common.{◌≡◌, ◌+◌, ℕ, List, [], ◌∷◌, map, length, refl, sym, ap, ◌∙◌}
 use Rattle.std.proofs.lemmas.List.{map-append, length-map}
-use Rattle.model_tree.specs.Tree.{Word, Group, Tree, Trees, coupled, cells, atomic, nil, cons, Leaf, name_of, leaf_count, leaves, leaves_from, all_leaves_from, cell_leaf, ins_of, outs_of}
+use Rattle.model_tree.specs.Tree.{Word, Group, Tree, Trees, coupled, cells, atomic, nil, cons, Leaf, name_of, leaf_count, leaves_from, all_leaves_from, cell_leaf, ins_of, outs_of}
 use Rattle.model_tree.specs.Pull as P
 use Rattle.model_tree.specs.LeafTexts.{in_ports}
-use Rattle.port_net.specs.declared.source.Source.{Source}
 use Rattle.route_flat.specs.Nets.{Flat, RoutesOf, named}
 use Rattle.route_flat.specs.Targets.{CoversPorts}
 

@@ -1,8 +1,8 @@
 -- The paths to leaves among all paths, and those to outputs of top, whatever is made of them.
-use Rattle.std.proofs.Common.{◌≡◌, ◌+◌, ◌++◌, ◌∷◌, ℕ, Option, Some, None, List, [], map, refl, sym, ap, ◌∙◌, append-nil}
+use Rattle.std.proofs.Common.{◌≡◌, ◌+◌, ◌++◌, ◌∷◌, ℕ, Option, Some, None, List, [], map, refl, ap, ◌∙◌, append-nil}
 use Rattle.std.specs.List.{All, cons_option, enumerate_from, filter_map, flat_map}
 use Rattle.std.proofs.lemmas.List.{map-append}
-use Rattle.std.proofs.lemmas.List.Elements.{filter_map-append, All-nil, All-cons, All-append, All-head, All-tail, All-map}
+use Rattle.std.proofs.lemmas.List.Elements.{filter_map-append, All-nil, All-cons, All-append, All-head, All-tail}
 use Rattle.model_tree.specs.Tree.{Word, Tree, ins_of}
 use Rattle.model_tree.specs.Pull as P
 use Rattle.atomic_face.specs.declared.class.PortNo.{PortNo}
@@ -11,8 +11,8 @@ use Rattle.route_flat.specs.declared.source.Path.{Path}
 use Rattle.route_flat.specs.declared.source.TargetPort.{TargetPort}
 use Rattle.route_flat.specs.declared.source.TargetPort.TheVariants as target
 use Rattle.route_flat.specs.declared.source.Way.{Way}
-use Rattle.route_flat.specs.Nets.{Flat, RoutesOf, named, IsThere}
-use Rattle.route_flat.specs.Ways.{path_in, way_at, ways_at, ways_to_port, ways_to_leaf, ways_to_top, ways_of, paths_of}
+use Rattle.route_flat.specs.Nets.{Flat, RoutesOf, named}
+use Rattle.route_flat.specs.Ways.{path_in, way_at, ways_to_port, ways_to_leaf, ways_to_top, paths_of}
 use Rattle.route_flat.specs.TreePaths.{made_at, made_in}
 
 -- what is picked among ways

@@ -3,6 +3,7 @@ use Rattle.std.proofs.Common.{◌≡◌, ◌<◌, ◌≤◌, ◌+◌, ◌++◌, 
 use Rattle.std.specs.Prelude.{◌==◌, ◌&&◌, nat_lt}
 use Rattle.std.specs.List.{flat_map, sum_by, range_with_len}
 use Rattle.std.proofs.lemmas.List.{length-append, length-reverse, length-take-le, reverse-append, take-append-drop, drop_more, take_more, get_or_past, nil_from_length}
+use Rattle.std.proofs.lemmas.List.Concat.{flat_map-append}
 use Rattle.std.proofs.lemmas.List.FromFn.{length-map-range_with_len, get_or-map-range_with_len, map-range_with_len_more}
 use Rattle.std.proofs.lemmas.List.Sums.{sum_by-cons, sum_by-append}
 use Rattle.std.proofs.lemmas.Bool.Decides.{nat_tests}
@@ -162,3 +163,12 @@ kept-sum ns counts ports are = capped (list_of ns) (λ k. get_or counts k 0) por
 
 pub of-counts : (ns ms : List Node) (counts : List ℕ) → ns ≡ ms → AreCounts ns counts → AreCounts ms counts
 of-counts ns ms counts e are = are ∙ ap (λ (xs : List Node). map (kept_count xs) (range_with_len 0 (length xs))) e
+
+-- ---- one node more that is followed
+
+pub followed-more : (F : ℕ → List Source) (ks : List ℕ) (i : ℕ) (old mid new : List Source) → i < length ks → mid ≡ old ++ flat_map F (take i ks) → new ≡ mid ++ F (get_or ks i 0) → new ≡ old ++ flat_map F (take (i + 1) ks)
+followed-more F ks i old mid new h e f =
+    let last : flat_map F (get_or ks i 0 ∷ []) ≡ F (get_or ks i 0) = append-nil (F (get_or ks i 0)) in
+    f ∙ ap (λ (xs : List Source). xs ++ F (get_or ks i 0)) e ∙ append_assoc old (flat_map F (take i ks)) (F (get_or ks i 0))
+    ∙ ap (λ (xs : List Source). old ++ xs)
+    (sym (ap (flat_map F) (take_more ks i 0 h) ∙ flat_map-append F (take i ks) (get_or ks i 0 ∷ []) ∙ ap (λ (xs : List Source). flat_map F (take i ks) ++ xs) last))

@@ -4,7 +4,7 @@ ghost use Rattle.std.specs.Prelude.{◌≡◌};
 use quantity::OutOfMemory;
 
 /// Why there are no routes.
-#[derive(Clone, Copy, PartialEq, Eq, Debug)]
+#[derive(Clone, Copy, Debug)]
 pub enum RouteRefusal {
     /// There are more than 65536 paths along links.
     TooManyRoutes,

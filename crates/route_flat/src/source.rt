@@ -10,14 +10,14 @@ pub enum TargetPort {
 }
 
 /// A path along links, from a source to a port.
-#[derive(Clone, Copy, PartialEq, Eq, Debug)]
+#[derive(Clone, Copy)]
 pub struct Path {
     pub from: Source,
     pub to: TargetPort,
 }
 
 /// A path, and its place among the sources of the port where it leads.
-#[derive(Clone, Copy, PartialEq, Eq, Debug)]
+#[derive(Clone, Copy)]
 pub struct Way {
     pub path: Path,
     pub rank: u32,

@@ -1,17 +1,44 @@
 use Rattle.std.proofs.Common.{rules, ◌≡◌, ◌<◌, ◌+◌, ◌++◌, [], ◌∷◌, List, take, length, refl, sym, ap, ◌∙◌, subst, arith}
 use Rattle.std.proofs.lemmas.Grind.{common_steps}
-use Rattle.std.proofs.lemmas.List.{take_more}
+use Rattle.std.proofs.lemmas.List.{take_more, take_all}
+use Rattle.std.proofs.lemmas.Result.{IfOk-weaker}
 use Rattle.model_tree.specs.declared.component.Component.{Component}
 use Rattle.model_tree.specs.Pull as P
 use Rattle.port_net.specs.declared.ports.Outputs.{Outputs}
-use Rattle.port_net.specs.Outside.{AllOutputs, leaves_of}
-use Rattle.port_net.proofs.Stood.{extends-on}
-use Rattle.port_net.proofs.Coming.{coupled-gives, coupled-leaves, outputs-more, leaves-more}
+use Rattle.port_net.specs.Outside.{AreOutputs, AllOutputs, leaves_of}
+use Rattle.port_net.proofs.Stood.{extends-none, extends-on}
+use Rattle.port_net.proofs.Coming.{coupled-gives, coupled-leaves, atomic-outputs, leaves-none, outputs-more, leaves-more}
 use Rattle.port_net.proofs.outputs.+outputs.Goals as goal
+
+pub outputs-returns-in-Coupled-clause-ok : goal.outputs-returns-in-Coupled-clause-ok
+outputs-returns-in-Coupled-clause-ok t c =
+    IfOk-weaker c.outputs_of_coupled.result _ _
+    (λ out. subst (λ (x : Component). AreOutputs c.outputs_of_coupled.new.nodes.items x c.args.first out) (sym c.in-Coupled.is))
+    c.outputs_of_coupled.ensures.ok
+
+pub outputs-returns-in-Cells-clause-ok : goal.outputs-returns-in-Cells-clause-ok
+outputs-returns-in-Cells-clause-ok t c =
+    IfOk-weaker c.outputs_of_group.result _ _
+    (λ out. subst (λ (x : Component). AreOutputs c.outputs_of_group.new.nodes.items x c.args.first out) (sym c.in-Cells.is))
+    c.outputs_of_group.ensures.ok
+
+pub outputs-returns-in-Atomic-clause-extends : goal.outputs-returns-in-Atomic-clause-extends
+outputs-returns-in-Atomic-clause-extends t c = extends-none c.args.nodes.now.items
+
+pub outputs-returns-in-Atomic-clause-ok : goal.outputs-returns-in-Atomic-clause-ok
+outputs-returns-in-Atomic-clause-ok t c = atomic-outputs c.args.nodes.now.items c.args.component.now _ c.args.first _ c.in-Atomic.is refl refl
+
+pub outputs_of_all-loop-child-init : goal.outputs_of_all-loop-child-init
+outputs_of_all-loop-child-init t c =
+    record {
+      extends = extends-none c.args.nodes.now.items;
+      ok = subst (λ (os : List Outputs). AllOutputs c.args.nodes.now.items [] c.args.first os) (sym c.new-outs.ensures.items) tt;
+      next = leaves-none c.args.first c.new-outs.result.items c.new-outs.ensures.items;
+    }
 
 pub outputs_of_all-loop-child-preserved : goal.outputs_of_all-loop-child-preserved
 outputs_of_all-loop-child-preserved t c =
-    let within : c.loop-child.child-index < length c.args.children.now = search rules in
+    let within : c.loop-child.child-index < length c.args.children.now = c.loop-child-test.true in
     let pushed : c.push.new.self.items ≡ c.loop-child.outs.items ++ c.in_ok-out.out ∷ [] = search rules in
     let next : c.in_ok-next.next ≡ c.loop-child.next + c.in_ok-out.out.leaves = grind (arith, common_steps) in
     let took : take (c.loop-child.child-index + 1) c.args.children.now ≡ take c.loop-child.child-index c.args.children.now ++ c.child-item.result ∷ [] =
@@ -23,6 +50,18 @@ outputs_of_all-loop-child-preserved t c =
           c.in_ok-out.ensures.extends inv.ok inv.next c.in_ok-out.ensures.ok pushed took;
       next = leaves-more c.args.first c.loop-child.next c.in_ok-next.next c.loop-child.outs.items c.push.new.self.items c.in_ok-out.out inv.next next pushed;
     }
+
+pub outputs_of_all-returns-clause-extends : goal.outputs_of_all-returns-clause-extends
+outputs_of_all-returns-clause-extends t c = c.loop-child.invariant.extends
+
+pub outputs_of_all-returns-clause-ok : goal.outputs_of_all-returns-clause-ok
+outputs_of_all-returns-clause-ok t c =
+    subst (λ (cs : List Component). AllOutputs c.loop-child.nodes.items cs c.args.first c.loop-child.outs.items)
+    (take_all c.loop-child.child-index c.args.children.now c.loop-child-test.false) c.loop-child.invariant.ok
+
+pub outputs_of_coupled-returns-clause-extends : goal.outputs_of_coupled-returns-clause-extends
+outputs_of_coupled-returns-clause-extends t c =
+    extends-on c.args.nodes.now.items c.outputs_of_all.new.nodes.items c.coupled_arrivals.new.nodes.items c.in_ok-outs.ensures.extends c.in_ok-links.ensures.extends
 
 pub outputs_of_coupled-returns-clause-ok : goal.outputs_of_coupled-returns-clause-ok
 outputs_of_coupled-returns-clause-ok t c =

@@ -7,9 +7,16 @@ use Rattle.model_tree.specs.Pull as P
 use Rattle.port_net.specs.Shown.{leaf_list}
 use Rattle.port_net.specs.Arriving.{Brings}
 use Rattle.port_net.specs.Rows.{cell_rows}
+use Rattle.port_net.proofs.Stood.{extends-on}
 use Rattle.port_net.proofs.Arrived.{test-cell}
 use Rattle.port_net.proofs.Rowed.{grows-on, grows-as, nodes-put, group-rows}
 use Rattle.port_net.proofs.rows.put_group.Goals as goal
+
+pub returns-clause-extends : goal.returns-clause-extends
+returns-clause-extends c =
+    on_ok_weaker c.put_cells.result
+    (extends-on c.args.net.now.nodes.items c.arrivals.new.nodes.items c.put_cells.new.net.nodes.items c.in_ok-links.ensures.extends)
+    c.put_cells.ensures.extends
 
 pub returns-clause-takes : goal.returns-clause-takes
 returns-clause-takes c =

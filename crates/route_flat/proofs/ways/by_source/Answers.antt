@@ -1,10 +1,11 @@
-use Rattle.std.proofs.Common.{ℕ, ap, sym, ◌∙◌, List, [], ◌∷◌, ◌++◌, get_or, arith, refl}
+use Rattle.std.proofs.Common.{◌≤◌, ℕ, length, ap, sym, ◌∙◌, List, [], ◌∷◌, ◌++◌, get_or, arith, refl}
+use Rattle.std.proofs.lemmas.List.{take_all}
 use Rattle.std.specs.Prelude.{if◌then◌else◌}
 use Rattle.port_net.specs.declared.source.Source.TheVariants.{Leaf}
 use Rattle.route_flat.specs.declared.source.TargetPort.TheVariants as target
 use Rattle.route_flat.specs.declared.source.Way.{Way}
 use Rattle.route_flat.specs.declared.source.Target.{Target}
-use Rattle.route_flat.specs.Ways.{same_source, target_of}
+use Rattle.route_flat.specs.Ways.{same_source, target_of, targets_among}
 use Rattle.route_flat.specs.BySource.{list_from}
 use Rattle.route_flat.proofs.Steps.{targets-more}
 use Rattle.route_flat.proofs.ways.by_source.Goals as goal
@@ -17,3 +18,11 @@ loop-number-preserved c = λ from.
     ∙ ap (λ (n : ℕ). if same_source from way.path.from then list_from c.loop-number.by from ++ target_of (n, way) ∷ [] else list_from c.loop-number.by from) c.in_ok-counted.ensures
     ∙ ap (λ (ts : List Target). if same_source from way.path.from then ts ++ target_of (c.loop-number.number, way) ∷ [] else ts) (c.loop-number.invariant from)
     ∙ sym (targets-more c.args.ways.now c.loop-number.number way none from (omega arith) refl)
+
+pub loop-number-init : goal.loop-number-init
+loop-number-init c = λ from. c.new-by.ensures from
+
+pub returns : goal.returns
+returns c = λ from.
+    let past : length c.args.ways.now ≤ c.loop-number.number = omega arith in
+    c.loop-number.invariant from ∙ ap (λ (ws : List Way). targets_among ws from) (take_all c.loop-number.number c.args.ways.now past)

@@ -1,5 +1,8 @@
-use Rattle.std.proofs.Common.{◌≡◌, ℕ, ap, ◌∙◌, [], ◌++◌, get_or, arith}
+use Rattle.std.proofs.Common.{◌≡◌, ℕ, ap, ◌∙◌, [], ◌++◌, get_or, arith, ◌≤◌, List, sym, append-nil, length}
 use Rattle.route_flat.specs.declared.source.TargetPort.TheVariants as target
+use Rattle.std.specs.List.{enumerate_from, flat_map}
+use Rattle.port_net.specs.declared.source.Source.{Source}
+use Rattle.std.proofs.lemmas.List.{take_all}
 use Rattle.route_flat.specs.Ways.{ways_at, ways_to_top}
 use Rattle.route_flat.proofs.Steps.{ways-more}
 use Rattle.route_flat.proofs.ways.to_tops.Goals as goal
@@ -13,3 +16,11 @@ loop-out-preserved c =
     let grown : c.to_port.new.into.items ≡ c.loop-out.into.items ++ ways_to_top (c.loop-out.out, c.top_sources.result.now) =
     c.in_ok-to_port.ensures ∙ ap (λ (n : ℕ). c.loop-out.into.items ++ ways_at (target.TopOut n) c.top_sources.result.now) number in
     ways-more ways_to_top all c.loop-out.out c.top_sources.result.now [] c.args.into.now.items c.loop-out.into.items c.to_port.new.into.items (omega arith) read c.loop-out.invariant grown
+
+pub loop-out-init : goal.loop-out-init
+loop-out-init c = sym (append-nil c.args.into.now.items)
+
+pub returns : goal.returns
+returns c =
+    let past : length c.args.lists.now.tops ≤ c.loop-out.out = omega arith in
+    c.loop-out.invariant ∙ ap (λ (xs : List (List Source)). c.args.into.now.items ++ flat_map ways_to_top (enumerate_from 0 xs)) (take_all c.loop-out.out c.args.lists.now.tops past)

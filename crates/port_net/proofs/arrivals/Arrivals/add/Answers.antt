@@ -1,4 +1,5 @@
 use Rattle.std.proofs.Common.{◌≡◌, ◌++◌, ◌∷◌, [], Option, ℕ, None, Some, ap, sym, ◌∙◌, is_some, position, slice_get}
+use Rattle.std.proofs.lemmas.Result.{on_ok_weaker}
 use Rattle.std.specs.Map.{lookup, keys_of, values_of}
 use Rattle.indexmap.proofs.CallerLemmas.{insert_entry-new}
 use Rattle.port_net.specs.Shown.{one_if}
@@ -17,11 +18,11 @@ returns-in_default-get_index_of c = λ into x t.
     ∙ ap (λ (o : Option ℕ). kept_at into es ++ one_if (into (end_of p)) o) (sym c.in-Some.is)
 
 pub returns : goal.returns
-returns c = λ into x t.
+returns c = on_ok_weaker c.append.result (λ put into x t.
     let p = c.args.place in
     let es = c.args.self.now.by_place.entries in
     let i = c.in-Some-get_index_of.at in
     let at : position (same c.args.place) (keys_of c.args.self.now.by_place.entries) ≡ Some c.in-Some-get_index_of.at = sym c.get_index_of.ensures.index ∙ c.in-Some-get_index_of.is in
     let there : slice_get (values_of c.args.self.now.by_place.entries) c.in-Some-get_index_of.at ≡ Some c.in-Some-get_index_mut.list.now = sym c.in-Some-get_index_mut.ensures.value in
-    put-more into x p c.in-Some.node es i c.in-Some-get_index_mut.list.now c.push.new.self t (first-place (same p) (keys_of es) i at) there c.in-Ok-push.ensures.items
-    ∙ ap (λ (o : Option ℕ). kept_at into es ++ one_if (into (end_of p)) o) (sym c.in-Some.is)
+    put-more into x p c.in-Some.node es i c.in-Some-get_index_mut.list.now c.append.new.list t (first-place (same p) (keys_of es) i at) there put
+    ∙ ap (λ (o : Option ℕ). kept_at into es ++ one_if (into (end_of p)) o) (sym c.in-Some.is)) c.append.ensures
