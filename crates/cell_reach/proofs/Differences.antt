@@ -1,5 +1,5 @@
 -- Away from the edges a neighbour's number is that of the cell and a fixed difference.
-use Rattle.std.proofs.Common.{◌≡◌, ℕ, suc, ◌+◌, ◌*◌, ◌<◌, ◌≤◌, Some, ℤ, pos, negsuc, ◌+ℤ◌, ◌*ℤ◌, ◌≤ℤ◌, ◌<ℤ◌, refl, sym, ap, ◌∙◌, arith}
+use Rattle.std.proofs.Common.{◌≡◌, ℕ, suc, ◌+◌, ◌*◌, ◌<◌, ◌≤◌, Some, ℤ, pos, negsuc, ◌+ℤ◌, ◌*ℤ◌, ◌≤ℤ◌, ◌<ℤ◌, refl, sym, ap, ◌∙◌, arith, FitsSigned, w64}
 use Rattle.std.specs.Int.RustNames.{unsigned_abs}
 use Rattle.std.specs.Option.{option_map}
 use Rattle.std.proofs.lemmas.Int.{ints, unsigned_abs-mul}
@@ -90,3 +90,20 @@ few_wholes w n p z few size part is =
     let product : unsigned_abs (w *ℤ pos n) ≡ unsigned_abs w * n = unsigned_abs-mul w (pos n) in
     let most : unsigned_abs w * n ≤ unsigned_abs w * 1048576 = mul-le-mul_left (unsigned_abs w) size in
     omega (arith, abs-sum (w *ℤ pos n) p, ap unsigned_abs is)
+
+-- wholes of a size stay far within a word
+product_few : (w v : ℤ) (n : ℕ) → unsigned_abs w ≤ 68719476736 → v ≡ pos n → n ≤ 1048576 → unsigned_abs (w *ℤ v) ≤ 72057594037927936
+product_few w v n few is size =
+    let product : unsigned_abs (w *ℤ v) ≡ unsigned_abs w * n = ap (λ x. unsigned_abs (w *ℤ x)) is ∙ unsigned_abs-mul w (pos n) in
+    let most : unsigned_abs w * n ≤ unsigned_abs w * 1048576 = mul-le-mul_left (unsigned_abs w) size in
+    omega (arith, product)
+
+within_word : (z : ℤ) → unsigned_abs z ≤ 72057594037960704 → FitsSigned w64 z
+within_word (pos m) few = record { sfits = omega arith }
+within_word (negsuc m) few = record { sfits = omega arith }
+
+pub wholes_fit : (w v : ℤ) (n : ℕ) → unsigned_abs w ≤ 68719476736 → v ≡ pos n → n ≤ 1048576 → FitsSigned w64 (w *ℤ v)
+wholes_fit w v n few is size = within_word (w *ℤ v) (omega (arith, product_few w v n few is size))
+
+pub parts_fit : (w v p : ℤ) (n : ℕ) → unsigned_abs w ≤ 68719476736 → v ≡ pos n → n ≤ 1048576 → unsigned_abs p ≤ 32768 → FitsSigned w64 (w *ℤ v +ℤ p)
+parts_fit w v p n few is size part = within_word (w *ℤ v +ℤ p) (omega (arith, product_few w v n few is size, abs-sum (w *ℤ v) p))

@@ -1,5 +1,5 @@
 -- A file that is read line by line.
-use Rattle.std.proofs.Common.{◌≡◌, ◌==◌, ℕ, ◌+◌, ◌<◌, ◌≤◌, Bool, true, false, cond, not, Option, Some, None, List, [], ◌∷◌, ◌++◌, refl, sym, ap, ◌∙◌, suc, arith, length, map, nat_le, append_assoc}
+use Rattle.std.proofs.Common.{◌≡◌, ◌==◌, ℕ, ◌+◌, ◌<◌, ◌≤◌, Bool, true, false, cond, not, Option, Some, None, List, [], ◌∷◌, ◌++◌, refl, sym, ap, ◌∙◌, suc, arith, length, map, nat_le, append_assoc, append-nil}
 use Rattle.std.specs.declared.result.Result.TheVariants.{Ok, Err}
 use Rattle.std.specs.Prelude.{if◌then◌else◌}
 use Rattle.std.proofs.lemmas.Bool.Decides.{nat_tests}
@@ -31,6 +31,16 @@ filled_by (c ∷ cs) e = refl
 
 pub filled_line-empty : (n : ℕ) (piece : Bytes) → (length (text_of_line piece) == 0) ≡ true → filled_line n piece ≡ []
 filled_line-empty n piece e = ap (λ b. cond b (line n piece ∷ []) []) (empty_by (text_of_line piece) e)
+
+-- an empty line is not refused, and adds nothing
+pub nothing_refused : (ports : List Bytes) (before n : ℕ) (piece : Bytes) → (length (text_of_line piece) == 0) ≡ true → events_refused ports before (filled_line n piece) ≡ None
+nothing_refused ports before n piece e = ap (events_refused ports before) (filled_line-empty n piece e)
+
+pub nothing_added : (ports : List Bytes) (events : List Event) (n : ℕ) (piece : Bytes) → (length (text_of_line piece) == 0) ≡ true → events ≡ events ++ events_in ports (filled_line n piece)
+nothing_added ports events n piece e = sym (ap (λ l. events ++ events_in ports l) (filled_line-empty n piece e) ∙ append-nil events)
+
+pub nothing_counted : (before n : ℕ) (piece : Bytes) → (length (text_of_line piece) == 0) ≡ true → before ≡ before + length (filled_line n piece)
+nothing_counted before n piece e = let h : length (filled_line n piece) ≡ 0 = ap length (filled_line-empty n piece e) in omega (arith, h)
 
 pub filled_line-filled : (n : ℕ) (piece : Bytes) → (length (text_of_line piece) == 0) ≡ false → filled_line n piece ≡ line n piece ∷ []
 filled_line-filled n piece e = ap (λ b. cond b (line n piece ∷ []) []) (filled_by (text_of_line piece) e)
@@ -155,3 +165,19 @@ pub reading_stops : (ports : List Bytes) (bytes : Bytes) (events : List Event) (
 reading_stops ports bytes events number rest piece behind refusal h e refused =
     let cut = lines_left-cut number rest piece behind e in
     sym h.refusals ∙ ap (events_refused ports (length events)) cut ∙ stopped ports (length events) (filled_line number piece) (lines_left (number + 1) behind) refusal refused
+
+-- ---- the last line
+
+pub reading_ends : (ports : List Bytes) (bytes : Bytes) (events : List Event) (number : ℕ) (rest : Bytes) (o : Option EventRefusal) → IsReading ports bytes events number rest
+    → slice_split (is_byte 10) rest ≡ rest ∷ []
+    → events_refused ports (length events) (filled_line number rest) ≡ o
+    → events_refused ports 0 (lines_left 1 bytes) ≡ o
+reading_ends ports bytes events number rest o h e refused =
+    sym h.refusals ∙ ap (events_refused ports (length events)) (lines_left-last number rest e) ∙ refused
+
+pub all_read : (ports : List Bytes) (bytes : Bytes) (events more : List Event) (number : ℕ) (rest : Bytes) → IsReading ports bytes events number rest
+    → slice_split (is_byte 10) rest ≡ rest ∷ []
+    → more ≡ events ++ events_in ports (filled_line number rest)
+    → more ≡ events_in ports (lines_left 1 bytes)
+all_read ports bytes events more number rest h e f =
+    f ∙ ap (λ l. events ++ events_in ports l) (sym (lines_left-last number rest e)) ∙ h.events_so_far

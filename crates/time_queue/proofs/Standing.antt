@@ -69,6 +69,49 @@ pub apart : (order places : List ℕ) (p q : ℕ) → IsInverse order places →
 apart order places p q inverse p_lt q_lt ne same =
     ne (sym ((inverse.place_of p p_lt).1) ∙ ap (slice_index places) same ∙ (inverse.place_of q q_lt).1)
 
+-- two leaves change places, and their places with them
+swapped_place : (order order' places places' : List ℕ) (i j p : ℕ) → IsInverse order places → i < length order → j < length order → order' ≡ swap order i j → places' ≡ swap places (slice_index order i) (slice_index order j) → p < length order
+    → (slice_index order' p < length places) × (slice_index places' (slice_index order' p) ≡ p)
+swapped_place order order' places places' i j p inverse i_lt j_lt is is' lt =
+    let at_i = inverse.place_of i i_lt in
+    let at_j = inverse.place_of j j_lt in
+    let at_p = inverse.place_of p lt in
+    let so = swapped_order order order' i j i_lt j_lt is in
+    let sp = swapped_order places places' (slice_index order i) (slice_index order j) at_i.0 at_j.0 is' in
+    ⊎_elim
+    (λ p_i.
+    let here : slice_index order' p ≡ slice_index order j = ap (slice_index order') p_i ∙ so.0 in
+    (omega (arith, here, at_j.0), ap (slice_index places') here ∙ sp.1 ∙ at_i.1 ∙ sym p_i))
+    (λ i_ne. ⊎_elim
+    (λ p_j.
+    let here : slice_index order' p ≡ slice_index order i = ap (slice_index order') p_j ∙ so.1 in
+    (omega (arith, here, at_i.0), ap (slice_index places') here ∙ sp.0 ∙ at_j.1 ∙ sym p_j))
+    (λ j_ne.
+    let here : slice_index order' p ≡ slice_index order p = so.2 p i_ne j_ne in
+    let other_i = apart order places p i inverse lt i_lt i_ne in
+    let other_j = apart order places p j inverse lt j_lt j_ne in
+    (omega (arith, here, at_p.0), ap (slice_index places') here ∙ sp.2 (slice_index order p) other_i other_j ∙ at_p.1))
+    (cases_eq p j))
+    (cases_eq p i)
+
+turned : (order places : List ℕ) → IsInverse order places → IsInverse places order
+turned order places inverse = record { same = sym inverse.same; place_of = inverse.leaf_at; leaf_at = inverse.place_of }
+
+pub inverse_swapped : (order order' places places' : List ℕ) (i j one other : ℕ) → IsInverse order places → i < length order → j < length order → one ≡ slice_index order i → other ≡ slice_index order j → order' ≡ swap order i j → places' ≡ swap places one other → IsInverse order' places'
+inverse_swapped order order' places places' i j one other inverse i_lt j_lt one_is other_is is is' =
+    let at_i = inverse.place_of i i_lt in
+    let at_j = inverse.place_of j j_lt in
+    let here : places' ≡ swap places (slice_index order i) (slice_index order j) = is' ∙ ap (λ a. swap places a other) one_is ∙ ap (swap places (slice_index order i)) other_is in
+    let there : order' ≡ swap order (slice_index places (slice_index order i)) (slice_index places (slice_index order j)) =
+    is ∙ sym (ap (λ a. swap order a (slice_index places (slice_index order j))) at_i.1 ∙ ap (swap order i) at_j.1) in
+    let o_len = swapped_length order order' i j is in
+    let p_len = swapped_length places places' one other is' in
+    record {
+      same = p_len ∙ inverse.same ∙ sym o_len;
+      place_of = λ p lt. let at = swapped_place order order' places places' i j p inverse i_lt j_lt is here (omega (arith, o_len)) in (omega (arith, at.0, p_len), at.1);
+      leaf_at = λ l lt. let at = swapped_place places places' order order' (slice_index order i) (slice_index order j) l (turned order places inverse) at_i.0 at_j.0 here there (omega (arith, p_len)) in (omega (arith, at.0, o_len), at.1);
+    }
+
 -- a leaf that waits gets another time
 pub first_reset : (ts : List (Option ℕ)) (order places : List ℕ) (n place leaf at : ℕ) → IsInverse order places → n ≤ length order → leaf < length ts → place < n → slice_index order place ≡ leaf → AreFirst ts order n → AreFirst (set ts leaf (Some at)) order n
 first_reset ts order places n place leaf at inverse all within lt here first = record {

@@ -105,9 +105,19 @@ fn take_if_due<Q: DueFirst>(queue: &mut Q, at: Time, leaf: u32, into: &mut Vec<u
         ≡ slice_set (Q.waiting queue.old) leaf (undue at (time_of (Q.waiting queue.old) leaf)) }
     ensures capacity { vec_capacity into.new ≡ vec_capacity into.old }
 {
-    if queue.time_of(leaf) == Some(at) {
+    if is_for(queue.time_of(leaf), at) {
         queue.remove(leaf);
         into.push_reserved(leaf);
+    }
+}
+
+/// Whether a leaf waits for this time, by the time that it waits for.
+fn is_for(time: Option<Time>, at: Time) -> bool
+    ensures { result ≡ is_due at time }
+{
+    match time {
+        Some(time) => time == at,
+        None => false,
     }
 }
 

@@ -9,7 +9,7 @@ use quantity::{OutOfMemory, Time};
 use std::alloc::{AllocError, Global};
 
 /// A call that changes a queue.
-#[derive(Clone, Copy, PartialEq, Eq, Debug)]
+#[derive(Clone, Copy)]
 pub enum Move {
     /// The leaf waits for this time.
     Set(u32, Time),

@@ -1,10 +1,10 @@
-use Rattle.std.proofs.Common.{◌≡◌, ◌+◌, ap, sym, ◌∙◌, arith, length, map}
+use Rattle.std.proofs.Common.{◌≡◌, ◌+◌, None, Some, ap, sym, ◌∙◌, arith, length, map}
 use Rattle.std.proofs.lemmas.List.{length-map}
 use Rattle.std.proofs.lemmas.Result.{err_from_is_err_and}
 use Rattle.event_list.specs.Events.{events_refused}
 use Rattle.event_list.specs.LineByLine.{filled_line}
 use Rattle.event_list.specs.Shown.{shown}
-use Rattle.event_list.proofs.Reading.{reading_stops, reads_on}
+use Rattle.event_list.proofs.Reading.{all_read, reading_ends, reading_stops, reads_on}
 use Rattle.event_list.proofs.read.events_listed.Goals as goal
 
 pub returns-in_err-add_line-clause-err : goal.returns-in_err-add_line-clause-err
@@ -26,3 +26,20 @@ loop-line-preserved c =
           c.loop-line.invariant.0 c.in-Some.ensures.parts before c.in_ok-add_line.ensures.events count,
       omega (arith, c.in-Some.ensures.shorter, c.loop-line.invariant.1),
     )
+
+pub returns-in_err-add_line-2-clause-err : goal.returns-in_err-add_line-2-clause-err
+returns-in_err-add_line-2-clause-err c =
+    let old = c.loop-line.events.items in
+    let p = err_from_is_err_and c.from_residual-in_err-add_line-2.result c.from_residual-in_err-add_line-2.ensures.1 in
+    rw (p.1, p.2) (λ other. reading_ends c.args.ports.now c.args.bytes.now (map shown old) c.loop-line.number c.loop-line.rest.now (Some c.in_err-add_line-2.field-0.0) c.loop-line.invariant.0 c.in_default.ensures.parts
+    (ap (λ n. events_refused c.args.ports.now n (filled_line c.loop-line.number c.loop-line.rest.now)) (length-map old shown) ∙ c.in_err-add_line-2.ensures.err other))
+
+pub returns-clause-accepted : goal.returns-clause-accepted
+returns-clause-accepted c =
+    let old = c.loop-line.events.items in
+    reading_ends c.args.ports.now c.args.bytes.now (map shown old) c.loop-line.number c.loop-line.rest.now None c.loop-line.invariant.0 c.in_default.ensures.parts
+    (ap (λ n. events_refused c.args.ports.now n (filled_line c.loop-line.number c.loop-line.rest.now)) (length-map old shown) ∙ c.in_ok-add_line-2.ensures.accepted)
+
+pub returns-clause-events : goal.returns-clause-events
+returns-clause-events c =
+    all_read c.args.ports.now c.args.bytes.now (map shown c.loop-line.events.items) _ c.loop-line.number c.loop-line.rest.now c.loop-line.invariant.0 c.in_default.ensures.parts c.in_ok-add_line-2.ensures.events

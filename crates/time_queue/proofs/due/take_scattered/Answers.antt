@@ -1,8 +1,18 @@
-use Rattle.std.proofs.Common.{◌<◌, length, sym, ◌∙◌, ap, arith}
+use Rattle.std.proofs.Common.{◌<◌, length, refl, sym, ◌∙◌, ap, subst, arith}
 use Rattle.std.proofs.lemmas.List.{length-set}
 use Rattle.time_queue.specs.Waiting.{undue, time_of}
-use Rattle.time_queue.proofs.Taken.{scanned_room, scanned_more, scanned_next}
+use Rattle.time_queue.proofs.Taken.{IsScanned, scanned_none, scanned_room, scanned_more, scanned_next}
 use Rattle.time_queue.proofs.due.take_scattered.Goals as goal
+
+pub loop-leaf-init : goal.loop-leaf-init
+loop-leaf-init g c =
+    let start = g.Q.DueFirst.waiting c.args.queue.now in
+    record {
+      scanned = subst (λ taken. IsScanned c.args.at start start taken 0) (sym c.requires.empty) (scanned_none c.args.at start);
+      same = refl;
+      end = c.leaves-leaf-end.ensures;
+      room = c.requires.room;
+    }
 
 pub take_if_due-requires-clause-room : goal.take_if_due-requires-clause-room
 take_if_due-requires-clause-room g c =

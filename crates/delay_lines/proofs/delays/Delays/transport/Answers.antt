@@ -1,9 +1,10 @@
-use Rattle.std.proofs.Common.{None, Some, IsSome, ap, length, length-set, subst, sym, ◌∙◌, refl, arith}
+use Rattle.std.proofs.Common.{None, Some, IsSome, [], ap, get_or, length, length-set, subst, sym, ◌∙◌, refl, arith, rules}
+use Rattle.std.proofs.lemmas.Grind.{common_steps}
 use Rattle.std.proofs.lemmas.List.{get_or_read}
 use Rattle.quantity.specs.Delay.{put_pair}
 use Rattle.delay_lines.specs.Places.{look_in}
-use Rattle.delay_lines.specs.Lists.{list_of}
-use Rattle.delay_lines.specs.Nodes.{IsOrdered, IsTaken, last_link, pairs_from}
+use Rattle.delay_lines.specs.Lists.{IsRising, list_of}
+use Rattle.delay_lines.specs.Nodes.{IsOrdered, IsTaken, last_link, lists_from, pairs_from}
 use Rattle.delay_lines.proofs.Chains.{AreLaid-headed, AreLaid-replaced, AreLaid-stands_linked, length-free, length-taken}
 use Rattle.delay_lines.proofs.Ends.{AreHeld-headed, AreHeld-replaced, AreHeld-seen, AreHeld-stands_linked, end_of}
 use Rattle.delay_lines.proofs.Laid.{IsOrdered-laid, list_of-changed, list_of-seen, lists_from-changed, within_seen}
@@ -73,6 +74,29 @@ returns-in-Taken-clause-places c =
 
 pub invariant_of-self-in_default : goal.invariant_of-self-in_default
 invariant_of-self-in_default c = rw c.in_default.ensures.err c.self.invariant
+
+-- a refusal changes no list
+pub returns-in_default-clause-err : goal.returns-in_default-clause-err
+returns-in_default-clause-err c =
+    ap (λ look. lists_from look c.self.inside.firsts.items) c.in_default.ensures.err ∙ ap (λ d. d.lists) c.self.view_is
+
+pub returns-in_default-clause-rising : goal.returns-in_default-clause-rising
+returns-in_default-clause-rising c =
+    let within = within_seen _ _ c.args.self.now c.args.cell (ap (λ d. d.lists) c.self.view_is) c.requires in
+    let lists = ap (λ look. lists_from look c.self.inside.firsts.items) c.in_default.ensures.err in
+    subst (λ l. IsRising (get_or l c.args.cell [])) (sym lists) (c.self.invariant.laid.chains c.args.cell within).rising
+
+pub returns-in_default-clause-succeeds : goal.returns-in_default-clause-succeeds
+returns-in_default-clause-succeeds c = search rules
+
+pub returns-in_default-clause-places : goal.returns-in_default-clause-places
+returns-in_default-clause-places c =
+    let lists = ap (λ look. lists_from look c.self.inside.firsts.items) c.in_default.ensures.err ∙ ap (λ d. d.lists) c.self.view_is in
+    let same = ap (λ l. length (get_or l c.args.cell [])) lists in
+    grind (arith, common_steps, same)
+
+pub returns-in_default-clause-had_room : goal.returns-in_default-clause-had_room
+returns-in_default-clause-had_room c = search rules
 
 pub invariant_of-self-in-Some : goal.invariant_of-self-in-Some
 invariant_of-self-in-Some c =

@@ -1,4 +1,4 @@
-use Rattle.std.proofs.Common.{◌+◌, ◌≤◌, ◌^◌, None, Some, ap, refl, set, subst, sym, ◌∙◌, arith}
+use Rattle.std.proofs.Common.{◌+◌, ◌≤◌, ◌^◌, None, Some, ap, length-set, refl, set, subst, sym, ◌∙◌, arith}
 use Rattle.delay_lines.specs.Nodes.{Look, node_of}
 use Rattle.delay_lines.specs.Places.{Writes, look_in}
 use Rattle.delay_lines.proofs.Vacant.{held_read, look_of, vacated}
@@ -38,3 +38,11 @@ returns-clause-next c =
     let view = ap look_in c.self.view_is in
     let held = held_read inside.nodes.items inside.vacant inside.count c.args.self.now view c.args.key c.index.result.now c.requires c.index.ensures in
     rw (sym (ap (λ (f : Look). f c.args.key) view) ∙ held) refl
+
+pub returns-clause-spare : goal.returns-clause-spare
+returns-clause-spare c =
+    let inside = c.self.inside in
+    let node = c.index_mut.result.now in
+    let same = length-set inside.nodes.items c.args.key (node_of node.pair inside.vacant) in
+    let spare = ap (λ p. p.spare) c.self.view_is in
+    omega (arith, same, spare)
