@@ -16,7 +16,7 @@ pub struct Params {
 }
 
 /// Why a model doesn't take parameters.
-#[derive(Clone, Copy, PartialEq, Eq, Debug)]
+#[derive(Clone, Copy, Debug)]
 pub enum SettleRefusal {
     /// The value of a parameter is off its form: the least line of such.
     BadParameter(u32),
@@ -25,7 +25,7 @@ pub enum SettleRefusal {
 }
 
 /// Why a model doesn't take a state.
-#[derive(Clone, Copy, PartialEq, Eq, Debug)]
+#[derive(Clone, Copy, Debug)]
 pub enum RestoreRefusal {
     /// The words aren't a state of the class with these settings.
     BadState,

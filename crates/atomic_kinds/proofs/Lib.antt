@@ -1,3 +1,4 @@
 pub mod Lines
 pub mod PairLemmas
 pub mod Rising
+pub mod Steps

@@ -1,8 +1,8 @@
 -- Files read word by word and line by line.
-use Rattle.std.proofs.Common.{◌≡◌, ℕ, suc, ◌+◌, Bool, true, false, cond, not, nat_eq, Option, Some, None, List, [], ◌∷◌, ◌++◌, length, map, refl, ap, sym, ◌∙◌, inl, inr, arith}
-use Rattle.std.proofs.lemmas.List.{nil_from_length}
-use Rattle.std.proofs.lemmas.Bool.{eqb-true, ne_eqb}
-use Rattle.std.specs.List.{slice_split, before_first, after_first, enumerate_from, flat_map, filter, fold}
+use Rattle.std.proofs.Common.{◌≡◌, ℕ, suc, ◌+◌, ◌<◌, Bool, true, false, cond, not, nat_eq, Option, Some, None, List, [], ◌∷◌, ◌++◌, length, map, refl, ap, sym, ◌∙◌, inl, inr, arith}
+use Rattle.std.proofs.lemmas.List.{length-drop, nil_from_length}
+use Rattle.std.proofs.lemmas.Bool.{cases_eq, eq-eqb, eqb-true, false≢true, ne_eqb}
+use Rattle.std.specs.List.{slice_split, position_or_len, before_first, after_first, enumerate_from, flat_map, filter, fold}
 use Rattle.std.specs.Option.{option_map}
 use Rattle.quantity.specs.declared.value.Value.{Value}
 use Rattle.quantity.specs.Bytes.{Bytes, is_byte, is_empty, words, all_there, in_front}
@@ -104,3 +104,11 @@ no_text_is text e f = no_text text ∙ sym e ∙ f
 
 pub nothing_left : {r : Bool} (text : Bytes) → r ≡ nat_eq (length text) 0 → r ≡ true → text ≡ []
 nothing_left text e f = nil_from_length text (eqb-true (length text) 0 (sym e ∙ f))
+
+-- what stands behind a line is shorter
+pub less_behind : {r : Bool} (left behind : Bytes) → behind ≡ after_first (is_byte 10) left → r ≡ nat_eq (length left) 0 → r ≡ false → length behind < length left
+less_behind left behind e f g =
+    elim (cases_eq (length left) 0) [
+      | inl z ↦ absurd (false≢true (sym g ∙ f ∙ eq-eqb (length left) 0 z))
+      | inr z ↦ omega (arith, ap length e, length-drop (position_or_len (is_byte 10) left + 1) left)
+    ]

@@ -10,3 +10,4 @@ pub mod Rising
 pub mod Watching
 pub mod RowTests
 pub mod Offsets
+pub mod PlaceTuples

@@ -1,10 +1,11 @@
 -- Cells and their places.
-use Rattle.std.proofs.Common.{◌≡◌, ℕ, zero, suc, ◌+◌, ◌*◌, ◌/◌, ◌%◌, ◌<◌, Bool, true, false, ltb, cond, Some, None, refl, ap, ◌∙◌, ◌&&◌, arith, mul_comm, mul-zero, zero-mul}
+use Rattle.std.proofs.Common.{◌≡◌, subst, sym, ℕ, zero, suc, ◌+◌, ◌*◌, ◌/◌, ◌%◌, ◌<◌, ◌≤◌, Bool, true, false, ltb, cond, Some, None, refl, ap, ◌∙◌, ◌&&◌, arith, mul_comm, mul-zero, zero-mul}
 use borrow.Author.Tests.{ltb-true}
-use Rattle.std.proofs.lemmas.Nat.{div_below, mod_below, div-add-mod', div-mul-add, mod-mul-add, mul-add-lt}
+use Rattle.std.proofs.lemmas.Nat.{div_below, mod_below, div-add-mod', div-mul-add, mod-mul-add, mul-add-lt, mul-le}
 use Rattle.std.proofs.lemmas.Bool.{lt-ltb}
 use Rattle.quantity.specs.declared.place.Place.{Place}
-use Rattle.cell_grid.specs.Space.{Space, IsInside, plane_count, cell_count, place_of, number_of, cell_at}
+use Rattle.quantity.specs.declared.bounds.TheConstants.{MAX_CELLS}
+use Rattle.cell_grid.specs.Space.{Space, CanHold, IsInside, plane_count, cell_count, place_of, number_of, cell_at}
 
 -- no size of a space that has a cell is 0
 abbrev pub HasSizes : Space → Type 0
@@ -68,3 +69,32 @@ pub inside-from_cell_at : (s : Space) (p : Place) (cell : ℕ) → cell_at s p �
 inside-from_cell_at s p cell is =
     let tests = chosen (ltb p.row s.rows) (ltb p.column s.columns) (ltb p.plane (plane_count s)) (number_of s p.row p.column p.plane) cell is in
     ((ltb-true p.row s.rows tests.0, ltb-true p.column s.columns tests.1, ltb-true p.plane (plane_count s) tests.2), tests.3)
+
+-- what is worked out on the way to a number
+module _ (v s : Space) (e : v ≡ s) (held : CanHold v.rows v.columns v.planes) (row column plane : ℕ) (in_rows : row < s.rows) (in_columns : column < s.columns) (in_planes : plane < plane_count s) where
+  inside : IsInside v (place row column plane)
+  inside = subst (λ (x : Space). IsInside x (place row column plane)) (sym e) (in_rows, in_columns, in_planes)
+
+  pub in_plane-few : row * v.columns + column < MAX_CELLS
+  in_plane-few =
+      omega (arith, mul-add-lt row v.columns column v.rows inside.0 inside.1, mul_comm v.columns v.rows, mul-le (v.rows * v.columns) 1 (v.rows * v.columns) (plane_count v) (omega arith) held.2, held.3)
+
+  module _ (planes : ℕ) (same : planes ≡ plane_count s) where
+    pub number-is : (row * v.columns + column) * planes + plane ≡ number_of s row column plane
+    number-is = ap (λ n. (row * v.columns + column) * n + plane) same ∙ ap (λ (x : Space). (row * x.columns + column) * plane_count s + plane) e
+
+    pub number-within : (row * v.columns + column) * planes + plane < cell_count s
+    number-within = subst (λ n. n < cell_count s) (sym number-is) (number-inside s (place row column plane) (in_rows, in_columns, in_planes))
+
+    pub number-few : (row * v.columns + column) * planes + plane < MAX_CELLS
+    number-few = omega (arith, number-within, subst (λ (x : Space). cell_count x ≤ MAX_CELLS) e held.3)
+
+-- no size is more than all cells
+module _ (v : Space) (held : CanHold v.rows v.columns v.planes) where
+  pub rows-few : v.rows ≤ MAX_CELLS
+  rows-few =
+      omega (arith, mul-le v.rows 1 v.rows v.columns (omega arith) held.1, mul-le (v.rows * v.columns) 1 (v.rows * v.columns) (plane_count v) (omega arith) held.2, held.3)
+
+  pub columns-few : v.columns ≤ MAX_CELLS
+  columns-few =
+      omega (arith, mul-le 1 v.columns v.rows v.columns held.0 (omega arith), mul-le (v.rows * v.columns) 1 (v.rows * v.columns) (plane_count v) (omega arith) held.2, held.3)

@@ -7,7 +7,7 @@ use quantity::Offset;
 
 /// So many rows down, columns to the right and planes on. It is wider than an offset, since the
 /// opposite of -128 is none.
-#[derive(Clone, Copy, Debug)]
+#[derive(Clone, Copy)]
 pub struct Step {
     pub rows: i16,
     pub columns: i16,

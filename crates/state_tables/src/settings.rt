@@ -3,7 +3,7 @@ use atomic_face::PortNo;
 use quantity::{Time, Value};
 
 /// What a state gives when its time is over.
-#[derive(Clone, Copy, PartialEq, Eq, Debug)]
+#[derive(Clone, Copy)]
 pub enum Shown {
     Value(Value),
     /// The value that came in last.
@@ -11,7 +11,7 @@ pub enum Shown {
 }
 
 /// How long a state is held, what it then gives, and the number of the state that follows.
-#[derive(Clone, Copy, PartialEq, Eq, Debug)]
+#[derive(Clone, Copy)]
 pub struct Hold {
     pub time: Time,
     pub shown: Shown,
@@ -19,14 +19,14 @@ pub struct Hold {
 }
 
 /// The values that lead on from a state.
-#[derive(Clone, Copy, PartialEq, Eq, Debug)]
+#[derive(Clone, Copy)]
 pub enum Wanted {
     Value(Value),
     Any,
 }
 
 /// From a state, a value at a port leads to another state.
-#[derive(Clone, Copy, PartialEq, Eq, Debug)]
+#[derive(Clone, Copy)]
 pub struct Take {
     pub state: u8,
     pub port: PortNo,

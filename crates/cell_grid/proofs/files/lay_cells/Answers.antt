@@ -1,12 +1,23 @@
-use Rattle.std.proofs.Common.{◌≡◌, None, sym, ap, ◌∙◌, rules}
+use Rattle.std.proofs.Common.{◌≡◌, None, sym, ap, ◌∙◌, arith, rules}
 use Rattle.std.specs.List.{fold}
 use Rattle.std.specs.Option.{option_map}
 use Rattle.std.specs.Result.{result_ok}
 use Rattle.quantity.specs.Bytes.{in_front}
 use Rattle.source_text.specs.Lines.{text_of_line}
 use Rattle.cell_grid.specs.Initial.{cells_file, with_cell}
-use Rattle.cell_grid.proofs.FileLemmas.{cells_left, cells_file_is, empty_line, filled_line, no_text_is, nothing_left, one_cell_laid, refused}
+use Rattle.cell_grid.proofs.FileLemmas.{cells_left, cells_file_is, empty_line, filled_line, less_behind, no_text_is, nothing_left, one_cell_laid, refused}
+use Rattle.cell_grid.proofs.RowLemmas.{if_there}
 use Rattle.cell_grid.proofs.files.lay_cells.Goals as goal
+
+pub bounds-values-cell : goal.bounds-values-cell
+bounds-values-cell c =
+    omega (arith, c.requires, if_there _ c.cell_line.result c.cell_line.ensures.inside (c.in_ok-cell.cell, c.in_ok-cell.value) (c.ok_or.ensures.ok_part ∙ ap result_ok c.in_ok-cell.was))
+
+pub loop-left-smaller-in_ok-cell : goal.loop-left-smaller-in_ok-cell
+loop-left-smaller-in_ok-cell c = less_behind c.loop-left.left.now c.cut_at.result.1.now c.cut_at.ensures.after c.is_empty.ensures c.loop-left-test.true
+
+pub loop-left-smaller : goal.loop-left-smaller
+loop-left-smaller c = less_behind c.loop-left.left.now c.cut_at.result.1.now c.cut_at.ensures.after c.is_empty.ensures c.loop-left-test.true
 
 pub returns-in_err-cell : goal.returns-in_err-cell
 returns-in_err-cell c =

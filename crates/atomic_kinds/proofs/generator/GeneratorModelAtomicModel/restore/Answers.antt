@@ -1,0 +1,19 @@
+use Rattle.std.proofs.Common.{◌≡◌, List, get_or, refl, sym, subst, arith}
+use Rattle.std.specs.Prelude.{ℤ, pos}
+use Rattle.std.proofs.lemmas.Int.{to_z-of_z}
+use mir.Val.{to_z, of_z}
+use mir.Syntax.{w64}
+use Rattle.atomic_face.specs.Moves.{RestoreGives}
+use Rattle.atomic_kinds.specs.Generator.{held_generator, settings_in}
+use Rattle.atomic_kinds.proofs.Steps.{not_generator, three_words}
+use Rattle.atomic_kinds.proofs.generator.GeneratorModelAtomicModel.restore.Goals as goal
+
+pub returns-in_default : goal.returns-in_default
+returns-in_default c = (not_generator (settings_in c.args.self.now) c.args.words.now (λ e. omega (arith, e, c.in_default.len_below)), refl)
+
+pub returns : goal.returns
+returns c =
+    let next : to_z w64 (of_z w64 (get_or c.args.words.now 0 (pos 0))) ≡ get_or c.args.words.now 0 (pos 0) = grind (arith, to_z-of_z) in
+    let current : to_z w64 (of_z w64 (get_or c.args.words.now 1 (pos 0))) ≡ get_or c.args.words.now 1 (pos 0) = grind (arith, to_z-of_z) in
+    let left : to_z w64 (of_z w64 (get_or c.args.words.now 2 (pos 0))) ≡ get_or c.args.words.now 2 (pos 0) = grind (arith, to_z-of_z) in
+    subst (λ (ws : List ℤ). RestoreGives ws (held_generator c.args.self.now) (held_generator c.take_state.new.self) c.take_state.result) (sym (three_words c.args.words.now _ _ _ (pos 0) (omega arith) next current left)) c.take_state.ensures
