@@ -17,7 +17,7 @@ use model_walk::item::{class_of, is_atomic, name_of};
 use model_walk::walked::section_of;
 use model_walk::{Item, TextSet};
 use quantity::OutOfMemory;
-use std::alloc::{AllocError, Global};
+use std::alloc::Global;
 
 /// The children of a section, the first of each name.
 pub(crate) fn first_children(alloc: Global, section: &Section) -> Result<Vec<Item<'_>>, OutOfMemory>
@@ -26,21 +26,23 @@ pub(crate) fn first_children(alloc: Global, section: &Section) -> Result<Vec<Ite
 {
     let all = children(alloc, section)?;
     let mut found = Vec::new(alloc);
-    add_first_of_names(alloc, &all, &mut found)?;
+    let mut names = TextSet::new(alloc);
+    add_first_of_names(&all, &mut names, &mut found)?;
     Ok(found)
 }
 
+/// Adds the first of each name to a list and a set of names that are empty.
 fn add_first_of_names<'a>(
-    alloc: Global,
     items: &[Item<'a>],
+    names: &mut TextSet<'a>,
     found: &mut Vec<Item<'a>>,
 ) -> Result<(), OutOfMemory>
-    requires { map item_of found.old.items ≡ [] }
+    requires names { names.old ≡ [] }
+    requires found { map item_of found.old.items ≡ [] }
     ensures { OnOk result (map item_of found.new.items ≡ first_items (map item_of items.now)) }
 {
-    let mut names = TextSet::new(alloc);
     for item in items {
-        add_item(item, &mut names, found)?;
+        add_item(item, names, found)?;
     }
     Ok(())
 }
@@ -57,7 +59,9 @@ fn add_item<'a>(
         ≡ with_item (map item_of found.old.items) (item_of item.now)) }
 {
     if names.insert(name_of(item))? {
-        found.push(*item).map_err(AllocError::from)?;
+        let Ok(()) = found.push(*item) else {
+            return Err(OutOfMemory);
+        };
     }
     Ok(())
 }
@@ -105,7 +109,9 @@ fn out_alone<'a>(alloc: Global) -> Result<Vec<&'a [u8]>, OutOfMemory>
     ensures { IfOk result (λ ports. texts ports.items ≡ codes "out" ∷ []) }
 {
     let mut ports: Vec<&'a [u8]> = Vec::new(alloc);
-    ports.push(b"out".as_slice()).map_err(AllocError::from)?;
+    let Ok(()) = ports.push(b"out".as_slice()) else {
+        return Err(OutOfMemory);
+    };
     Ok(ports)
 }
 
@@ -141,7 +147,9 @@ fn texts<'a>(alloc: Global, words: &[Item<'a>]) -> Result<Vec<&'a [u8]>, OutOfMe
 {
     let mut found = Vec::new(alloc);
     for word in words {
-        found.push(word.text).map_err(AllocError::from)?;
+        let Ok(()) = found.push(word.text) else {
+            return Err(OutOfMemory);
+        };
     }
     Ok(found)
 }

@@ -74,9 +74,28 @@ fn face_over<'a>(
         targets: IndexSet::new(alloc),
         cells: cells(section, grid),
     };
-    add_sources(alloc, sections, section, children, &mut face.sources)?;
-    add_targets(alloc, sections, section, children, &mut face.targets)?;
+    add_ends(alloc, sections, section, children, &mut face)?;
     Ok(face)
+}
+
+/// Adds the ends of a section that has these children to a face that has none.
+fn add_ends<'a>(
+    alloc: Global,
+    sections: &'a Sections,
+    section: &'a Section,
+    children: &[Item<'a>],
+    face: &mut Face<'a>,
+) -> Result<(), OutOfMemory>
+    requires sources { sources_of face.old ≡ [] }
+    requires targets { targets_of face.old ≡ [] }
+    ensures sources { OnOk result (sources_of face.new
+        ≡ source_ends sections.now (section_of section.now) (map item_of children.now)) }
+    ensures targets { OnOk result (targets_of face.new
+        ≡ target_ends sections.now (section_of section.now) (map item_of children.now)) }
+    ensures cells { face.new.cells ≡ face.old.cells }
+{
+    add_sources(alloc, sections, section, children, &mut face.sources)?;
+    add_targets(alloc, sections, section, children, &mut face.targets)
 }
 
 fn cells(section: &Section, grid: Option<&Grid>) -> u32

@@ -1,14 +1,15 @@
 -- Tuples that are gathered one after another.
-use Rattle.std.proofs.Common.{◌≡◌, Bool, true, false, Option, Some, None, List, [], ◌∷◌, ◌++◌, map, refl, sym, ap, ◌∙◌}
-use Rattle.std.proofs.lemmas.List.{append_assoc, append-nil}
+use Rattle.std.proofs.Common.{◌≡◌, ℕ, ◌+◌, ◌<◌, length, get_or, drop, Bor, Bool, true, false, Option, Some, None, List, [], ◌∷◌, ◌++◌, map, refl, sym, ap, ◌∙◌}
+use Rattle.std.proofs.lemmas.List.{append_assoc, append-nil, drop_more}
 use Rattle.std.specs.Prelude.{◌&&◌}
 use Rattle.std.specs.List.{list_all}
 use Rattle.std.specs.Option.{option_map, option_and_then}
 use Rattle.std.specs.Bool.{then_some}
 use Rattle.quantity.specs.Bytes.{Bytes, trimmed, in_front, all_there}
-use Rattle.source_text.specs.Tuples.{named_tuple, parts_of}
+use Rattle.source_text.specs.Shown.{texts}
+use Rattle.source_text.specs.Tuples.{NamedTuple, named_tuple, parts_of}
 use Rattle.model_text.specs.Forms.{is_of_group, tuples_of}
-use Rattle.model_forms.specs.Parts.{tuples_in}
+use Rattle.model_forms.specs.Parts.{tuple_in, tuples_in}
 
 module _ {A B : Type 0} (f : A → Option B) (test : B → Bool) where
   abbrev all_pass : List B → Option (List B)
@@ -57,3 +58,18 @@ behind-more found t (Some more) = ap (λ xs. Some xs) (sym (append_assoc found (
 
 pub behind-none : {A : Type 0} (found : List A) → behind found (Some []) ≡ Some found
 behind-none found = ap (λ xs. Some xs) (append-nil found)
+
+-- one more part, which is a tuple
+pub tuples_step : (group : Bytes) (parts : List (Bor Bytes)) (i : ℕ) (d : Bor Bytes) (found : List NamedTuple) (t : NamedTuple) (all : Option (List NamedTuple)) → i < length parts
+    → tuple_in group (get_or parts i d).now ≡ Some t → behind found (tuples_in group (texts (drop i parts))) ≡ all
+    → behind (found ++ t ∷ []) (tuples_in group (texts (drop (i + 1) parts))) ≡ all
+tuples_step group parts i d found t all lt e h =
+    let rest = tuples_in group (texts (drop (i + 1) parts)) in
+    sym (ap (λ (ps : List (Bor Bytes)). behind found (tuples_in group (texts ps))) (drop_more parts i d lt) ∙ ap (λ o. behind found (in_front o rest)) e ∙ behind-more found t rest) ∙ h
+
+-- one that is none
+pub tuples_stop : (group : Bytes) (parts : List (Bor Bytes)) (i : ℕ) (d : Bor Bytes) (found : List NamedTuple) (all : Option (List NamedTuple)) → i < length parts
+    → tuple_in group (get_or parts i d).now ≡ None → behind found (tuples_in group (texts (drop i parts))) ≡ all → None ≡ all
+tuples_stop group parts i d found all lt e h =
+    let rest = tuples_in group (texts (drop (i + 1) parts)) in
+    sym (ap (λ (ps : List (Bor Bytes)). behind found (tuples_in group (texts ps))) (drop_more parts i d lt) ∙ ap (λ o. behind found (in_front o rest)) e) ∙ h

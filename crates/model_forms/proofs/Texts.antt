@@ -1,6 +1,6 @@
 -- Texts behind references, and texts without their blanks.
-use Rattle.std.proofs.Common.{◌≡◌, ℕ, ◌+◌, ◌<◌, Bool, ◌||◌, List, [], ◌∷◌, ◌++◌, length, get_or, take, refl, ap, ◌∙◌, Bor}
-use Rattle.std.proofs.lemmas.List.{take_more}
+use Rattle.std.proofs.Common.{◌≡◌, ℕ, ◌+◌, ◌<◌, Bool, ◌||◌, List, [], ◌∷◌, ◌++◌, length, get_or, take, refl, sym, ap, ◌∙◌, Bor}
+use Rattle.std.proofs.lemmas.List.{take_more, append_assoc}
 use Rattle.std.proofs.lemmas.List.Elements.{filter-append}
 use Rattle.std.specs.Prelude.{◌&&◌}
 use Rattle.std.specs.List.{list_all, list_any}
@@ -20,3 +20,9 @@ all_texts test (x ∷ xs) = ap (λ b. test x.now && b) (all_texts test xs)
 -- one more byte is taken
 pub without_more : (text : Bytes) (i d : ℕ) → i < length text → without_blanks (take (i + 1) text) ≡ without_blanks (take i text) ++ without_blanks (get_or text i d ∷ [])
 without_more text i d lt = ap without_blanks (take_more text i d lt) ∙ filter-append _ (take i text) (get_or text i d ∷ [])
+
+pub blanks_step : (text : Bytes) (i d : ℕ) (start found new : Bytes) → i < length text → new ≡ found ++ without_blanks (get_or text i d ∷ [])
+    → found ≡ start ++ without_blanks (take i text) → new ≡ start ++ without_blanks (take (i + 1) text)
+blanks_step text i d start found new lt e h =
+    let one = without_blanks (get_or text i d ∷ []) in
+    e ∙ ap (λ zs. zs ++ one) h ∙ append_assoc start (without_blanks (take i text)) one ∙ ap (λ zs. start ++ zs) (sym (without_more text i d lt))

@@ -12,7 +12,7 @@ use quantity::digits::cut_at;
 use source_text::cut::part_before;
 use source_text::tuples::named_tuple;
 use source_text::words::next_word;
-use std::alloc::{AllocError, Global};
+use std::alloc::Global;
 
 /// The text of a link, with its tuples but without their blanks: its words are the ends.
 pub fn link_text(alloc: Global, text: &[u8]) -> Result<Vec<u8>, OutOfMemory>
@@ -81,14 +81,18 @@ fn add_tuple(alloc: Global, part: &[u8], whole: &mut Vec<u8>) -> Result<(), OutO
     ensures { OnOk result (whole.new.items
         ≡ whole.old.items ++ opening_parenthesis ∷ F.with_whole_tuple part.now) }
 {
-    whole.push(b'(').map_err(AllocError::from)?;
+    let Ok(()) = whole.push(b'(') else {
+        return Err(OutOfMemory);
+    };
     if !ends_tuple(alloc, part)? {
         whole.extend_from_slice(part)?;
         return Ok(());
     }
     let (inner, behind) = cut_at(b')', part);
     add_without_blanks(inner, whole)?;
-    whole.push(b')').map_err(AllocError::from)?;
+    let Ok(()) = whole.push(b')') else {
+        return Err(OutOfMemory);
+    };
     whole.extend_from_slice(behind)?;
     Ok(())
 }
@@ -113,7 +117,9 @@ fn opened(alloc: Global, text: &[u8]) -> Result<Vec<u8>, OutOfMemory>
     ensures { IfOk result (λ opened. opened.items ≡ opening_parenthesis ∷ text.now) }
 {
     let mut opened = Vec::new(alloc);
-    opened.push(b'(').map_err(AllocError::from)?;
+    let Ok(()) = opened.push(b'(') else {
+        return Err(OutOfMemory);
+    };
     opened.extend_from_slice(text)?;
     Ok(opened)
 }
@@ -139,7 +145,9 @@ fn add_unless_blank(byte: u8, whole: &mut Vec<u8>) -> Result<(), OutOfMemory>
     if is_blank(byte) {
         return Ok(());
     }
-    whole.push(byte).map_err(AllocError::from)?;
+    let Ok(()) = whole.push(byte) else {
+        return Err(OutOfMemory);
+    };
     Ok(())
 }
 

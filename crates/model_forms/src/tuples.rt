@@ -9,7 +9,7 @@ use quantity::OutOfMemory;
 use source_text::NamedTuple;
 use source_text::line::trimmed;
 use source_text::tuples::{named_tuple, parts};
-use std::alloc::{AllocError, Global};
+use std::alloc::Global;
 
 /// The tuples of a text, each behind the group's name or behind nothing; None where it has another
 /// form.
@@ -41,7 +41,9 @@ fn tuples_in<'a>(
         let Some(named) = tuple_in(group, part) else {
             return Ok(None);
         };
-        found.push(named).map_err(AllocError::from)?;
+        let Ok(()) = found.push(named) else {
+            return Err(OutOfMemory);
+        };
     }
     Ok(Some(found))
 }

@@ -1,7 +1,8 @@
 -- What is kept of lists, element by element.
-use Rattle.std.proofs.Common.{◌≡◌, ℕ, suc, ◌+◌, ◌<◌, Bool, true, false, cond, Option, Some, None, List, [], ◌∷◌, ◌++◌, map, length, get_or, drop, option_to_list, refl, sym, ap, ◌∙◌, arith}
-use Rattle.std.proofs.lemmas.List.{drop_more, append_assoc}
-use Rattle.std.specs.List.{filter, cons_option, flat_map, list_all}
+use Rattle.std.proofs.Common.{◌≡◌, ℕ, suc, ◌+◌, ◌<◌, ◌≤◌, Bool, true, false, cond, Option, Some, None, List, [], ◌∷◌, ◌++◌, map, length, get_or, drop, option_to_list, refl, sym, ap, ◌∙◌, arith}
+use Rattle.std.proofs.lemmas.List.{drop_more, drop_all, append_assoc, append-nil}
+use Rattle.std.proofs.lemmas.List.Elements.{filter_map-append}
+use Rattle.std.specs.List.{filter, filter_map, cons_option, flat_map, list_all}
 use Rattle.std.specs.List.{AllByRecursion}
 use Rattle.std.specs.Prelude.{◌&&◌}
 use Rattle.model_text.specs.Refusals.{Refusal}
@@ -47,3 +48,16 @@ pub all_at : {A B : Type 0} (P : B → Type 0) (f : A → B) (xs : List A) (i : 
 all_at P f [] i d h lt = absurd (omega arith)
 all_at P f (x ∷ xs) ℕ.zero d h lt = h.0
 all_at P f (x ∷ xs) (suc i) d h lt = all_at P f xs i d h.1 (omega arith)
+
+-- ---- what is gathered of a list, element by element
+
+pub kept_first : {A B : Type 0} (f : A → Option B) (p : A → Bool) (x : A) (xs : List A) → filter_map f (filter p (x ∷ xs)) ≡ filter_map f (filter p (x ∷ [])) ++ filter_map f (filter p xs)
+kept_first f p x xs = ap (filter_map f) (filter-first p x xs) ∙ filter_map-append f (filter p (x ∷ [])) (filter p xs)
+
+pub behind_step : {A B : Type 0} (f : List A → List B) (xs : List A) (i : ℕ) (x : A) (found new all : List B) → f (x ∷ drop (i + 1) xs) ≡ f (x ∷ []) ++ f (drop (i + 1) xs)
+    → drop i xs ≡ x ∷ drop (i + 1) xs → new ≡ found ++ f (x ∷ []) → found ++ f (drop i xs) ≡ all → new ++ f (drop (i + 1) xs) ≡ all
+behind_step f xs i x found new all first at e h =
+    ap (λ zs. zs ++ f (drop (i + 1) xs)) e ∙ append_assoc found (f (x ∷ [])) (f (drop (i + 1) xs)) ∙ ap (λ zs. found ++ zs) (sym (ap f at ∙ first)) ∙ h
+
+pub behind_all : {A B : Type 0} (f : List A → List B) (xs : List A) (i : ℕ) (found all : List B) → f [] ≡ [] → length xs ≤ i → found ++ f (drop i xs) ≡ all → found ≡ all
+behind_all f xs i found all none past h = sym (append-nil found) ∙ ap (λ zs. found ++ zs) (sym (ap f (drop_all i xs past) ∙ none)) ∙ h

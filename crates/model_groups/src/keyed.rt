@@ -105,7 +105,9 @@ fn add_value(word: &[u8], values: &mut Vec<Value>) -> Result<(), OutOfMemory>
         ≡ values.old.items ++ option_to_list (value_in word.now)) }
 {
     if let Some(value) = Value::parse(word) {
-        values.push(value).map_err(AllocError::from)?;
+        let Ok(()) = values.push(value) else {
+            return Err(OutOfMemory);
+        };
     }
     Ok(())
 }

@@ -1,5 +1,6 @@
 // The neighbourhoods of groups.
-ghost use Rattle.std.specs.Prelude.{◌≡◌, ◌∷◌, [], ◌<◌, map, take, nat_lt, length, IfOk, OnOk};
+ghost use Rattle.std.specs.Prelude.{◌≡◌, ◌∷◌, [], ◌-ℤ◌, ◌<◌, map, take, nat_lt, length, IfOk, OnOk};
+ghost use Rattle.quantity.specs.Arithmetic.{is_zero};
 ghost use Rattle.std.specs.List.{list_any};
 ghost use Rattle.source_text.specs.Shown.{numbers_of};
 ghost use Rattle.ma_lines.specs.Sections.{section_of};
@@ -14,7 +15,7 @@ use ma_lines::{Entry, Section};
 use model_forms::tuples::tuples_of;
 use quantity::{Offset, OutOfMemory};
 use source_text::{NamedTuple, Tuple};
-use std::alloc::{AllocError, Global};
+use std::alloc::Global;
 
 /// The most offsets of a group.
 pub const MOST_OFFSETS: usize = 128;
@@ -89,7 +90,9 @@ fn add_offset(offset: Offset, found: &mut Vec<Offset>) -> Result<(), OutOfMemory
     if is_among(offset, found) {
         return Ok(());
     }
-    found.push(offset).map_err(AllocError::from)?;
+    let Ok(()) = found.push(offset) else {
+        return Err(OutOfMemory);
+    };
     Ok(())
 }
 
@@ -108,5 +111,12 @@ fn is_among(offset: Offset, found: &[Offset]) -> bool
 fn is_same(a: Offset, b: Offset) -> bool
     ensures { result ≡ same_offset a b }
 {
-    (a.row == b.row) & (a.column == b.column) & (a.plane == b.plane)
+    is_same_step(a.row, b.row) & is_same_step(a.column, b.column) & is_same_step(a.plane, b.plane)
+}
+
+/// Whether two steps along one side of the space are the same.
+fn is_same_step(a: i8, b: i8) -> bool
+    ensures { result ≡ is_zero (a -ℤ b) }
+{
+    a == b
 }

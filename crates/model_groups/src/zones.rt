@@ -17,7 +17,7 @@ use model_walk::Item;
 use quantity::OutOfMemory;
 use quantity::digits::cut_at;
 use source_text::line::trimmed;
-use std::alloc::{AllocError, Global};
+use std::alloc::Global;
 
 /// Zones, and the names of their rules with the lines of their entries.
 #[derive(Drop)]
@@ -78,11 +78,12 @@ fn add_name<'a>(entry: &'a Entry, rules: &mut Vec<Item<'a>>) -> Result<(), OutOf
         ≡ map item_of rules.old.items ++ R.name_at entry.now (zone_name entry.now.value) ∷ []) }
 {
     let (name, _items) = cut_at(b'{', entry.value.as_bytes());
-    rules
-        .push(Item {
-            line: entry.line,
-            text: trimmed(name),
-        })
-        .map_err(AllocError::from)?;
+    let item = Item {
+        line: entry.line,
+        text: trimmed(name),
+    };
+    let Ok(()) = rules.push(item) else {
+        return Err(OutOfMemory);
+    };
     Ok(())
 }

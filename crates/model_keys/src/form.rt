@@ -26,7 +26,7 @@ use quantity::name::is_name;
 use std::alloc::Global;
 
 /// The form of a key's value.
-#[derive(Clone, Copy, PartialEq, Eq, Debug)]
+#[derive(Clone, Copy)]
 pub(crate) enum Form {
     Dim,
     Height,

@@ -27,13 +27,18 @@ pub(crate) fn repeated(
         (L.items_of key.now (section_of section.now)))) }
 {
     let items = items(alloc, section, key)?;
-    repeated_among(alloc, &items)
+    let mut seen = TextSet::new(alloc);
+    repeated_among(&items, &mut seen)
 }
 
-fn repeated_among(alloc: Global, items: &[Item<'_>]) -> Result<Option<Refused>, OutOfMemory>
+/// The least of these words that stands before, found by a set that is empty at first.
+fn repeated_among<'a>(
+    items: &[Item<'a>],
+    seen: &mut TextSet<'a>,
+) -> Result<Option<Refused>, OutOfMemory>
+    requires { seen.old ≡ [] }
     ensures { IfOk result (IsLeastOf (K.repeated [] (map item_of items.now))) }
 {
-    let mut seen = TextSet::new(alloc);
     let mut first = None;
     for item in items {
         let is_new = seen.insert(item.text)?;

@@ -1,6 +1,6 @@
 -- Links judged one after another are those that the definition refuses.
-use Rattle.std.proofs.Common.{◌≡◌, ℕ, ◌+◌, ◌<◌, Bool, true, false, not, cond, Option, Some, None, List, [], ◌∷◌, ◌++◌, map, length, get_or, take, drop, option_to_list, refl, sym, ap, ◌∙◌}
-use Rattle.std.proofs.lemmas.List.{take_more, drop_more}
+use Rattle.std.proofs.Common.{◌≡◌, ℕ, ◌+◌, ◌<◌, Bool, true, false, not, cond, Option, Some, None, List, [], ◌∷◌, ◌++◌, map, length, get_or, take, drop, option_to_list, refl, sym, ap, ◌∙◌, ◌≤◌}
+use Rattle.std.proofs.lemmas.List.{take_more, drop_more, drop_all}
 use Rattle.std.proofs.lemmas.List.Elements.{filter_map-append}
 use Rattle.std.proofs.lemmas.List.Sums.{fold-append}
 use Rattle.std.specs.Prelude.{◌&&◌}
@@ -19,7 +19,7 @@ use Rattle.model_text.specs.Keyed.{least_refusal}
 use Rattle.model_text.specs.Walk.{children_of}
 use Rattle.model_text.specs.Links.{face_of, link_of, link_entries, entry_refused, at_line, links_refused_after, of_links, links_of}
 use Rattle.model_walk.specs.Least.{merged}
-use Rattle.model_walk.proofs.Orders.{least_step}
+use Rattle.model_walk.proofs.Orders.{least_step, merged_none}
 use Rattle.link_ends.specs.declared.face.Face.{Face}
 use Rattle.model_links.specs.declared.section.FoundLink.{FoundLink}
 use Rattle.link_ends.specs.Lent.{with_link, with_links}
@@ -117,3 +117,6 @@ judged_step k xs i d seen first now all lt e same h =
     e ∙ ap (λ ls. refusal_after k ls x) same ∙ ap (option_map (refusal x.line)) (kind_seen k before x.link) ∙ least_one (refusal_after k before x) in
     ap (λ ls. merged (merged first now) (least_refusal (refused_after k ls (drop (i + 1) xs)))) (links_more xs i d lt)
     ∙ least_step first now here rest all is_now (ap (λ ys. merged first (least_refusal (refused_after k before ys))) (sym (drop_more xs i d lt)) ∙ h)
+
+pub judged_end : (f : Face) (seen : List Link) (xs : List FoundLink) (i : ℕ) (first all : Option Refusal) → length xs ≤ i → merged first (least_refusal (refused_after f seen (drop i xs))) ≡ all → first ≡ all
+judged_end f seen xs i first all past h = sym (merged_none first) ∙ ap (λ (ys : List FoundLink). merged first (least_refusal (refused_after f seen ys))) (sym (drop_all i xs past)) ∙ h

@@ -1,6 +1,6 @@
 -- The entries of a section, and the sections, one after another.
 use Rattle.std.proofs.Common.{◌≡◌, ℕ, suc, ◌+◌, ◌<◌, ◌≤◌, Bool, true, false, not, cond, Option, Some, List, [], ◌∷◌, ◌++◌, map, length, get_or, take, drop, slice_get, refl, sym, ap, ◌∙◌, Bor, arith, codes}
-use Rattle.std.proofs.lemmas.List.{take_more, drop_more, map-append, take-append-drop, length-map, length-append}
+use Rattle.std.proofs.lemmas.List.{take_more, drop_more, map-append, take-append-drop, length-map, length-append, drop_all}
 use Rattle.std.specs.List.{filter, flat_map}
 use Rattle.std.specs.Int.{from_bool}
 use Rattle.std.specs.Str.{bytes_eq}
@@ -16,7 +16,7 @@ use Rattle.model_text.specs.Walk.{is_group}
 use Rattle.model_text.specs.Spaces.{space_of}
 use Rattle.model_text.specs.Links.{links_of, of_links}
 use Rattle.model_walk.specs.Least.{merged}
-use Rattle.model_walk.proofs.Orders.{least_step}
+use Rattle.model_walk.proofs.Orders.{least_step, merged_none}
 use Rattle.model_links.specs.declared.section.FoundLink.{FoundLink}
 use Rattle.model_links.specs.Judged.{links_among, found_at}
 
@@ -110,3 +110,6 @@ links_step rs i d old new lt e h =
     e ∙ ap (λ xs. xs ++ links_of (section_of (get_or rs i d).now) ∷ []) h
     ∙ sym (ap (λ ys. map links_of (sections ys)) (take_more rs i d lt) ∙ ap (map links_of) (map-append (λ (r : Bor code.Section). section_of r.now) (take i rs) (get_or rs i d ∷ []))
     ∙ map-append links_of (sections (take i rs)) (section_of (get_or rs i d).now ∷ []))
+
+pub sections_end : (ss : List Section) (rs : List (Bor code.Section)) (i : ℕ) (first all : Option Refusal) → length rs ≤ i → merged first (least_refusal (all_refused ss (drop i rs))) ≡ all → first ≡ all
+sections_end ss rs i first all past h = sym (merged_none first) ∙ ap (λ (us : List (Bor code.Section)). merged first (least_refusal (all_refused ss us))) (sym (drop_all i rs past)) ∙ h

@@ -17,22 +17,22 @@ use model_tree::{End, Link};
 use model_walk::Refused;
 use model_walk::least::least;
 use quantity::OutOfMemory;
-use std::alloc::Global;
 
-/// The least refusal of the links of a section, which stand in their order.
-pub(crate) fn first_refused(
-    alloc: Global,
+/// The least refusal of the links of a section, which stand in their order. They are put into a set
+/// that is empty at first.
+pub(crate) fn first_refused<'a>(
     face: &Face<'_>,
-    found: &[FoundLink],
+    before: &mut IndexSet<LentLink<'a>>,
+    found: &'a [FoundLink],
 ) -> Result<Option<Refused>, OutOfMemory>
+    requires { map joined before.old.keys ≡ [] }
     ensures { IfOk result (λ why. option_map refusal_of why
         ≡ least_refusal (refused_after face.now [] found.now)) }
 {
     let mut first = None;
-    let mut before = IndexSet::new(alloc);
     for one in found {
-        first = least(first, refused(face, &before, one));
-        add_link(&one.link, &mut before)?;
+        first = least(first, refused(face, before, one));
+        add_link(&one.link, before)?;
     }
     Ok(first)
 }

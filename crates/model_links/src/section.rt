@@ -12,6 +12,7 @@ ghost use Rattle.model_links.specs.Judged.{links_among, found_at};
 use crate::judge::first_refused;
 use crate::limits::is_link;
 use cell_grid::Grid;
+use indexmap::IndexSet;
 use link_ends::ends::link_of;
 use link_ends::face::face_of;
 use ma_lines::{Entry, Section, Sections};
@@ -69,7 +70,8 @@ fn refused_of(
         ≡ least_refusal (L.of_links sections.now (section_of section.now))) }
 {
     let face = face_of(alloc, sections, section, grid)?;
-    first_refused(alloc, &face, found)
+    let mut before = IndexSet::new(alloc);
+    first_refused(&face, &mut before, found)
 }
 
 /// The links of a section's entries, in their order.

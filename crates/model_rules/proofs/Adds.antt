@@ -1,7 +1,7 @@
 -- Parts that are added one after another, with what is refused of them.
 use Rattle.std.proofs.Common.{◌≡◌, ℕ, ◌+◌, ◌-◌, ◌<◌, Bool, true, false, not, cond, Option, Some, None, List, [], ◌∷◌, ◌++◌, map, length, get_or, take, drop, option_to_list, refl, sym, ap, ◌∙◌, codes, Bor, arith, ◌≤◌}
 use Rattle.std.specs.Prelude.{◌&&◌, ◌==◌}
-use Rattle.std.proofs.lemmas.List.{drop_more, drop_all, append_assoc, map-append, map_more}
+use Rattle.std.proofs.lemmas.List.{drop_more, drop_all, append_assoc, append-nil, map-append, map_more}
 use Rattle.std.proofs.lemmas.List.Concat.{flat_map-append}
 use Rattle.std.proofs.lemmas.List.Elements.{filter_map-append}
 use Rattle.std.proofs.lemmas.Bool.Decides.{nat_tests}
@@ -29,7 +29,7 @@ use Rattle.model_rules.specs.declared.sets.ReadSets.{ReadSets}
 use Rattle.model_rules.specs.declared.group.ReadGroups.{ReadGroups}
 use Rattle.model_rules.specs.Sets.{Sets, sets_shown, sets_of}
 use Rattle.model_walk.specs.Least.{merged}
-use Rattle.model_walk.proofs.Orders.{least_step}
+use Rattle.model_walk.proofs.Orders.{least_step, merged_none}
 use Rattle.model_rules.specs.Parts.{names_in, number_of_set, numbered, rule_entries, rule_at, rules_shown, group_section, AddsRules, AddsSets, AddsGroups}
 
 pub drop_at : {A : Type 0} (xs : List A) (i : ℕ) (d : A) → i < length xs → drop i xs ≡ get_or xs i d ∷ drop (i + 1) xs
@@ -202,3 +202,11 @@ nothing (ℕ.suc n) es e = sym (ap (λ (us : List Entry). take 1 (drop (ℕ.suc 
 
 pub none_past : (es : List Entry) (i left : ℕ) (all : List Entry) → length es ≤ i → take 1 (drop left (rule_entries (drop i es))) ≡ all → [] ≡ all
 none_past es i left all le h = nothing left (rule_entries (drop i es)) (ap rule_entries (drop_all i es le)) ∙ h
+
+-- ---- behind the last
+
+pub list_end : {A B : Type 0} (f : List A → List B) (xs : List A) (i : ℕ) (found all : List B) → f [] ≡ [] → length xs ≤ i → found ++ f (drop i xs) ≡ all → found ≡ all
+list_end f xs i found all none past h = sym (append-nil found) ∙ ap (λ zs. found ++ zs) (sym (ap f (drop_all i xs past) ∙ none)) ∙ h
+
+pub refused_end : {A : Type 0} (f : List A → List Refusal) (xs : List A) (i : ℕ) (first all : Option Refusal) → f [] ≡ [] → length xs ≤ i → merged first (least_refusal (f (drop i xs))) ≡ all → first ≡ all
+refused_end f xs i first all none past h = sym (merged_none first) ∙ ap (λ rs. merged first (least_refusal rs)) (sym (ap f (drop_all i xs past) ∙ none)) ∙ h

@@ -6,7 +6,8 @@ ghost use Rattle.ma_lines.specs.Sections.{section_of};
 ghost use Rattle.model_text.specs.Keyed as K;
 ghost use Rattle.model_text.specs.Walk as W;
 ghost use Rattle.model_text.specs.Rules as R;
-ghost use Rattle.model_walk.specs.Shown.{refusal_of};
+ghost use Rattle.model_tree.specs.Pull.{distinct};
+ghost use Rattle.model_walk.specs.Shown.{item_of, refusal_of};
 ghost use Rattle.model_spaces.specs.Placed.{shown, placed_of};
 ghost use Rattle.model_rules.specs.Sets.{sets_shown, sets_of};
 ghost use Rattle.model_rules.specs.Parts as spec;
@@ -18,8 +19,8 @@ use crate::numbers::{port_rules, zone_rules};
 use crate::sets::sets;
 use ma_lines::Sections;
 use model_spaces::PlacedGroup;
-use model_walk::Refused;
 use model_walk::least::least;
+use model_walk::{Item, Refused};
 use quantity::OutOfMemory;
 use rule_tree::RuleTree;
 use std::alloc::{AllocError, Global};
@@ -108,10 +109,29 @@ fn read_group(
 {
     let items = rules_named(alloc, group)?;
     let named = names_of(alloc, &items)?;
+    read_named(alloc, sections, group, &items, &named)
+}
+
+/// Reads the rules of a group, which names these.
+fn read_named(
+    alloc: Global,
+    sections: &Sections,
+    group: &PlacedGroup<'_>,
+    items: &[Item<'_>],
+    named: &RuleNames<'_>,
+) -> Result<ReadGroup, OutOfMemory>
+    requires group { spec.IsPlaced group.now }
+    requires items { map item_of items.now ≡ R.rules_named (section_of group.now.section.now) }
+    requires named { named.now ≡ distinct (map (λ i. i.text.now) items.now) }
+    ensures refused { IfOk result (λ read. option_map refusal_of read.refused ≡ K.least_refusal
+        (flat_map (R.of_group_rules sections.now) (section_of group.now.section.now ∷ []))) }
+    ensures rules { IfOk result (λ read. sets_shown read.rules
+        ≡ sets_of sections.now (section_of group.now.section.now)) }
+{
     let found = sets(alloc, sections, named.as_slice(), &group.names)?;
-    let numbered = group_rules(alloc, group, &named, found.sets)?;
+    let numbered = group_rules(alloc, group, named, found.sets)?;
     Ok(ReadGroup {
-        refused: least(absent(sections, &items), found.refused),
+        refused: least(absent(sections, items), found.refused),
         rules: numbered,
     })
 }

@@ -17,7 +17,7 @@ use model_walk::entries::section_named;
 use model_walk::least::least;
 use model_walk::{Item, Refused};
 use quantity::OutOfMemory;
-use std::alloc::{AllocError, Global};
+use std::alloc::Global;
 
 /// All that a group names: that of `localtransition` first, then those of its zones and of its
 /// ports.
@@ -30,9 +30,7 @@ pub(crate) fn rules_named<'a>(
         ≡ R.rules_named (section_of group.now.section.now)) }
 {
     let mut items = local_names(alloc, group.section)?;
-    items
-        .extend_from_slice(&group.zone_rules)
-        .map_err(AllocError::from)?;
+    items.extend_from_slice(&group.zone_rules)?;
     add_ports(&group.port_rules, &mut items)?;
     Ok(items)
 }
@@ -56,12 +54,13 @@ fn add_local<'a>(entry: &'a Entry, items: &mut Vec<Item<'a>>) -> Result<(), OutO
     if !is_local(entry) {
         return Ok(());
     }
-    items
-        .push(Item {
-            line: entry.line,
-            text: entry.value.as_bytes(),
-        })
-        .map_err(AllocError::from)?;
+    let item = Item {
+        line: entry.line,
+        text: entry.value.as_bytes(),
+    };
+    let Ok(()) = items.push(item) else {
+        return Err(OutOfMemory);
+    };
     Ok(())
 }
 
@@ -86,12 +85,13 @@ fn add_port<'a>(rule: &PlacedRule<'a>, items: &mut Vec<Item<'a>>) -> Result<(), 
     ensures { OnOk result (map item_of items.new.items
         ≡ map item_of items.old.items ++ rule_shown rule.now ∷ []) }
 {
-    items
-        .push(Item {
-            line: rule.line,
-            text: rule.rules,
-        })
-        .map_err(AllocError::from)?;
+    let item = Item {
+        line: rule.line,
+        text: rule.rules,
+    };
+    let Ok(()) = items.push(item) else {
+        return Err(OutOfMemory);
+    };
     Ok(())
 }
 

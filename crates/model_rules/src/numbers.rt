@@ -20,9 +20,9 @@ pub(crate) fn zone_rules(
 {
     let mut numbers = Vec::new(alloc);
     for item in items {
-        numbers
-            .push(names.number(item.text))
-            .map_err(AllocError::from)?;
+        let Ok(()) = numbers.push(names.number(item.text)) else {
+            return Err(OutOfMemory);
+        };
     }
     Ok(numbers)
 }

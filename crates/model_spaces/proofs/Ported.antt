@@ -17,7 +17,7 @@ use Rattle.model_text.specs.Keyed.{least_refusal, at_entry}
 use Rattle.model_text.specs.Rules.{name_at, port_item}
 use Rattle.model_text.specs.Spaces.{PortPlace, port_place, same_cell, same_place, is_new_place, ports_refused}
 use Rattle.model_walk.specs.Least.{merged}
-use Rattle.model_walk.proofs.Orders.{least_step}
+use Rattle.model_walk.proofs.Orders.{least_step, merged_none}
 use Rattle.model_spaces.specs.Ported.{cell_port, in_space, place_in, item_in, port_entries, refused_after, with_port, seen_after, AddsPorts}
 use Rattle.model_spaces.specs.declared.placed.PlacedRule.{PlacedRule}
 use Rattle.model_spaces.specs.Placed.{place_shown, rule_shown}
@@ -234,3 +234,6 @@ port_added s e old new r n k h g = record {
       ap (map rule_shown) n ∙ map-append rule_shown old (r ∷ [])
       ∙ ap (λ zs. map rule_shown old ++ zs) (ap (λ o. cons_option o []) g ∙ ap (λ b. filter_map (item_in s) (cond b (e ∷ []) [])) (sym k));
 }
+
+pub ports_end : (s : Section) (seen : List PortPlace) (es : List Entry) (i : ℕ) (first all : Option Refusal) → length es ≤ i → merged first (least_refusal (ports_refused s seen (port_entries (drop i es)))) ≡ all → first ≡ all
+ports_end s seen es i first all past h = sym (merged_none first) ∙ ap (λ (us : List Entry). merged first (least_refusal (ports_refused s seen (port_entries us)))) (sym (drop_all i es past)) ∙ h

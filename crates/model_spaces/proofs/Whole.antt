@@ -1,6 +1,6 @@
 -- Groups, one after another, and the parts of what is refused of a space.
 use Rattle.std.proofs.Common.{◌≡◌, ℕ, ◌+◌, ◌-◌, min, ◌<◌, ◌≤◌, true, false, Option, List, [], ◌∷◌, ◌++◌, map, length, get_or, drop, take, nat_lt, sym, ap, ◌∙◌, Bor, arith}
-use Rattle.std.proofs.lemmas.List.{append_assoc}
+use Rattle.std.proofs.lemmas.List.{append_assoc, append-nil, drop_all}
 use Rattle.std.specs.List.{filter, flat_map}
 use Rattle.std.proofs.lemmas.List.{length-take}
 use Rattle.std.proofs.lemmas.Bool.Decides.{nat_tests}
@@ -32,6 +32,9 @@ pub groups_step : (ss : List (Bor code.Section)) (i : ℕ) (d : Bor code.Section
 groups_step ss i d old new all lt e h =
     ap (λ os. os ++ filter is_group (sections (drop (i + 1) ss))) e ∙ append_assoc old (filter is_group (section_of (get_or ss i d).now ∷ [])) (filter is_group (sections (drop (i + 1) ss)))
     ∙ ap (λ os. old ++ os) (sym (filter-first is_group (section_of (get_or ss i d).now) (sections (drop (i + 1) ss)))) ∙ ap (λ rest. old ++ filter is_group (sections rest)) (sym (drop_at ss i d lt)) ∙ h
+
+pub groups_end : (ss : List (Bor code.Section)) (i : ℕ) (old all : List Section) → length ss ≤ i → old ++ filter is_group (sections (drop i ss)) ≡ all → old ≡ all
+groups_end ss i old all past h = sym (append-nil old) ∙ ap (λ (rs : List (Bor code.Section)). old ++ filter is_group (sections rs)) (sym (drop_all i ss past)) ∙ h
 
 two_parts : (xs ys : List Refusal) (ox oy : Option Refusal) → ox ≡ least_refusal xs → oy ≡ least_refusal ys → merged ox oy ≡ least_refusal (xs ++ ys)
 two_parts xs ys ox oy ex ey = ap (λ o. merged o oy) ex ∙ ap (merged (least_refusal xs)) ey ∙ sym (least_of_both xs ys)

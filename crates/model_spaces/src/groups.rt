@@ -43,7 +43,9 @@ fn add_group<'a>(section: &'a Section, found: &mut Vec<&'a Section>) -> Result<(
         ++ filter W.is_group (section_of section.now ∷ [])) }
 {
     if is_group(section) {
-        found.push(section).map_err(AllocError::from)?;
+        let Ok(()) = found.push(section) else {
+            return Err(OutOfMemory);
+        };
     }
     Ok(())
 }

@@ -6,7 +6,7 @@ use quantity::{DelayKind, Name, Time, Value};
 use rule_syntax::Names;
 
 /// A port of a cell with the name of its rules, and the line of its entry.
-#[derive(Clone, Copy, Debug)]
+#[derive(Clone, Copy)]
 pub struct PlacedRule<'a> {
     pub line: u32,
     pub port: &'a [u8],

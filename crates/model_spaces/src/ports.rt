@@ -21,7 +21,7 @@ use model_text::Kind;
 use model_walk::Refused;
 use model_walk::least::least;
 use quantity::OutOfMemory;
-use std::alloc::{AllocError, Global};
+use std::alloc::Global;
 
 /// The least refusal of the entries that name no new port of a cell.
 pub(crate) fn ports_refused(
@@ -35,9 +35,24 @@ pub(crate) fn ports_refused(
         (K.entries_of (codes "portintransition") (section_of section.now)))) }
 {
     let mut seen = CellPorts::new(alloc);
+    refused_among(section, grid, &mut seen)
+}
+
+/// The least of these refusals, found by a set of ports that is empty at first.
+fn refused_among<'a>(
+    section: &'a Section,
+    grid: &Grid,
+    seen: &mut CellPorts<'a>,
+) -> Result<Option<Refused>, OutOfMemory>
+    requires space { grid.now ≡ S.space_of (section_of section.now) }
+    requires seen { seen.old ≡ [] }
+    ensures { IfOk result (λ why. option_map refusal_of why
+        ≡ K.least_refusal (S.ports_refused (section_of section.now) []
+        (K.entries_of (codes "portintransition") (section_of section.now)))) }
+{
     let mut first = None;
     for entry in &section.entries {
-        first = least(first, entry_refused(section, grid, entry, &mut seen)?);
+        first = least(first, entry_refused(section, grid, entry, seen)?);
     }
     Ok(first)
 }
@@ -144,7 +159,9 @@ fn add_rule<'a>(
     match port_rule(section, grid, entry) {
         None => Ok(()),
         Some(rule) => {
-            rules.push(rule).map_err(AllocError::from)?;
+            let Ok(()) = rules.push(rule) else {
+                return Err(OutOfMemory);
+            };
             Ok(())
         }
     }

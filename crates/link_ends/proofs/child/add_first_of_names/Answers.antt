@@ -8,7 +8,7 @@ use Rattle.link_ends.proofs.Steps.{fold_step}
 use Rattle.link_ends.proofs.child.add_first_of_names.Goals as goal
 
 pub loop-item-init : goal.loop-item-init
-loop-item-init c = record { names = c.new-names.ensures ∙ sym (ap (map item_name) c.requires); first = c.requires }
+loop-item-init c = record { names = c.requires.names ∙ sym (ap (map item_name) c.requires.found); first = c.requires.found }
 
 pub loop-item-preserved : goal.loop-item-preserved
 loop-item-preserved c = record {

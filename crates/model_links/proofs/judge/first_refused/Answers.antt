@@ -6,7 +6,7 @@ use Rattle.model_walk.specs.Least.{merged}
 use Rattle.model_links.specs.declared.section.FoundLink.{FoundLink}
 use Rattle.link_ends.specs.Lent.{joined, with_links}
 use Rattle.model_links.specs.Judged.{refusal_after, refused_after}
-use Rattle.model_links.proofs.Judging.{links_in, seen_step, judged_step}
+use Rattle.model_links.proofs.Judging.{links_in, seen_step, judged_step, judged_end}
 use Rattle.model_links.proofs.judge.first_refused.Goals as goal
 
 pub loop-one-preserved : goal.loop-one-preserved
@@ -23,3 +23,8 @@ loop-one-preserved c =
           ∙ judged_step f xs i x seen (option_map refusal_of c.loop-one.first) (option_map refusal_of c.refused.result) (least_refusal (refused_after f [] xs)) c.loop-one-test.true
           (c.refused.ensures ∙ ap (refusal_after f seen) c.one-item.is) c.loop-one.invariant.seen c.loop-one.invariant.judged;
     }
+
+pub returns : goal.returns
+returns c =
+    judged_end c.args.face.now (links_in (take c.loop-one.one-index c.args.found.now)) c.args.found.now c.loop-one.one-index (option_map refusal_of c.loop-one.first) _ c.loop-one-test.false
+    c.loop-one.invariant.judged

@@ -1,5 +1,5 @@
 use Rattle.std.proofs.Common.{◌≤◌, Bool, true, false, ◌+◌, ◌++◌, ◌∷◌, [], Some, map, get_or, drop, take, slice_get, sym, ap, ◌∙◌, Bor, Vec, Global, List, arith}
-use Rattle.std.proofs.lemmas.List.{length-take}
+use Rattle.std.proofs.lemmas.List.{length-take, take_all}
 use Rattle.std.proofs.lemmas.Option.{slice_get-map}
 use Rattle.std.specs.Option.{option_map}
 use Rattle.std.specs.Int.{from_bool}
@@ -14,7 +14,7 @@ use Rattle.model_text.specs.Links.{links_of, of_links}
 use Rattle.model_walk.specs.Shown.{refusal_of}
 use Rattle.model_walk.specs.Least.{merged}
 use Rattle.model_spaces.specs.declared.placed.PlacedGroup.{PlacedGroup}
-use Rattle.model_links.proofs.Whole.{all_refused, groups_few, groups_more, group_at, section_step, links_step}
+use Rattle.model_links.proofs.Whole.{all_refused, groups_few, groups_more, group_at, section_step, links_step, sections, sections_end}
 use Rattle.model_links.proofs.walked.all_links.Goals as goal
 
 from_bool_small : (b : Bool) → from_bool b ≤ 1
@@ -61,3 +61,12 @@ loop-section-preserved c =
           ∙ section_step ss rs i r (option_map refusal_of c.loop-section.all.refused) (least_refusal (of_links ss (section_of r.now))) (least_refusal (all_refused ss rs)) c.loop-section-test.true
           (ap (λ (q : Bor code.Section). least_refusal (of_links ss (section_of q.now))) c.section-item.is) c.loop-section.invariant.refused;
     }
+
+pub returns-clause-links : goal.returns-clause-links
+returns-clause-links c =
+    c.loop-section.invariant.links
+    ∙ ap (λ (rs : List (Bor code.Section)). map links_of (sections rs)) (take_all c.loop-section.section-index c.args.met.now c.loop-section-test.false)
+
+pub returns-clause-refused : goal.returns-clause-refused
+returns-clause-refused c =
+    sections_end c.args.sections.now c.args.met.now c.loop-section.section-index (option_map refusal_of c.loop-section.all.refused) _ c.loop-section-test.false c.loop-section.invariant.refused

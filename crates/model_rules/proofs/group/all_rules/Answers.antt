@@ -1,7 +1,12 @@
-use Rattle.std.proofs.Common.{[], ◌∷◌, sym, subst}
+use Rattle.std.proofs.Common.{[], ◌∷◌, sym, subst, List, map, refl}
 use Rattle.model_spaces.specs.declared.placed.PlacedGroup.{PlacedGroup}
+use Rattle.std.specs.List.{flat_map}
+use Rattle.std.specs.Option.{option_map}
+use Rattle.model_text.specs.Rules.{of_group_rules}
+use Rattle.model_walk.specs.Shown.{refusal_of}
+use Rattle.model_rules.specs.Sets.{sets_shown, sets_of}
 use Rattle.model_rules.specs.Parts.{IsPlaced, AddsGroups, group_section}
-use Rattle.model_rules.proofs.Adds.{groups_step}
+use Rattle.model_rules.proofs.Adds.{groups_step, list_end, refused_end}
 use Rattle.model_rules.proofs.Whole.{placed_at}
 use Rattle.model_rules.proofs.group.all_rules.Goals as goal
 
@@ -15,3 +20,13 @@ loop-group-preserved c =
     let step = groups_step c.args.sections.now c.args.groups.now c.loop-group.group-index _ c.loop-group.read c.add_group.new.read _ _ c.loop-group-test.true
     added c.loop-group.invariant.refused c.loop-group.invariant.rules in
     record { refused = step.0; rules = step.1 }
+
+pub returns-clause-refused : goal.returns-clause-refused
+returns-clause-refused c =
+    refused_end (λ (gs : List PlacedGroup). flat_map (of_group_rules c.args.sections.now) (map group_section gs)) c.args.groups.now c.loop-group.group-index
+    (option_map refusal_of c.loop-group.read.refused) _ refl c.loop-group-test.false c.loop-group.invariant.refused
+
+pub returns-clause-rules : goal.returns-clause-rules
+returns-clause-rules c =
+    list_end (λ (gs : List PlacedGroup). map (sets_of c.args.sections.now) (map group_section gs)) c.args.groups.now c.loop-group.group-index
+    (map sets_shown c.loop-group.read.rules.items) _ refl c.loop-group-test.false c.loop-group.invariant.rules

@@ -1,4 +1,4 @@
-use Rattle.std.proofs.Common.{◌-◌, ◌∷◌, [], Some, length, take, drop, map, ap, ◌∙◌, sym, Bool}
+use Rattle.std.proofs.Common.{◌-◌, ◌∷◌, [], Some, length, take, drop, map, ap, refl, ◌∙◌, sym, Bool}
 use Rattle.std.specs.Prelude.{◌&&◌, ◌==◌, codes, List}
 use Rattle.std.specs.Str.{bytes_eq}
 use Rattle.ma_lines.specs.declared.section.Entry.{Entry}
@@ -8,6 +8,9 @@ use Rattle.model_text.specs.Refusals.{refusal}
 use Rattle.model_rules.specs.Parts.{rule_entries}
 use Rattle.model_rules.proofs.Adds.{left_step, past_here, none_past}
 use Rattle.model_rules.proofs.rules_in.too_many.Goals as goal
+
+pub loop-entry-init : goal.loop-entry-init
+loop-entry-init c = refl
 
 pub loop-entry-preserved : goal.loop-entry-preserved
 loop-entry-preserved c =

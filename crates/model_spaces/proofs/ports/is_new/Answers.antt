@@ -1,7 +1,8 @@
-use Rattle.std.proofs.Common.{◌≡◌, Bool, subst}
-use Rattle.std.specs.Result.{IfOk}
+use Rattle.std.proofs.Common.{◌≡◌, Bool, subst, Option}
+use Rattle.std.specs.Result.{IfOk, OnOk}
 use Rattle.ma_lines.specs.Sections.{section_of}
-use Rattle.model_text.specs.Spaces.{port_place}
+use Rattle.model_text.specs.Spaces.{port_place, PortPlace}
+use Rattle.model_spaces.specs.Ported.{with_port}
 use Rattle.model_spaces.specs.Placed.{place_shown}
 use Rattle.model_spaces.proofs.Ported.{new_here}
 use Rattle.model_spaces.proofs.ports.is_new.Goals as goal
@@ -11,3 +12,7 @@ returns-clause-is_new c =
     subst (λ (b : Bool). IfOk c.insert.result (λ is_new. is_new ≡ b))
     (new_here c.args.seen.now (port_place (section_of c.args.section.now) c.args.entry.now) (place_shown c.in-Some.rule) c.in-Some.ensures.place)
     c.insert.ensures.is_new
+
+pub returns-clause-seen : goal.returns-clause-seen
+returns-clause-seen c =
+    subst (λ (o : Option PortPlace). OnOk c.insert.result (c.insert.new.self ≡ with_port c.args.seen.now o)) c.in-Some.ensures.place c.insert.ensures.added

@@ -6,7 +6,7 @@ use Rattle.model_text.specs.Spaces as S
 use Rattle.model_walk.specs.Shown.{refusal_of}
 use Rattle.model_walk.specs.Least.{merged}
 use Rattle.model_spaces.specs.Ported.{port_entries}
-use Rattle.model_spaces.proofs.ports.ports_refused.Given as goal
+use Rattle.model_spaces.proofs.ports.refused_among.Given as goal
 
 abbrev pub invariant-loop-entry : goal.invariant-loop-entry
 invariant-loop-entry l =
