@@ -12,3 +12,4 @@ pub mod Ruling
 pub mod Takes
 pub mod Moving
 pub mod Grown
+pub mod Far

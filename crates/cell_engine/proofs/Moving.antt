@@ -1,6 +1,8 @@
 -- A step of a store, as the reference has it.
-use Rattle.std.proofs.Common.{◌≡◌, ℕ, ◌+◌, ◌<◌, ◌≤◌, Bool, true, List, ◌++◌, length, take, drop, sym, ◌∙◌, ap, subst}
+use Rattle.std.proofs.Common.{◌≡◌, ℕ, zero, suc, ◌+◌, ◌<◌, ◌≤◌, Bool, true, List, [], ◌∷◌, ◌++◌, length, get_or, take, drop, sym, ◌∙◌, ap, subst, arith}
+use Rattle.std.specs.Prelude.{slice_get}
 use Rattle.std.specs.List.{All}
+use Rattle.std.specs.Option.{unwrap_or}
 use Rattle.std.proofs.lemmas.List.{take_at}
 use Rattle.std.specs.declared.result.Result.{Result}
 use Rattle.rule_tree.specs.Meaning.{Sight}
@@ -59,3 +61,13 @@ ready_still l t u p r c d p' r' c' d' shape ep er ec ed h =
 -- a list whose first part was written anew keeps its length
 pub kept_long : {A : Type 0} (n : ℕ) (xs ys : List A) → length ys ≡ n → length xs ≡ n → length (take n (ys ++ drop (length ys) xs)) ≡ length xs
 kept_long n xs ys e h = ap length (take_at ys (drop (length ys) xs) n e) ∙ e ∙ sym h
+
+-- the name that stands at a port's number
+pub named_port : (ports names : List Word) (k n : ℕ) (w : Word) → n < length ports → k ≡ n → w ≡ get_or ports k w → ports ≡ names → w ≡ unwrap_or (slice_get names n) []
+named_port ports names k n w here at is same =
+    read ports n w here (is ∙ ap (λ j. get_or ports j w) at) ∙ ap (λ ws. unwrap_or (slice_get ws n) []) same
+  where
+    read : (ws : List Word) (j : ℕ) (v : Word) → j < length ws → v ≡ get_or ws j v → v ≡ unwrap_or (slice_get ws j) []
+    read [] j v lt eq = absurd (omega (arith, lt))
+    read (x ∷ ws) zero v lt eq = eq
+    read (x ∷ ws) (suc j) v lt eq = read ws j v (omega (arith, lt)) eq

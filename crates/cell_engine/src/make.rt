@@ -24,10 +24,10 @@ pub(crate) fn plan_of(alloc: Global, group: &CellGroup) -> Result<Plan, OutOfMem
     requires { IsTrue (is_sound_group (group_of group.now)) }
     ensures { IfOk result (λ plan. StandsFor (group_of group.now) plan) }
 {
-    let reach = Reach::new(alloc, group.grid, &group.offsets)?;
-    let codes = codes_of_sets(alloc, &group.rule_sets)?;
     let sets = sets_of_cells(alloc, group)?;
     let port_rules = copies(alloc, &group.port_rules)?;
+    let reach = Reach::new(alloc, group.grid, &group.offsets)?;
+    let codes = codes_of_sets(alloc, &group.rule_sets)?;
     Ok(Plan {
         grid: group.grid,
         kind: group.kind,

@@ -55,8 +55,8 @@ impl CellStore {
         ensures cells { IfOk result (λ s. s.cells
             ≡ map (initial_cell (group_of group.now)) group.now.initial) }
     {
-        let plan = plan_of(alloc, group)?;
         let table = table_of(alloc, group)?;
+        let plan = plan_of(alloc, group)?;
         let desk = desk_for(alloc, &plan, group.offsets.len(), table.width())?;
         Ok(CellStore { plan, table, desk })
     }

@@ -8,3 +8,4 @@ pub mod Pieced
 pub mod Waits
 pub mod Written
 pub mod Alone
+pub mod Least

@@ -1,7 +1,7 @@
 -- The cells at the start, in flat lists.
-use Rattle.std.proofs.Common.{◌≡◌, ℕ, zero, suc, ◌+◌, ◌-◌, ◌*◌, ◌<◌, ◌≤◌, List, [], ◌∷◌, ◌++◌, map, length, get_or, set, take, replicate, refl, sym, ◌∙◌, ap, arith, zero-add}
+use Rattle.std.proofs.Common.{◌≡◌, ℕ, zero, suc, ◌+◌, ◌-◌, ◌*◌, ◌<◌, ◌≤◌, List, [], ◌∷◌, ◌++◌, map, length, get_or, set, take, replicate, refl, sym, ◌∙◌, ap, arith, zero-add, append-nil}
 use Rattle.std.specs.List.{flat_map, range_with_len}
-use Rattle.std.proofs.lemmas.List.{take_more, length-append, length-map, get_or_append_left, get_or-append-add, get_or-map, length-take-le, get_or_at, set_at, map_more, append_assoc}
+use Rattle.std.proofs.lemmas.List.{take_more, take_all, length-append, length-map, get_or_append_left, get_or-append-add, get_or-map, length-take-le, get_or_at, set_at, map_more, append_assoc}
 use Rattle.std.proofs.lemmas.List.Concat.{flat_map-append}
 use Rattle.std.proofs.lemmas.Nat.{mul-le}
 use Rattle.std.proofs.Math.Nat.{add-mul}
@@ -19,11 +19,7 @@ flat_more f xs i x h is =
     ap (flat_map f) (take_more xs i x h) ∙ flat_map-append f (take i xs) (get_or xs i x ∷ []) ∙ ap (λ ys. flat_map f (take i xs) ++ ys) (one (get_or xs i x) ∙ ap f (sym is))
   where
     one : (y : Value) → f y ++ [] ≡ f y
-    one y = append_nil (f y)
-      where
-        append_nil : (ys : List Value) → ys ++ [] ≡ ys
-        append_nil [] = refl
-        append_nil (z ∷ zs) = ap (λ rest. z ∷ rest) (append_nil zs)
+    one y = append-nil (f y)
 
 pub flat_long : (f : Value → List Value) (w : ℕ) (xs : List Value) → ((x : Value) → length (f x) ≡ w) → length (flat_map f xs) ≡ length xs * w
 flat_long f w [] long = omega arith
@@ -105,6 +101,11 @@ ports_long outs further = flat_long (λ v. v ∷ further) (length further + 1) o
 pub few_ports : (outs further : List Value) → length outs ≤ 1048576 → length further ≤ 3 → length (flat_map (λ v. v ∷ further) outs) ≤ 4194304
 few_ports outs further a b = omega (arith, ports_long outs further, mul-le (length outs) (length further + 1) 1048576 4 a (omega (arith, b)))
 
+-- one value more of what a list is made of
+pub joined_more : (f : Value → List Value) (xs : List Value) (i : ℕ) (x : Value) (ys zs : List Value) → i < length xs → x ≡ get_or xs i x → ys ≡ flat_map f (take i xs) → zs ≡ ys ++ f x
+    → zs ≡ flat_map f (take (i + 1) xs)
+joined_more f xs i x ys zs h is made own = own ∙ ap (λ vs. vs ++ f x) made ∙ sym (flat_more f xs i x h is)
+
 -- one list more has its value
 pub wait_step : (vs : List Value) (ls new : List (List (ℕ × Value))) (k : ℕ) (v : Value) → k < length vs → v ≡ get_or vs k v → ls ≡ map waits_at_0 (take k vs) ++ replicate (length vs - k) []
     → new ≡ set ls k (put_pair 0 v (get_or ls k [])) → new ≡ map waits_at_0 (take (k + 1) vs) ++ replicate (length vs - (k + 1)) []
@@ -119,3 +120,8 @@ wait_step vs ls new k v h is now put =
     put ∙ (λ j. set (shape j) k (put_pair 0 v (empty j))) ∙ set_at front [] rest (waits_at_0 v) k long
     ∙ sym (append_assoc front (waits_at_0 v ∷ []) rest)
     ∙ ap (λ xs. xs ++ rest) (sym (map_more waits_at_0 vs k v h ∙ ap (λ y. front ++ waits_at_0 y ∷ []) (sym is)))
+
+pub wait_all : (vs : List Value) (ls : List (List (ℕ × Value))) (k : ℕ) → length vs ≤ k → ls ≡ map waits_at_0 (take k vs) ++ replicate (length vs - k) [] → ls ≡ map waits_at_0 vs
+wait_all vs ls k past now =
+    let none : length vs - k ≡ 0 = omega (arith, past) in
+    now ∙ (λ j. map waits_at_0 (take_all k vs past j) ++ replicate (none j) []) ∙ append-nil (map waits_at_0 vs)

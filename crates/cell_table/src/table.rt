@@ -386,7 +386,6 @@ impl CellTable {
 }
 
 /// The values of all ports of all cells at the start.
-#[tactic(auto, using(crate::proofs::Starting::flat_more))]
 fn port_values(alloc: Global, outs: &[Value], further: &[Value]) -> Result<Vec<Value>, OutOfMemory>
     ensures { IfOk result (λ values. values.items ≡ flat_map (λ v. v ∷ further.now) outs.now) }
 {
@@ -406,7 +405,6 @@ fn add_ports(values: &mut Vec<Value>, value: &Value, further: &[Value]) -> Resul
 }
 
 /// The values of all variables of all cells at the start.
-#[tactic(auto, using(crate::proofs::Starting::flat_more))]
 fn repeated(alloc: Global, outs: &[Value], variables: &[Value]) -> Result<Vec<Value>, OutOfMemory>
     ensures { IfOk result (λ values. values.items ≡ flat_map (λ _. variables.now) outs.now) }
 {

@@ -1,8 +1,12 @@
--- One giver more that wakes.
+-- Leaves that are marked: one giver more that wakes, and all that are taken.
 use Rattle.std.proofs.Common.{◌≡◌, ℕ, ◌+◌, ◌<◌, Bool, true, false, ◌||◌, List, length, drop, get_or, refl, sym, ◌∙◌, ap}
+use Rattle.std.specs.List.{filter, range_with_len}
 use Rattle.std.proofs.lemmas.List.{drop_more}
-use Rattle.leaf_set.specs.Members.{is_in}
+use Rattle.leaf_set.specs.Members.{is_in, members_of}
+use Rattle.run_model.specs.Run.{PortRecord}
 use Rattle.sparse_cycle.specs.Collect.{is_among}
+use Rattle.sparse_cycle.specs.Wake.{is_fed, reached}
+use Rattle.cycle_steps.specs.Marking.{Marks}
 use Rattle.cycle_steps.specs.Watching.{watches_any}
 
 pub or-regroup : (x y z : Bool) → (x || (y || z)) ≡ ((x || y) || z)
@@ -17,3 +21,9 @@ woken-more watches givers i all old new near k lt is watch marked =
     is ∙ ap (λ ls. is_in old k || watches_any watches ls k) (drop_more givers i 0 lt)
     ∙ or-regroup (is_in old k) (watches k (get_or givers i 0)) rest
     ∙ ap (λ b. b || rest) (sym (marked ∙ ap (λ b. is_in old k || b) watch))
+
+-- what is taken of a set in which those that are due and those that are fed were marked
+pub reached-marked : (old mid new : List Bool) (due : List ℕ) (fed : List PortRecord) (taken : List ℕ) → Marks (is_among due) old mid → Marks (is_fed fed) mid new
+    → length mid ≡ length old → length new ≡ length mid → taken ≡ members_of new → taken ≡ reached (is_in old) (length old) due fed
+reached-marked old mid new due fed taken first second same long is =
+    is ∙ (λ i. filter (λ k. (second k ∙ ap (λ b. b || is_fed fed k) (first k)) i) (range_with_len 0 ((long ∙ same) i)))

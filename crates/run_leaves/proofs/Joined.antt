@@ -1,6 +1,9 @@
 -- Places of one list behind another.
-use Rattle.std.proofs.Common.{◌≡◌, ℕ, zero, suc, ◌+◌, ◌<◌, Some, List, [], ◌∷◌, ◌++◌, map, length, refl, ◌∙◌, ap, subst, arith}
+use Rattle.std.proofs.Common.{◌≡◌, ℕ, zero, suc, ◌+◌, ◌<◌, true, Some, List, [], ◌∷◌, ◌++◌, map, length, refl, ◌∙◌, ap, subst, arith}
 use Rattle.std.specs.Prelude.{slice_get}
+use Rattle.std.specs.Bool.{if◌then◌else◌}
+use Rattle.std.specs.Result.{is_ok}
+use Rattle.std.specs.declared.result.Result.{Result}
 use Rattle.std.specs.List.{range_with_len}
 use Rattle.run_leaves.proofs.Places.{none-some, some-is}
 
@@ -47,3 +50,7 @@ maps-same f h (x ∷ xs) (y ∷ ys) long same =
     let here : f x ≡ h y = same 0 x y refl refl in
     let rest = maps-same f h xs ys (omega (arith, long)) (λ k a b at there. same (suc k) a b at there) in
     λ i. here i ∷ rest i
+
+-- what was pushed
+pub pushed : {Z E : Type 0} (r : Result Unit E) (old new : List Z) (z : Z) → new ≡ if◌then◌else◌ (is_ok r) (old ++ z ∷ []) old → is_ok r ≡ true → new ≡ old ++ z ∷ []
+pushed r old new z e ok = e ∙ ap (λ b. if◌then◌else◌ b (old ++ z ∷ []) old) ok

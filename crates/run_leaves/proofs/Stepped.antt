@@ -1,5 +1,5 @@
 -- A step of one cell or one box, as it is told.
-use Rattle.std.proofs.Common.{◌≡◌, ℕ, suc, ◌<◌, ◌≤◌, Some, None, List, [], ◌∷◌, map, length, Ok, Err, refl, sym, ◌∙◌, ap, subst, arith}
+use Rattle.std.proofs.Common.{◌≡◌, ℕ, suc, ◌<◌, ◌≤◌, Option, Some, None, ℤ, List, [], ◌∷◌, map, length, Ok, Err, refl, sym, ◌∙◌, ap, subst, arith}
 use Rattle.std.specs.Prelude.{slice_get, slice_set, slice_index_or}
 use Rattle.std.specs.List.{HoldsAt}
 use Rattle.std.specs.declared.result.Result.{Result}
@@ -8,7 +8,9 @@ use Rattle.quantity.specs.declared.value.Value.{Value}
 use Rattle.quantity.specs.declared.value.Value.TheVariants.{Undefined}
 use Rattle.rule_tree.specs.declared.outcome.RuleStop.{RuleStop}
 use Rattle.rule_tree.specs.declared.outcome.RuleStop.TheVariants as rules
-use Rattle.atomic_face.specs.Classes.{Bag}
+use Rattle.atomic_face.specs.declared.model.AdvanceRefusal.{AdvanceRefusal}
+use Rattle.atomic_face.specs.declared.model.AdvanceRefusal.TheVariants as advance
+use Rattle.atomic_face.specs.Classes.{Bag, moved_state}
 use Rattle.atomic_face.specs.Moves.{next_of_box, with_state, AdvanceGives}
 use Rattle.atomic_face.specs.StockView.{Stocked}
 use Rattle.atomic_face.specs.Stocked.{ChangesBox}
@@ -20,6 +22,8 @@ use Rattle.cell_engine.specs.declared.stop.CellStop.TheVariants as cell
 use Rattle.cell_table.specs.Told.{no_cell, cell_at, computed_of, OnlyCell}
 use Rattle.cell_engine.specs.Cells.{Computes, stop_of}
 use Rattle.cycle_steps.specs.declared.halt.Told.{Told}
+use Rattle.cycle_steps.specs.declared.halt.LeafStop.{LeafStop}
+use Rattle.cycle_steps.specs.declared.halt.LeafStop.TheVariants.{Rule, Memory}
 use Rattle.run_leaves.specs.Seated.{HasPort}
 use Rattle.run_leaves.specs.Moving.{MovesCell, HasMovedCell, leaf_stop, MovesBox, GoesTo, with_box}
 use Rattle.run_leaves.proofs.Places.{get-set, index-get}
@@ -96,3 +100,27 @@ box-moves u t bag at old new told changes value there =
         next = there made ∙ ap (λ (s : Stocked). next_of_box s.box) (index-get new at made made stands) ∙ ap next_of_box changes.made.1;
       });
     }
+
+-- the call refuses for this reason
+abbrev pub Refuses : {U : Type 0} → ℕ → Bag → ℕ → List Stocked → List Stocked → Result U AdvanceRefusal → Type 0
+Refuses t bag at old new r = ChangesBox (λ b s. AdvanceGives t bag b s r) at old new
+
+pub box-overflows : (U : Type 0) (why : AdvanceRefusal) (t : ℕ) (bag : Bag) (at : ℕ) (old new : List Stocked) → why ≡ advance.Overflow
+    → (let r : Result U AdvanceRefusal = Err why in Refuses t bag at old new r) → new ≡ old → (let told : Result Told LeafStop = Err (Rule rules.Overflow) in MovesBox t bag at old new told)
+box-overflows U why t bag at old new is refuses same =
+    let changes = subst (λ (w : AdvanceRefusal). let r : Result U AdvanceRefusal = Err w in Refuses t bag at old new r) is refuses in
+    record {
+      before = changes.before;
+      stood = changes.stood;
+      goes = subst (λ o. let told : Result Told LeafStop = Err (Rule rules.Overflow) in GoesTo old new at changes.before o told) (sym changes.made.0) (refl, same);
+    }
+
+pub box-refused : (U : Type 0) (why : AdvanceRefusal) (t : ℕ) (bag : Bag) (at : ℕ) (old new : List Stocked) → (let r : Result U AdvanceRefusal = Err why in Refuses t bag at old new r) → new ≡ old
+    → (let told : Result Told LeafStop = Err Memory in MovesBox t bag at old new told)
+box-refused U why t bag at old new changes same =
+    let b = changes.before.box in
+    record { before = changes.before; stood = changes.stood; goes = stays (moved_state b.kind b.settings b.state t bag) }
+  where
+    stays : (words : Option (List ℤ)) → (let told : Result Told LeafStop = Err Memory in GoesTo old new at changes.before words told)
+    stays None = same
+    stays (Some words) = same

@@ -1,5 +1,5 @@
 use Rattle.run_leaves.proofs.Stepped.{moves-ok, moves-err}
-use Rattle.std.proofs.Common.{◌∙◌, sym, subst}
+use Rattle.std.proofs.Common.{◌∙◌, sym, subst, arith}
 use Rattle.std.specs.declared.result.Result.TheVariants.{Err}
 use Rattle.cell_engine.specs.Cells.{computed_at}
 use Rattle.cycle_steps.specs.declared.halt.LeafStop.{LeafStop}
@@ -16,3 +16,6 @@ returns-in-Err-clause-moves g c = λ h stands sound ports.
     let step = computed_at c.args.t h c.args.store.now.cells c.args.cell c.args.woken c.args.bag.now in
     subst (λ (stop : LeafStop). MovesCell c.args.store.now.cells c.compute.new.self.cells c.args.cell step (Err stop)) (sym c.stop_of_leaf.ensures)
     (moves-err _ c.args.store.now.cells c.compute.new.self.cells c.args.cell step c.in-Err.why (c.in-Err.ensures.computed h stands sound ports))
+
+pub returns-in-Ok-clause-steps : goal.returns-in-Ok-clause-steps
+returns-in-Ok-clause-steps g c = omega (arith, c.compute.ensures.steps, c.computed-value.ensures.steps)

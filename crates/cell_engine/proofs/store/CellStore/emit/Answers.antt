@@ -1,5 +1,5 @@
 use Rattle.std.proofs.Common.{length, ◌∙◌, ap}
-use Rattle.run_model.specs.CellStep.{cell_emitted}
+use Rattle.run_model.specs.CellStep.{cell_emitted, cell_output}
 use Rattle.cell_table.specs.Told.{no_cell, cell_at}
 use Rattle.cell_engine.specs.Cells.{Cells, with_cell}
 use Rattle.cell_table.specs.Table.{Table}
@@ -16,3 +16,6 @@ pub returns-clause-cells : goal.returns-clause-cells
 returns-clause-cells g c =
     let cells = ap (λ (t : Table). t.cells) c.emit.ensures.cell ∙ changed-set c.args.i (cell_emitted c.args.t) no_cell c.self.inside.table.cells in
     (λ k. record { layout = c.self.inside.plan; cells = cells k }) ∙ ap (λ (s : Cells). with_cell s c.args.i (cell_emitted c.args.t (cell_at s.cells c.args.i))) c.self.view_is
+
+pub returns-clause-value : goal.returns-clause-value
+returns-clause-value g c = c.emit.ensures.given ∙ ap (λ (s : Cells). cell_output c.args.t (cell_at s.cells c.args.i)) c.self.view_is
