@@ -5,3 +5,4 @@ pub mod Asking
 pub mod Fewer
 pub mod Options
 pub mod Drawing
+pub mod Lowered

@@ -111,7 +111,10 @@ pub(crate) fn cdpp_matches<'a>(
     ensures rows { IfOk result (λ m. IfSome m
         (λ m. rows_of (found_of m) ≡ matches_of cdpp_app (map string_bytes words.entry.now))) }
 {
-    matches_in(cdpp_command(alloc)?, words)
+    let Ok(command) = cdpp_command(alloc) else {
+        return Err(OutOfMemory);
+    };
+    matches_in(command, words)
 }
 
 // The matches of the words of the drawing program, where its command takes them.
@@ -124,5 +127,8 @@ pub(crate) fn drawlog_matches<'a>(
     ensures rows { IfOk result (λ m. IfSome m
         (λ m. rows_of (found_of m) ≡ matches_of drawlog_app (map string_bytes words.entry.now))) }
 {
-    matches_in(drawlog_command(alloc)?, words)
+    let Ok(command) = drawlog_command(alloc) else {
+        return Err(OutOfMemory);
+    };
+    matches_in(command, words)
 }

@@ -134,8 +134,8 @@ fn drawing_in<'a>(
     ensures { IfOk result (λ a. option_map drawing_of a
         ≡ D.drawing_in (rows_of (found_of matches.now))) }
 {
-    let group = group_given(alloc, matches.get_str("g"))?;
     let space = space_given(alloc, matches.get_str("s"))?;
+    let group = group_given(alloc, matches.get_str("g"))?;
     Ok(drawn(matches.get_str("l"), group, space, looks_in(matches)))
 }
 
@@ -150,5 +150,8 @@ pub fn read_drawing_words<'a>(
     let Some(matches) = drawlog_matches(alloc, words)? else {
         return Ok(None);
     };
-    drawing_in(alloc, &matches)
+    let asked = drawing_in(alloc, &matches);
+    // A call, so that the drop is proved once.
+    drop(matches);
+    asked
 }

@@ -1,16 +1,22 @@
 -- The answer to a log, from what is drawn of it, and its statuses.
-use Rattle.std.proofs.Common.{◌≡◌, ℕ, zero, suc, ◌<◌, ◌≤◌, List, [], ◌∷◌, ◌⊎◌, Bool, true, false, Option, Some, None, refl, ◌∙◌, ap, arith, inl, inr, length, nat_lt}
+use Rattle.std.proofs.Common.{◌≡◌, ◌≢◌, ℕ, zero, suc, ◌<◌, ◌≤◌, List, [], ◌∷◌, ◌⊎◌, Bool, true, false, Option, Some, None, refl, sym, ◌∙◌, ap, subst, arith, inl, inr, length, nat_lt}
 use Rattle.std.specs.Prelude.{Contains, Result, Ok, Err, if◌then◌else◌}
 use Rattle.std.specs.Option.{IfSome}
 use Rattle.std.proofs.lemmas.Bool.{le-ltb}
 use Rattle.std.proofs.lemmas.Bool.Decides.{Decides-ltb}
 use Rattle.quantity.specs.Bytes.{Bytes}
+use Rattle.room_edge.specs.Faults.{Rose, MissCounted, ReadFaultCounted, WriteFaultCounted}
+use Rattle.room_edge.specs.Outside.{Outside, OnlyInput}
 use Rattle.model_tree.specs.Tree.{Word}
 use Rattle.text_forms.specs.Frames.{drawn}
 use Rattle.answer_model.specs.Answer.{Answer, only_complains, only_shows}
 use Rattle.answer_model.specs.AskedDrawing.{AskedDrawing}
 use Rattle.answer_model.specs.Drawlog.{drawn_answer, log_refused}
-use Rattle.drawlog_top.specs.Ends.{answer_to_file, read_statuses}
+use Rattle.answer_model.specs.Endings.{Says, whole, cut, unsaid}
+use Rattle.answer_model.specs.Headline.{WritesNothing}
+use Rattle.answer_model.proofs.Said.{said_only}
+use Rattle.answer_model.proofs.Stages.{rose_by_said}
+use Rattle.drawlog_top.specs.Ends.{answer_to_file, drawn_statuses, read_statuses}
 
 -- ---- a log that is not too long
 
@@ -72,3 +78,41 @@ only_refused s n (suc zero, lt, is) e (inr f) = absurd (omega (arith, is, e, f))
 only_refused s n (suc (suc zero), lt, is) e (inl f) = absurd (omega (arith, is, e, f))
 only_refused s n (suc (suc zero), lt, is) e (inr f) = absurd (omega (arith, is, e, f))
 only_refused s n (suc (suc (suc k)), lt, is) e f = absurd (omega (arith, lt))
+
+-- a status of a drawing is none of a log that is missing or can't be read
+pub not_read : (s n : ℕ) → Contains drawn_statuses s → s ≡ n → (n ≡ 3) ⊎ (n ≡ 4) → ⊥
+not_read s n (zero, lt, is) e (inl f) = absurd (omega (arith, is, e, f))
+not_read s n (zero, lt, is) e (inr f) = absurd (omega (arith, is, e, f))
+not_read s n (suc zero, lt, is) e (inl f) = absurd (omega (arith, is, e, f))
+not_read s n (suc zero, lt, is) e (inr f) = absurd (omega (arith, is, e, f))
+not_read s n (suc (suc zero), lt, is) e (inl f) = absurd (omega (arith, is, e, f))
+not_read s n (suc (suc zero), lt, is) e (inr f) = absurd (omega (arith, is, e, f))
+not_read s n (suc (suc (suc zero)), lt, is) e (inl f) = absurd (omega (arith, is, e, f))
+not_read s n (suc (suc (suc zero)), lt, is) e (inr f) = absurd (omega (arith, is, e, f))
+not_read s n (suc (suc (suc (suc k))), lt, is) e f = absurd (omega (arith, lt))
+
+-- ---- a complaint after the log was looked for
+
+-- it ends with its own status, or with that of a write fault or of want of memory
+pub said_not : (line : Bytes) (own n : ℕ) (old new : Outside) (status : ℕ) → own ≢ n → 5 ≢ n → 12 ≢ n → Says line own old new status → status ≡ n → ⊥
+said_not line own n old new _ other fault memory (whole said keeps) e = other e
+said_not line own n old new _ other fault memory (cut part short said writes complaints) e = fault e
+said_not line own n old new _ other fault memory (unsaid part begins said) e = memory e
+
+-- a miss that was counted before it is counted after it
+pub miss_stays : (line : Bytes) (own : ℕ) (old mid new : Outside) (status : ℕ) → MissCounted old mid → Says line own mid new status → MissCounted old new
+miss_stays line own old mid new status rose says = subst (λ n. Rose old.misses n) (sym (said_only line own mid new status says).output.misses) rose
+
+-- and so is a failed read
+pub fault_stays : (line : Bytes) (own : ℕ) (old mid new : Outside) (status : ℕ) → ReadFaultCounted old mid → Says line own mid new status → ReadFaultCounted old new
+fault_stays line own old mid new status rose says = subst (λ n. Rose old.read_faults n) (sym (said_only line own mid new status says).output.read_faults) rose
+
+-- nothing is written by both
+pub nothing_written : (line : Bytes) (own : ℕ) (old mid new : Outside) (status : ℕ) → OnlyInput old mid → Says line own mid new status → WritesNothing old new
+nothing_written line own old mid new status only says =
+    let said = said_only line own mid new status says in
+    record { made = said.made ∙ only.made; created = said.created ∙ only.created; shown = said.shown ∙ only.shown }
+
+-- a failed write of its own
+pub said_fault : (line : Bytes) (own : ℕ) (old mid new : Outside) (status : ℕ) → OnlyInput old mid → own ≢ 5 → Says line own mid new status → status ≡ 5 → WriteFaultCounted old new
+said_fault line own old mid new status only other says five = rose_by_said line own old mid new status (omega (arith, only.write_faults)) (λ e. absurd (other e)) says five

@@ -1,6 +1,6 @@
 -- The answer to a run, from what its outputs are.
-use Rattle.std.proofs.Common.{◌≡◌, ℕ, zero, suc, ◌+◌, ◌==◌, Bool, true, false, cond, Option, Some, None, List, [], ◌∷◌, ◌++◌, length, map, refl, sym, ap, ◌∙◌, subst, arith}
-use Rattle.std.specs.Prelude.{⊤, ◌&&◌, ◌||◌, not, nat_le, nat_lt, IsTrue, slice_get, if◌then◌else◌}
+use Rattle.std.proofs.Common.{◌≡◌, ℕ, zero, suc, ◌+◌, ◌==◌, Bool, true, false, Option, Some, None, List, [], ◌∷◌, ◌++◌, length, map, refl, sym, ap, ◌∙◌, subst, arith}
+use Rattle.std.specs.Prelude.{◌&&◌, ◌||◌, not, nat_le, nat_lt, IsTrue, if◌then◌else◌}
 use Rattle.std.specs.Option.{option_map, option_to_list, is_some}
 use Rattle.std.specs.List.{All, list_all, range_with_len, filter, flat_map}
 use Rattle.std.specs.Str.{bytes_eq}
@@ -9,24 +9,23 @@ use Rattle.std.proofs.lemmas.List.Elements.{All-nil, All-cons, All-append}
 use Rattle.std.proofs.lemmas.Option.{slice_get_within, get_or_from_slice_get}
 use Rattle.std.proofs.lemmas.Bool.{and_parts}
 use Rattle.std.proofs.lemmas.Bool.Decides.{nat_tests}
-use Rattle.quantity.specs.declared.value.Value.TheVariants.{Undefined}
 use Rattle.quantity.specs.Bytes.{Bytes, has_repeat}
 use Rattle.rule_tree.specs.Phrases.{out}
 use Rattle.cell_grid.specs.Space.{cell_count}
-use Rattle.model_tree.specs.Tree.{Word, Group, Tree, Trees, coupled, cells, atomic, nil, cons, Leaf, atomic_leaf, cell_leaf, leaf_count, leaves_from, all_leaves_from, leaves, ins_of, outs_of}
+use Rattle.model_tree.specs.Tree.{Word, Group, Tree, Trees, coupled, cells, atomic, nil, cons, atomic_leaf, cell_leaf, leaf_count, leaves_from, all_leaves_from, leaves, ins_of, outs_of}
 use Rattle.model_tree.specs.Faces.{face_of_coupled, face_of_group}
 use Rattle.model_tree.specs.Sound.{totals, has_child, are_accepted, is_near_offset, offsets_differ, has_right_names, has_right_rules, is_sound_group, is_sound_part, are_sound_parts, is_within_limits, path_count, is_sound_model}
-use Rattle.run_model.specs.Run.{Event, Cycle, Run, Verdict, done, too_many, stop, start, run_from, most_cycles, run}
+use Rattle.run_model.specs.Run.{Event, Cycle, Run, Verdict, done, too_many, stop, run_from, most_cycles, run}
 use Rattle.run_model.specs.Instants.{InstantsNeverFall}
 use Rattle.run_model.specs.Fitting.{NamesItsParts}
 use Rattle.text_forms.specs.Frames.{frames_of}
 use Rattle.record_text.specs.CycleNames.{HasPortValues}
 use Rattle.record_text.specs.Chosen.{letters_of}
-use Rattle.text_forms.specs.LogLine.{letter_of, LogLine, line_text}
+use Rattle.text_forms.specs.LogLine.{letter_of, line_text}
 use Rattle.text_forms.specs.Letters.{letter_byte}
 use Rattle.text_forms.specs.Lines.{ended, cycle_lines, log_bytes, out_bytes}
 use Rattle.answer_model.specs.Asked.{Source, file, made, Asked, is_among, differ_all}
-use Rattle.answer_model.specs.Answer.{MadeFiles, Answer}
+use Rattle.answer_model.specs.Answer.{MadeFiles}
 use Rattle.answer_model.specs.Cdpp.{run_on}
 use Rattle.answer_model.specs.RunEnd.{Said, said, shows, complains, done_line, end_line, made_line, mark_text, many_line}
 use Rattle.answer_model.specs.RunFiles.{file_if, group_at, emitted_before, frames_if, saved_text, made_files}
@@ -34,12 +33,12 @@ use Rattle.flat_run.specs.Standing.{Standing, tree_in}
 use Rattle.run_files.specs.declared.outputs.FramesFile.{FramesFile}
 use Rattle.run_files.specs.declared.outputs.Outputs.{Outputs}
 use Rattle.run_files.specs.AskedFiles.{text_of_name}
-use Rattle.run_files.specs.Texts.{Names, Texts, files, Differ, AreApart}
+use Rattle.run_files.specs.Texts.{Names, files, Differ, AreApart}
 use Rattle.run_files.specs.Showing.{Showing, frames_left, left_texts, IsBegunBy}
 use Rattle.run_files.specs.Groups.{picture_of, begun_at, showing_at_start}
 use Rattle.run_loop.specs.Asks.{IsSource, frames_file_of, AreOutputsOf, frames_name, names_asked}
 use Rattle.run_loop.specs.Answers.{MayRun, answer_to}
-use Rattle.run_loop.specs.Begins.{frames_with, names_with, names_in}
+use Rattle.run_loop.specs.Begins.{names_with, names_in}
 use Rattle.run_loop.specs.Ends.{done_text, said_by}
 use Rattle.run_loop.specs.Known.{RunsAreFit}
 use Rattle.run_loop.specs.Left.{run_of, AreFit, HaveValues}

@@ -1,6 +1,6 @@
 -- What is told of a run that ended, and the outcome.
-use Rattle.std.proofs.Common.{◌≡◌, ◌≢◌, ℕ, ◌+◌, ◌<◌, ◌≤◌, Option, Some, None, List, [], ◌∷◌, ◌++◌, length, refl, sym, ap, ◌∙◌, subst, arith, lit<}
-use Rattle.std.specs.Prelude.{Contains, decimal, codes, count_by, slice_get, OnOk, Result, Ok, Err}
+use Rattle.std.proofs.Common.{◌≡◌, ℕ, ◌+◌, ◌<◌, ◌≤◌, Option, Some, None, List, [], ◌++◌, length, refl, sym, ap, ◌∙◌, subst, arith, lit<}
+use Rattle.std.specs.Prelude.{Contains, decimal, codes, slice_get, OnOk, Result, Ok, Err}
 use Rattle.std.specs.Option.{option_map, unwrap_or}
 use Rattle.std.proofs.lemmas.List.{append-nil}
 use Rattle.std.proofs.lemmas.Option.{slice_get_past}
@@ -19,7 +19,7 @@ use Rattle.room_edge.specs.Faults.{WriteFaultCounted, KeepsWriteFaults}
 use Rattle.room_edge.specs.Outside.{Outside}
 use Rattle.answer_model.specs.Answer.{Answer}
 use Rattle.answer_model.specs.Endings.{Says, ShowsEnd, made_after, EndsWith}
-use Rattle.answer_model.specs.RunEnd.{end_line, made_line, many_line, stop_line, stop_status, stopped_at}
+use Rattle.answer_model.specs.RunEnd.{made_line, many_line, stop_line, stop_status}
 use Rattle.answer_model.proofs.Endings.{endings_follow}
 use Rattle.answer_model.proofs.Said.{said_among, shown_among}
 use Rattle.answer_model.proofs.Stages.{then_ends, rose_by_said, rose_by_shown}

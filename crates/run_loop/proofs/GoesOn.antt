@@ -1,18 +1,15 @@
 -- A run goes on, cycle by cycle: what is left of it, and what was written.
-use Rattle.std.proofs.Common.{◌≡◌, ℕ, zero, suc, ◌+◌, ◌-◌, ◌<◌, ◌≤◌, Option, Some, None, List, [], ◌∷◌, ◌++◌, length, refl, sym, ap, ◌∙◌, subst, arith}
+use Rattle.std.proofs.Common.{◌≡◌, ℕ, zero, suc, ◌+◌, ◌-◌, ◌<◌, Option, Some, None, List, [], ◌∷◌, length, refl, sym, ap, ◌∙◌, subst, arith}
 use Rattle.std.specs.Prelude.{Result, Ok, Err}
 use Rattle.std.specs.Option.{option_map}
-use Rattle.std.specs.List.{All}
 use Rattle.std.proofs.lemmas.List.Elements.{All-head, All-tail}
 use Rattle.rule_tree.specs.declared.outcome.RuleStop.TheVariants as rules
 use Rattle.model_tree.specs.declared.table.Model.{Model}
 use Rattle.model_tree.specs.Tree.{Tree}
 use Rattle.model_tree.specs.Models.{tree_of}
-use Rattle.run_model.specs.Run.{Cycle, Run, RunState, Verdict, done, too_many, stop, Next, ended, cycled, next_cycle, run_from, run_behind, at_last, in_front}
-use Rattle.run_model.specs.Instants.{InstantsNeverFall}
+use Rattle.run_model.specs.Run.{Cycle, Run, RunState, Verdict, too_many, stop, ended, cycled, next_cycle, run_from, run_behind, at_last, in_front}
 use Rattle.run_model.specs.Fitting.{NamesItsParts}
 use Rattle.record_text.specs.declared.records.Records.{Records}
-use Rattle.record_text.specs.Held.{Holds}
 use Rattle.record_text.specs.Named.{NamesLeaves}
 use Rattle.record_text.proofs.NamedLeaves.{cycles_name_leaves}
 use Rattle.room_edge.specs.Outside.{Outside}
@@ -36,7 +33,7 @@ use Rattle.run_loop.specs.declared.ending.Ending.TheVariants.{Done, Stopped}
 use Rattle.run_loop.specs.declared.going.Going.{Going}
 use Rattle.run_loop.specs.Left.{run_of, AreFit, HaveValues}
 use Rattle.run_loop.specs.Ends.{IsVerdict}
-use Rattle.run_loop.specs.Ran.{HasEnded, IsWritten, RunsTo, RunsWhole}
+use Rattle.run_loop.specs.Ran.{RunsTo, RunsWhole}
 use Rattle.run_loop.specs.Stopping.{StopsAs}
 use Rattle.run_files.proofs.Turns.{texts_step, texts_end, begun_next}
 

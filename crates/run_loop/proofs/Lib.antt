@@ -3,3 +3,4 @@ pub mod GoesOn
 pub mod Costs
 pub mod Ended
 pub mod Answered
+pub mod Numbers

@@ -1,6 +1,6 @@
 -- What a run is to be, and what is answered to it.
 use Rattle.std.specs.Prelude.{◌≡◌, ℕ, None, List, [], ◌∷◌, IsTrue}
-use Rattle.model_tree.specs.Tree.{Word, Tree}
+use Rattle.model_tree.specs.Tree.{Word}
 use Rattle.model_tree.specs.Sound.{is_sound_model}
 use Rattle.run_model.specs.Run.{start}
 use Rattle.answer_model.specs.Asked.{Asked, differ_all}

@@ -1,5 +1,5 @@
 -- When the outputs of a run are what the words ask for.
-use Rattle.std.specs.Prelude.{◌≡◌, ℕ, Option, Some, None, List, ◌++◌, map, ⊤, IsTrue}
+use Rattle.std.specs.Prelude.{◌≡◌, ℕ, Option, Some, None, List, ◌++◌, ⊤}
 use Rattle.std.specs.Option.{option_map, option_to_list}
 use Rattle.model_tree.specs.Tree.{Word}
 use Rattle.record_text.specs.Chosen.{letters_of}

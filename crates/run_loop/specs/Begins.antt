@@ -1,8 +1,7 @@
 -- What a run begins with.
-use Rattle.std.specs.Prelude.{◌≡◌, ℕ, Bool, Option, Some, None, [], if◌then◌else◌}
+use Rattle.std.specs.Prelude.{◌≡◌, ℕ, Bool, Option, None, if◌then◌else◌}
 use Rattle.std.specs.Option.{option_map, is_some}
 use Rattle.model_tree.specs.Tree.{Word, Tree, leaf_count}
-use Rattle.run_files.specs.declared.outputs.FramesFile.{FramesFile}
 use Rattle.run_files.specs.declared.outputs.Outputs.{Outputs}
 use Rattle.run_files.specs.AskedFiles.{text_of_name}
 use Rattle.run_files.specs.Texts.{Names}

@@ -11,7 +11,6 @@ use Rattle.text_forms.specs.Lines.{leaf_name, ended}
 use Rattle.room_edge.specs.Outside.{Outside}
 use Rattle.answer_model.specs.RunEnd.{end_line, made_line, many_line, stop_line, stop_status, Said, shows, complains}
 use Rattle.answer_model.specs.Endings.{Says, ShowsEnd}
-use Rattle.flat_run.specs.declared.progress.Stop.{Stop}
 use Rattle.flat_run.specs.declared.progress.Stop.TheVariants.{NoTrueRule, Overflow, BadDelay, TooManyCycles, Memory}
 use Rattle.run_files.specs.declared.outputs.Outputs.{Outputs}
 use Rattle.run_files.specs.Counts.{Counts, no_counts, counts_of}

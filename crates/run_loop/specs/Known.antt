@@ -2,7 +2,7 @@
 use Rattle.std.specs.Prelude.{ℕ, List}
 use Rattle.std.specs.List.{All}
 use Rattle.model_tree.specs.Tree.{Tree}
-use Rattle.run_model.specs.Run.{Event, Cycle, run}
+use Rattle.run_model.specs.Run.{Event, run}
 use Rattle.run_model.specs.Instants.{InstantsNeverFall}
 use Rattle.run_model.specs.Fitting.{NamesItsParts}
 

@@ -1,5 +1,5 @@
 -- What a run came to: its verdict and all of its texts, or a part of them.
-use Rattle.std.specs.Prelude.{◌≡◌, ℕ, ◌+◌, Option, List, [], length, Result, Ok, Err}
+use Rattle.std.specs.Prelude.{◌≡◌, ℕ, ◌+◌, List, [], length, Result, Ok, Err}
 use Rattle.std.specs.Option.{option_map}
 use Rattle.model_tree.specs.Tree.{Tree}
 use Rattle.run_model.specs.Run.{Run}
@@ -7,7 +7,7 @@ use Rattle.room_edge.specs.Outside.{Outside}
 use Rattle.run_files.specs.declared.outputs.Unwritten.{Unwritten}
 use Rattle.run_files.specs.Texts.{Names, Texts, both}
 use Rattle.run_files.specs.Written.{Adds, Falls}
-use Rattle.run_files.specs.Showing.{Showing, left_texts}
+use Rattle.run_files.specs.Showing.{left_texts}
 use Rattle.run_files.specs.Counts.{counts_of}
 use Rattle.run_loop.specs.declared.ending.Ending.{Ending}
 use Rattle.run_loop.specs.declared.going.Going.{Going}

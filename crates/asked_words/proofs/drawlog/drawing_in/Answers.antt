@@ -13,7 +13,7 @@ returns c =
     c.drawn.ensures
     ∙ drawn_same _ _ _ _ _ _ _ _
     (c.get_str-3.ensures ∙ value_is f (codes "l"))
-    (c.in_ok-group.ensures ∙ ap (needed group_in) (c.get_str.ensures ∙ value_is f (codes "g")))
-    (c.in_ok-space.ensures ∙ ap (needed space_in) (c.get_str-2.ensures ∙ value_is f (codes "s")))
+    (c.in_ok-group.ensures ∙ ap (needed group_in) (c.get_str-2.ensures ∙ value_is f (codes "g")))
+    (c.in_ok-space.ensures ∙ ap (needed space_in) (c.get_str.ensures ∙ value_is f (codes "s")))
     c.looks_in.ensures.value
     ∙ drawing_is (rows_of f)

@@ -14,4 +14,4 @@ pub returns : goal.returns
 returns c =
     let words = map string_bytes c.args.words.now in
     let e = rw c.in-Some.is at c.in_ok-matches.ensures in
-    IfOk-weaker c.drawing_in.result _ _ (λ a v. v ∙ ap drawing_in e.rows ∙ sym (drawing_on words (sym e.taken))) c.drawing_in.ensures
+    IfOk-weaker c.drawing_in-asked.result _ _ (λ a v. v ∙ ap drawing_in e.rows ∙ sym (drawing_on words (sym e.taken))) c.drawing_in-asked.ensures

@@ -1,4 +1,4 @@
-use Rattle.std.proofs.Common.{◌≡◌, ◌∙◌, refl, sym, subst, ap, arith, rules}
+use Rattle.std.proofs.Common.{◌≡◌, refl, sym, subst, arith, rules}
 use Rattle.std.specs.Prelude.{Result, Ok, Err}
 use Rattle.record_text.specs.Chosen.{letters_of}
 use Rattle.run_model.specs.Run.{done}
@@ -11,7 +11,7 @@ use Rattle.run_loop.specs.declared.ending.Ending.{Ending}
 use Rattle.run_loop.specs.declared.ending.Ending.TheVariants.{Done}
 use Rattle.run_loop.specs.Left.{run_of}
 use Rattle.run_loop.specs.Ran.{RunsTo}
-use Rattle.run_loop.proofs.GoesOn.{Stands, stands_first, stands_next, names_due, falls_next, ends_by_verdict, ends_late, stops_here, stop_keeps, keeps-trans, keeps_same, goes_on, made_still}
+use Rattle.run_loop.proofs.GoesOn.{stands_first, stands_next, names_due, falls_next, ends_by_verdict, ends_late, stops_here, stop_keeps, keeps-trans, keeps_same, goes_on, made_still}
 use Rattle.run_loop.proofs.Costs.{costs_first, costs_here, costs_next}
 use Rattle.run_loop.proofs.run.run_cycles.Goals as goal
 

@@ -1,8 +1,6 @@
-use Rattle.std.proofs.Common.{◌≡◌, ◌∙◌, refl, sym, ap, subst, lit<}
+use Rattle.std.proofs.Common.{refl, sym, ap, subst, lit<}
 use Rattle.record_text.specs.Chosen.{letters_of}
-use Rattle.run_model.specs.Run.{most_cycles}
 use Rattle.model_tree.specs.declared.table.Model.{Model}
-use Rattle.model_tree.specs.Tree.{Tree}
 use Rattle.model_tree.specs.Models.{tree_of}
 use Rattle.answer_model.specs.Endings.{looked_for, made_after}
 use Rattle.answer_model.proofs.Endings.{endings_follow, rose_later}
@@ -10,14 +8,12 @@ use Rattle.answer_model.proofs.Outcomes.{none_begun}
 use Rattle.answer_model.proofs.Stages.{then_ends}
 use Rattle.run_leaves.specs.Seated.{settings_at}
 use Rattle.flat_run.specs.Standing.{tree_in}
-use Rattle.run_files.specs.Texts.{Names, no_texts, files, AreApart}
-use Rattle.run_files.specs.Showing.{left_texts}
+use Rattle.run_files.specs.Texts.{no_texts, files, AreApart}
 use Rattle.run_files.specs.AskedFiles.{names_of}
 use Rattle.run_files.specs.Groups.{CanShowIn}
 use Rattle.run_files.proofs.Making.{all_created, unmade_ends, making_blames, tells_among, tells_rose}
 use Rattle.run_loop.specs.Answers.{answer_to, run_statuses}
 use Rattle.run_loop.specs.Begins.{BeginsWith}
-use Rattle.run_loop.specs.Left.{run_of}
 use Rattle.run_loop.proofs.Costs.{ends_whole}
 use Rattle.run_loop.proofs.Answered.{names_are, names_apart, answer_as, run_fit, have_values}
 use Rattle.run_loop.proofs.stage.run_and_tell.Goals as goal

@@ -1,10 +1,9 @@
-use Rattle.std.proofs.Common.{◌≡◌, ℕ, ◌+◌, ◌≤◌, ◌∙◌, List, sym, ap, subst, arith, lit<, refl}
+use Rattle.std.proofs.Common.{ℕ, ◌+◌, ◌≤◌, ◌∙◌, List, sym, subst, arith, lit<, refl}
 use Rattle.run_model.specs.Visits.{visits}
 use Rattle.record_text.specs.Chosen.{letters_of}
 use Rattle.model_tree.specs.declared.table.Model.{Model}
 use Rattle.model_tree.specs.Tree.{Word}
 use Rattle.model_tree.specs.Models.{tree_of}
-use Rattle.room_edge.specs.Faults.{WriteFaultCounted}
 use Rattle.answer_model.specs.Answer.{Answer}
 use Rattle.answer_model.specs.Endings.{made_after, EndsWith}
 use Rattle.run_leaves.specs.Seated.{settings_at}
