@@ -73,12 +73,17 @@ fn run_with_file<R: Room, M: AtomicModel, L: Ledger>(
 {
     match read_whole(alloc, room, name, LONGEST) {
         Ok(bytes) => run_with_bytes(alloc, room, asked, &bytes, start, steps),
-        Err(ReadWhole::Missing) => complain_named(alloc, room, b"missing: ", name, MISSING),
-        Err(ReadWhole::ReadFault) => {
-            complain_named(alloc, room, b"read fault: ", name, READ_FAULT)
+        Err(why) => {
+            drop(start);
+            match why {
+                ReadWhole::Missing => complain_named(alloc, room, b"missing: ", name, MISSING),
+                ReadWhole::ReadFault => {
+                    complain_named(alloc, room, b"read fault: ", name, READ_FAULT)
+                }
+                ReadWhole::TooLong(_) => tell_events(alloc, room, EventRefusal::TooLarge(0)),
+                ReadWhole::Memory => NO_MEMORY,
+            }
         }
-        Err(ReadWhole::TooLong(_)) => tell_events(alloc, room, EventRefusal::TooLarge(0)),
-        Err(ReadWhole::Memory) => NO_MEMORY,
     }
 }
 
@@ -105,6 +110,9 @@ fn run_with_bytes<R: Room, M: AtomicModel, L: Ledger>(
     let read = Events::read(alloc, bytes, &start.model.top().ins);
     match read {
         Ok(events) => run_from(alloc, room, asked, start, events, steps),
-        Err(why) => tell_events(alloc, room, why),
+        Err(why) => {
+            drop(start);
+            tell_events(alloc, room, why)
+        }
     }
 }

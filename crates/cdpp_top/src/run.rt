@@ -43,6 +43,7 @@ pub(crate) fn run_from<R: Room, M: AtomicModel, L: Ledger>(
         steps.new ≤ steps.old + visits tree (run_of tree events asked.now.end asked.now.limit) }
 {
     let Ok(queue) = LinkedQueue::with_leaves(alloc, start.model.leaves()) else {
+        drop((start, events));
         return NO_MEMORY;
     };
     let run = FlatRun::new(
@@ -59,5 +60,7 @@ pub(crate) fn run_from<R: Room, M: AtomicModel, L: Ledger>(
         return NO_MEMORY;
     };
     let outputs = outputs_of(asked);
-    run_and_tell(alloc, room, &outputs, &mut run, steps)
+    let status = run_and_tell(alloc, room, &outputs, &mut run, steps);
+    drop(run);
+    status
 }

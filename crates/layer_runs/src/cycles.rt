@@ -1,6 +1,7 @@
 // The run of the ring, call by call: a model that is read, a run that is made of it, and what three
 // calls of `cycle` answer and record.
-ghost use Rattle.std.specs.Prelude.{◌≡◌, ◌<◌, ◌≤◌, IfOk};
+ghost use Rattle.std.specs.Prelude.{◌≡◌, ◌<◌, ◌≤◌, IfOk, IsTrue, not};
+ghost use Rattle.std.specs.List.{list_all};
 ghost use Rattle.quantity.specs.declared.bounds.TheConstants.{MAX_DELAY};
 ghost use Rattle.model_read.specs.Read.{IsReady};
 
@@ -74,26 +75,43 @@ fn begun(
     requires end { end ≤ MAX_DELAY }
 {
     let Ok(queue) = LinkedQueue::with_leaves(alloc, model.leaves()) else {
+        drop((stock, model, routes));
         return Err(OutOfMemory);
     };
     let none = Events::none(alloc);
     FlatRun::new(alloc, model, routes, stock, none, queue, end, 10)
 }
 
-/// The run of the ring.
-fn ring_run(alloc: Global) -> Result<Run, Fail> {
+/// Reads the ring.
+fn read_ring(alloc: Global, stock: &mut Stock<CounterModel>) -> Result<(Model, Routes), Fail>
+    requires free { IsTrue (list_all (λ s. not s.taken) stock.old) }
+    ensures ready { IfOk result (λ read. IsReady stock.new read.0 read.1) }
+{
     let text = RING.as_bytes();
     if text.len() > 1000 {
         return Err(Fail::new("a long text"));
     }
+    let mut room = MemoryRoom::new(alloc, 4096);
+    let read = read_model_bytes(alloc, &mut room, text, stock, None);
+    drop(room);
+    match read {
+        Ok(read) => Ok(read),
+        Err(_) => Err(Fail::new("refused")),
+    }
+}
+
+/// The run of the ring.
+fn ring_run(alloc: Global) -> Result<Run, Fail> {
+    let end = time(100)?;
     let boxes: Vec<CounterModel> = Vec::new(alloc);
     let mut stock = Stock::new(alloc, boxes)?;
-    let mut room = MemoryRoom::new(alloc, 4096);
-    let Ok((model, routes)) = read_model_bytes(alloc, &mut room, text, &mut stock, None) else {
-        return Err(Fail::new("refused"));
-    };
-    let end = time(100)?;
-    Ok(begun(alloc, stock, model, routes, end)?)
+    match read_ring(alloc, &mut stock) {
+        Ok((model, routes)) => Ok(begun(alloc, stock, model, routes, end)?),
+        Err(fail) => {
+            drop(stock);
+            Err(fail)
+        }
+    }
 }
 
 /// What leaves gave at an instant.
@@ -220,5 +238,8 @@ fn three_calls<L: Ledger>(
 fn a_run_goes_call_by_call(rt: HostRuntime) -> Result<(), Fail> {
     let mut run = ring_run(rt.alloc())?;
     let blank = Blank::new(1);
-    three_calls::<Brand>(&rt, &mut run, blank)
+    let went = three_calls::<Brand>(&rt, &mut run, blank);
+    // A call, as the end of a scope lays out each part of a run.
+    drop(run);
+    went
 }

@@ -40,8 +40,8 @@ returns-in-Ok-clause-causes g c =
     let e = c.in-Ok.ensures in
     later_ends _ _ _ c.run_with_bytes.result e.only e.misses e.faults c.run_with_bytes.ensures.causes
 
-pub returns-in-Err-Missing-clause-ends : goal.returns-in-Err-Missing-clause-ends
-returns-in-Err-Missing-clause-ends g c =
+pub returns-in-Missing-clause-ends : goal.returns-in-Missing-clause-ends
+returns-in-Missing-clause-ends g c =
     let a = asked_of c.args.asked.now in
     let tree = tree_on c.args.start.model c.args.start.stock in
     let name = c.args.name.now in
@@ -49,36 +49,36 @@ returns-in-Err-Missing-clause-ends g c =
     let mid = g.R.Room.outside c.read_whole.new.room in
     let new = g.R.Room.outside c.complain_named.new.room in
     let given = c.complain_named.result in
-    let e = rw c.in-Err-Missing.field-0-is at c.in-Err-Missing.ensures in
+    let e = rw c.in-Missing.is at c.in-Err.ensures in
     IfSome_then old.files {Q = λ files. (inputs : List Word) → EndsWith (answer_by_file a tree name inputs (files name)) (looked_for inputs) old new given} e.bytes (λ files f inputs.
     subst (λ (o : Answer). EndsWith o (looked_for inputs) old new given) (sym (ap (answer_by_file a tree name inputs) f))
     (read_and_said (answer_by_file a tree name inputs None) inputs old mid new name given (file_begins a tree name inputs None) refl refl e.tried e.only e.faults c.complain_named.ensures))
 
-pub returns-in-Err-Missing-clause-causes : goal.returns-in-Err-Missing-clause-causes
-returns-in-Err-Missing-clause-causes g c =
-    let e = rw c.in-Err-Missing.field-0-is at c.in-Err-Missing.ensures in
+pub returns-in-Missing-clause-causes : goal.returns-in-Missing-clause-causes
+returns-in-Missing-clause-causes g c =
+    let e = rw c.in-Missing.is at c.in-Err.ensures in
     said_ends _ 3 _ _ _ c.complain_named.result (0, lit< tt, refl) (λ e. omega (arith, e)) (λ three. e.missing refl) (λ four. absurd (omega (arith, four))) e.only c.complain_named.ensures
 
-pub returns-in-Err-ReadFault-clause-ends : goal.returns-in-Err-ReadFault-clause-ends
-returns-in-Err-ReadFault-clause-ends g c =
+pub returns-in-ReadFault-clause-ends : goal.returns-in-ReadFault-clause-ends
+returns-in-ReadFault-clause-ends g c =
     let a = asked_of c.args.asked.now in
     let tree = tree_on c.args.start.model c.args.start.stock in
     let name = c.args.name.now in
     let old = g.R.Room.outside c.args.room.now in
     let mid = g.R.Room.outside c.read_whole.new.room in
-    let new = g.R.Room.outside c.complain_named-in-Err-ReadFault.new.room in
-    let given = c.complain_named-in-Err-ReadFault.result in
-    let e = rw c.in-Err-ReadFault.field-0-is at c.in-Err-ReadFault.ensures in
+    let new = g.R.Room.outside c.complain_named-in-ReadFault.new.room in
+    let given = c.complain_named-in-ReadFault.result in
+    let e = rw c.in-ReadFault.is at c.in-Err.ensures in
     if_some_all old.files _ (λ files inputs.
-    read_failed (answer_by_file a tree name inputs (files name)) inputs old mid new name given (file_begins a tree name inputs (files name)) e.tried e.only e.faults (e.fault refl) c.complain_named-in-Err-ReadFault.ensures)
+    read_failed (answer_by_file a tree name inputs (files name)) inputs old mid new name given (file_begins a tree name inputs (files name)) e.tried e.only e.faults (e.fault refl) c.complain_named-in-ReadFault.ensures)
 
-pub returns-in-Err-ReadFault-clause-causes : goal.returns-in-Err-ReadFault-clause-causes
-returns-in-Err-ReadFault-clause-causes g c =
-    let e = rw c.in-Err-ReadFault.field-0-is at c.in-Err-ReadFault.ensures in
-    said_ends _ 4 _ _ _ c.complain_named-in-Err-ReadFault.result (1, lit< tt, refl) (λ e. omega (arith, e)) (λ three. absurd (omega (arith, three))) (λ four. e.fault refl) e.only c.complain_named-in-Err-ReadFault.ensures
+pub returns-in-ReadFault-clause-causes : goal.returns-in-ReadFault-clause-causes
+returns-in-ReadFault-clause-causes g c =
+    let e = rw c.in-ReadFault.is at c.in-Err.ensures in
+    said_ends _ 4 _ _ _ c.complain_named-in-ReadFault.result (1, lit< tt, refl) (λ e. omega (arith, e)) (λ three. absurd (omega (arith, three))) (λ four. e.fault refl) e.only c.complain_named-in-ReadFault.ensures
 
-pub returns-in-Err-TooLong-clause-ends : goal.returns-in-Err-TooLong-clause-ends
-returns-in-Err-TooLong-clause-ends g c =
+pub returns-in-TooLong-clause-ends : goal.returns-in-TooLong-clause-ends
+returns-in-TooLong-clause-ends g c =
     let a = asked_of c.args.asked.now in
     let tree = tree_on c.args.start.model c.args.start.stock in
     let name = c.args.name.now in
@@ -86,31 +86,31 @@ returns-in-Err-TooLong-clause-ends g c =
     let mid = g.R.Room.outside c.read_whole.new.room in
     let new = g.R.Room.outside c.tell_events.new.room in
     let given = c.tell_events.result in
-    let e = rw c.in-Err-TooLong.field-0-is at c.in-Err-TooLong.ensures in
+    let e = rw c.in-TooLong.is at c.in-Err.ensures in
     IfSome_then old.files {Q = λ files. (inputs : List Word) → EndsWith (answer_by_file a tree name inputs (files name)) (looked_for inputs) old new given} e.bytes (λ files f inputs.
     let x = only_complains 7 (events_refused (E.TooLarge 0)) (inputs ++ name ∷ []) in
     let is = ap (answer_by_file a tree name inputs) f.1 ∙ ap (answer_by_events a tree (inputs ++ name ∷ [])) (long_refused f.0 (ins_of tree) (omega (arith, f.2, f.3))) in
     subst (λ (o : Answer). EndsWith o (looked_for inputs) old new given) (sym is)
     (read_and_said x inputs old mid new name given ([], sym (append-nil (inputs ++ name ∷ []))) refl refl e.tried e.only e.faults c.tell_events.ensures))
 
-pub returns-in-Err-TooLong-clause-causes : goal.returns-in-Err-TooLong-clause-causes
-returns-in-Err-TooLong-clause-causes g c =
-    let e = rw c.in-Err-TooLong.field-0-is at c.in-Err-TooLong.ensures in
+pub returns-in-TooLong-clause-causes : goal.returns-in-TooLong-clause-causes
+returns-in-TooLong-clause-causes g c =
+    let e = rw c.in-TooLong.is at c.in-Err.ensures in
     events_told (E.TooLarge 0) _ _ _ c.tell_events.result e.only c.tell_events.ensures
 
-pub returns-clause-ends : goal.returns-clause-ends
-returns-clause-ends g c =
+pub returns-in-Memory-clause-ends : goal.returns-in-Memory-clause-ends
+returns-in-Memory-clause-ends g c =
     let a = asked_of c.args.asked.now in
     let tree = tree_on c.args.start.model c.args.start.stock in
     let name = c.args.name.now in
     let old = g.R.Room.outside c.args.room.now in
     let mid = g.R.Room.outside c.read_whole.new.room in
-    let e = rw c.in-Err-Memory.field-0-is at c.in-Err-Memory.ensures in
+    let e = rw c.in-Memory.is at c.in-Err.ensures in
     if_some_all old.files _ (λ files inputs.
     read_unread (answer_by_file a tree name inputs (files name)) inputs old mid name (file_begins a tree name inputs (files name)) e.tried e.only e.faults)
 
-pub returns-clause-causes : goal.returns-clause-causes
-returns-clause-causes g c = memory_ends _ _
+pub returns-in-Memory-clause-causes : goal.returns-in-Memory-clause-causes
+returns-in-Memory-clause-causes g c = memory_ends _ _
 
 -- ---- visits
 
@@ -125,18 +125,18 @@ returns-in-Ok-clause-visits g c =
     subst (λ (o : Option Bytes). within (visits_by_file a tree o)) (sym f.0)
     (subst (λ bytes. within (visits_by_events a tree (events_of bytes (ins_of tree)))) c.deref.ensures.value c.run_with_bytes.ensures.visits))
 
-pub returns-in-Err-Missing-clause-visits : goal.returns-in-Err-Missing-clause-visits
-returns-in-Err-Missing-clause-visits g c =
+pub returns-in-Missing-clause-visits : goal.returns-in-Missing-clause-visits
+returns-in-Missing-clause-visits g c =
     if_some_all (g.R.Room.outside c.args.room.now).files _ (λ files. omega arith)
 
-pub returns-in-Err-ReadFault-clause-visits : goal.returns-in-Err-ReadFault-clause-visits
-returns-in-Err-ReadFault-clause-visits g c =
+pub returns-in-ReadFault-clause-visits : goal.returns-in-ReadFault-clause-visits
+returns-in-ReadFault-clause-visits g c =
     if_some_all (g.R.Room.outside c.args.room.now).files _ (λ files. omega arith)
 
-pub returns-in-Err-TooLong-clause-visits : goal.returns-in-Err-TooLong-clause-visits
-returns-in-Err-TooLong-clause-visits g c =
+pub returns-in-TooLong-clause-visits : goal.returns-in-TooLong-clause-visits
+returns-in-TooLong-clause-visits g c =
     if_some_all (g.R.Room.outside c.args.room.now).files _ (λ files. omega arith)
 
-pub returns-clause-visits : goal.returns-clause-visits
-returns-clause-visits g c =
+pub returns-in-Memory-clause-visits : goal.returns-in-Memory-clause-visits
+returns-in-Memory-clause-visits g c =
     if_some_all (g.R.Room.outside c.args.room.now).files _ (λ files. omega arith)

@@ -26,8 +26,8 @@ returns-in_default-run-clause-ends g c = λ inputs.
 pub returns-in_default-run-clause-causes : goal.returns-in_default-run-clause-causes
 returns-in_default-run-clause-causes g c = memory_ends _ _
 
-pub run_and_tell-requires : goal.run_and_tell-requires
-run_and_tell-requires g c =
+pub run_and_tell-status-requires : goal.run_and_tell-status-requires
+run_and_tell-status-requires g c =
     let e = c.in-Ok-run.ensures in
     may_run c.args.asked.now c.outputs_of-outputs.result c.in-Ok-run.run' c.args.start.model c.args.start.stock c.args.start.routes c.args.events c.requires.start c.outputs_of-outputs.ensures
     (record { model = e.model; settings = e.settings; state = e.state; end_is = e.end; limit_is = e.limit; goes = e.goes })
@@ -37,12 +37,12 @@ returns-clause-ends g c = λ inputs.
     let e = c.in-Ok-run.ensures in
     let a = asked_of c.args.asked.now in
     let old = g.R.Room.outside c.args.room.now in
-    let new = g.R.Room.outside c.run_and_tell.new.room in
+    let new = g.R.Room.outside c.run_and_tell-status.new.room in
     let same = same_answer c.args.asked.now c.in-Ok-run.run' c.args.start.model c.args.start.stock c.args.events inputs (record { model = e.model; settings = e.settings; state = e.state; end_is = e.end; limit_is = e.limit; goes = e.goes }) in
-    subst (λ (x : Answer). EndsWith x (looked_for inputs) old new c.run_and_tell.result) same (c.run_and_tell.ensures.ends a inputs c.outputs_of-outputs.ensures)
+    subst (λ (x : Answer). EndsWith x (looked_for inputs) old new c.run_and_tell-status.result) same (c.run_and_tell-status.ensures.ends a inputs c.outputs_of-outputs.ensures)
 
 pub returns-clause-causes : goal.returns-clause-causes
-returns-clause-causes g c = run_ends _ _ c.run_and_tell.result c.run_and_tell.ensures.known c.run_and_tell.ensures.write_fault
+returns-clause-causes g c = run_ends _ _ c.run_and_tell-status.result c.run_and_tell-status.ensures.known c.run_and_tell-status.ensures.write_fault
 
 pub returns-clause-visits : goal.returns-clause-visits
 returns-clause-visits g c =
@@ -51,5 +51,5 @@ returns-clause-visits g c =
     let s = c.in-Ok-run.run' in
     let made : IsMadeOf s c.args.start.model c.args.start.stock c.args.events a.end a.limit = record { model = e.model; settings = e.settings; state = e.state; end_is = e.end; limit_is = e.limit; goes = e.goes } in
     let may = may_run a c.outputs_of-outputs.result s c.args.start.model c.args.start.stock c.args.start.routes c.args.events c.requires.start c.outputs_of-outputs.ensures made in
-    subst (λ (k : ℕ). c.run_and_tell.new.steps ≤ c.args.steps.now + k)
-    (run_visits c.outputs_of-outputs.result s c.args.start.model c.args.start.stock c.args.events a.end a.limit may made) c.run_and_tell.ensures.visits
+    subst (λ (k : ℕ). c.run_and_tell-status.new.steps ≤ c.args.steps.now + k)
+    (run_visits c.outputs_of-outputs.result s c.args.start.model c.args.start.stock c.args.events a.end a.limit may made) c.run_and_tell-status.ensures.visits
