@@ -6,4 +6,6 @@ mod classes;
 #[cfg(test)]
 mod inputs;
 #[cfg(test)]
+mod moves;
+#[cfg(test)]
 mod tables;

@@ -5,7 +5,7 @@ ghost use Rattle.std.specs.List.{HoldsAt};
 ghost use Rattle.quantity.specs.Bytes.{is_among};
 ghost use Rattle.atomic_face.specs.Settings.{are_once, once_keys};
 
-use crate::inputs::{at, input};
+use crate::moves::{Moves, goes};
 use atomic_face::{AtomicModel, BoxNo, Class, Param, Params, Stock};
 use quantity::Text;
 use state_tables::TableModel;
@@ -37,7 +37,7 @@ impl Line<'_> {
     }
 }
 
-fn param(alloc: Global, line: u32, key: &[u8], value: &[u8]) -> Result<Param, Fail>
+pub(crate) fn param(alloc: Global, line: u32, key: &[u8], value: &[u8]) -> Result<Param, Fail>
     ensures { IfOk result (λ p. p.key ≡ key.now) }
 {
     let key = Text::copy(alloc, key)?;
@@ -98,32 +98,30 @@ fn settled<M: AtomicModel>(
     Ok(no)
 }
 
-// The box gives 1 at 60 ms, and has the state of this, which can be restored.
-fn stands<M: AtomicModel>(
+// At 30 ms the light turns green, and 9 turns it red again.
+const CHANGE: Moves<'static> = Moves {
+    start: 30,
+    bag: &[(0, 9)],
+    due: 60,
+    values: &[(0, 1)],
+    state: &[0, 60, 900_000],
+};
+
+// A light that changes.
+fn changes<M: AtomicModel>(
     rt: &impl Abort,
     alloc: Global,
     stock: &mut Stock<M>,
-    no: BoxNo,
-) -> Result<(), Fail>
-    requires { no.0 < length stock.old }
-{
-    assert_eq!(rt; stock.next(no).map(|time| time.ms()), Some(60));
-    let mut into = Vec::new(alloc);
-    stock.output(no, &mut into)?;
-    assert_eq!(rt; into.as_slice(), [input(0, 1)].as_slice());
-    let mut state = Vec::new(alloc);
-    stock.save(no, &mut state)?;
-    assert_eq!(rt; state.as_slice(), [0, 60, 900_000].as_slice());
-    stock.restore(no, alloc, &state)?;
-    Ok(())
+) -> Result<(), Fail> {
+    let params = light(alloc)?;
+    let no = settled(stock, alloc, &params)?;
+    goes(rt, alloc, stock, no, &CHANGE)
 }
 
-// At 30 ms the light turns green, and 9 turns it red again.
+// A table that is put into a stock.
 fn change<M: AtomicModel>(rt: &impl Abort, alloc: Global, model: M) -> Result<(), Fail> {
     let mut stock = stocked(alloc, model)?;
-    let no = settled(&mut stock, alloc, &light(alloc)?)?;
-    stock.advance(no, at(30), &[input(0, 9)])?;
-    stands(rt, alloc, &mut stock, no)
+    changes(rt, alloc, &mut stock)
 }
 
 #[test]

@@ -1,7 +1,6 @@
-// The store of a group of one cell, call by call: each call is run once with ample memory, at values
-// worked out by hand.
+// The store of a group of one cell, call by call: each call is run once with ample memory, at
+// values worked out by hand.
 ghost use Rattle.std.specs.Prelude.{◌≡◌, ◌<◌, ◌≤◌, IfOk, length};
-ghost use Rattle.quantity.specs.declared.bounds.TheConstants.{MAX_DELAY};
 ghost use Rattle.model_read.specs.Read.{IsReady};
 
 use atomic_face::{PortNo, Stock};
@@ -255,40 +254,105 @@ fn takes_and_gives<L: Ledger>(
 }
 
 /// A cell that is given a state.
-fn has_state<L: Ledger>(rt: &(impl Abort + AllocGlobal), steps: &mut Steps<L>) -> Result<(), Fail> {
-    let mut store = one_cell(rt.alloc(), "", 0)?;
-    is_put(rt, &mut store)?;
+fn has_state<L: Ledger>(
+    rt: &(impl Abort + AllocGlobal),
+    store: &mut CellStore,
+    steps: &mut Steps<L>,
+) -> Result<(), Fail>
+    requires ports { store.old.layout.ports ≡ 0 }
+    requires variables { store.old.layout.variables ≡ 0 }
+{
+    is_put(rt, store)?;
     let wanted = Wanted {
         emitted: b'2',
         computed: b'3',
         pairs: &[(5, b'4')],
     };
-    stands(rt, &store, steps, &wanted)
+    stands(rt, store, steps, &wanted)
 }
 
 /// A cell that has a variable.
 fn has_variable<L: Ledger>(
-    rt: &(impl Abort + AllocGlobal),
+    rt: &impl Abort,
+    store: &CellStore,
     steps: &mut Steps<L>,
-) -> Result<(), Fail> {
+) -> Result<(), Fail>
+    requires { 0 < store.now.layout.variables }
+{
     let seven = digit(b'7')?;
-    let store = one_cell(rt.alloc(), "statevariables : n\nstatevalues : 7\n", 1)?;
     assert_eq!(rt; store.cells(), 1);
     assert_eq!(rt; store.variable(0, 0, steps), seven);
     Ok(())
 }
 
-/// All calls, with one counter of visits.
+/// What is done with a store: the further lines of its group, how many variables these give it, and
+/// whether its cell is given a state.
+#[derive(Clone, Copy)]
+struct Story<'a> {
+    lines: &'a str,
+    variables: usize,
+    is_put: bool,
+}
+
+/// A cell that takes and gives, one that is given a state, and one that has a variable.
+const STORIES: [Story<'static>; 3] = [
+    Story {
+        lines: "",
+        variables: 0,
+        is_put: false,
+    },
+    Story {
+        lines: "",
+        variables: 0,
+        is_put: true,
+    },
+    Story {
+        lines: "statevariables : n\nstatevalues : 7\n",
+        variables: 1,
+        is_put: false,
+    },
+];
+
+/// A story of a store that is lent.
+fn goes<L: Ledger>(
+    rt: &(impl Abort + AllocGlobal),
+    store: &mut CellStore,
+    steps: &mut Steps<L>,
+    story: &Story<'_>,
+) -> Result<(), Fail>
+    requires ports { store.old.layout.ports ≡ 0 }
+    requires variables { store.old.layout.variables ≡ story.now.variables }
+{
+    if story.variables != 0 {
+        return has_variable(rt, store, steps);
+    }
+    if story.is_put {
+        return has_state(rt, store, steps);
+    }
+    takes_and_gives(rt, store, steps)
+}
+
+/// A story of a store of its own. To let go of a store is dear to prove: it is done here alone.
+fn is_told<L: Ledger>(
+    rt: &(impl Abort + AllocGlobal),
+    steps: &mut Steps<L>,
+    story: &Story<'_>,
+) -> Result<(), Fail> {
+    let mut store = one_cell(rt.alloc(), story.lines, story.variables)?;
+    goes(rt, &mut store, steps, story)
+}
+
+/// All stories, with one counter of visits.
 fn answers<L: Ledger>(rt: &(impl Abort + AllocGlobal), blank: Blank) -> Result<(), Fail>
     requires name { blank.name ≡ L.name }
     requires parts { blank.parts ≡ L.parts }
     requires some { 0 < L.parts }
 {
     let mut steps: Steps<L> = Steps::new(blank);
-    let mut store = one_cell(rt.alloc(), "", 0)?;
-    takes_and_gives(rt, &mut store, &mut steps)?;
-    has_state(rt, &mut steps)?;
-    has_variable(rt, &mut steps)
+    for story in &STORIES {
+        is_told(rt, &mut steps, story)?;
+    }
+    Ok(())
 }
 
 #[test]

@@ -2,6 +2,7 @@
 use cell_grid::{Border, Grid};
 use frame_draw::Frames;
 use quantity::{Raw, Time, Value};
+use std::process::Abort;
 use std::test::Fail;
 
 /// So many hundred-thousandths.
@@ -10,6 +11,14 @@ fn number(raw: i64) -> Value {
         Some(raw) => Value::Num(raw),
         None => Value::Undefined,
     }
+}
+
+/// Compares the frame of the instant that ends with a text.
+fn ends(rt: &(impl Abort + AllocGlobal), frames: &mut Frames, frame: &[u8]) -> Result<(), Fail> {
+    let mut text = Vec::new(rt.alloc());
+    frames.finish(&mut text)?;
+    assert_eq!(rt; text.as_slice(), frame);
+    Ok(())
 }
 
 #[test]
@@ -22,11 +31,11 @@ fn one_instant_is_drawn(rt: HostRuntime) -> Result<(), Fail> {
     frames.take(0, start, number(0));
     frames.take(1, start, number(100_000));
     frames.take(2, start, number(0));
-    let mut text = Vec::new(rt.alloc());
-    frames.finish(&mut text)?;
-    let frame = b"Time: 00:00:00:000\n+------+\n| 0 1 0|\n+------+\n\n".as_slice();
-    assert_eq!(rt; text.as_slice(), frame);
-    Ok(())
+    ends(
+        &rt,
+        &mut frames,
+        b"Time: 00:00:00:000\n+------+\n| 0 1 0|\n+------+\n\n",
+    )
 }
 
 #[test]
@@ -38,9 +47,9 @@ fn wide_values_stay_whole(rt: HostRuntime) -> Result<(), Fail> {
     let mut frames = Frames::new(rt.alloc(), &grid, 0, 1, 0)?;
     frames.preset(0, number(1_200_000));
     frames.take(1, start, number(-40_000));
-    let mut text = Vec::new(rt.alloc());
-    frames.finish(&mut text)?;
-    let frame = b"Time: 00:00:00:000\n+---+\n|120?|\n+---+\n\n".as_slice();
-    assert_eq!(rt; text.as_slice(), frame);
-    Ok(())
+    ends(
+        &rt,
+        &mut frames,
+        b"Time: 00:00:00:000\n+---+\n|120?|\n+---+\n\n",
+    )
 }

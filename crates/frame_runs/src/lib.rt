@@ -1,7 +1,5 @@
-//! Frames that are drawn: instant by instant, and by runs of `drawlog`.
+//! Frames that are drawn, instant by instant.
 #![tactic(auto)]
 
-#[cfg(test)]
-mod drawings;
 #[cfg(test)]
 mod frames;

@@ -1,8 +1,8 @@
 // Each model of the gallery is read, over two boxes of each class.
-ghost use Rattle.std.specs.Prelude.{◌≡◌, ◌+◌, ◌<◌, ◌^◌, length, IfOk};
+ghost use Rattle.std.specs.Prelude.{◌<◌, ◌^◌, length, IfOk};
 
 use crate::texts::{FILES, MODELS};
-use atomic_face::{AtomicModel, Stock};
+use atomic_face::{AtomicModel, Class, Stock};
 use atomic_kinds::{CounterModel, CpuModel, GeneratorModel, QueueModel};
 use model_read::{ModelRefusal, read_model};
 use model_tree::Model;
@@ -10,6 +10,7 @@ use room_edge::MemoryRoom;
 use route_flat::Routes;
 use state_tables::TableModel;
 use std::alloc::Global;
+use std::process::Abort;
 use std::test::Fail;
 
 /// Whether there is a model.
@@ -31,41 +32,78 @@ fn is_read_over<M: AtomicModel>(
     Ok(read)
 }
 
-/// Puts a box of each class behind the others.
-fn push_each(alloc: Global, boxes: &mut Vec<Box<dyn AtomicModel>>) -> Result<(), Fail>
-    ensures { IfOk result (λ _. length boxes.new.items ≡ length boxes.old.items + 5) }
-{
-    let queue: Box<dyn AtomicModel> = Box::new(alloc, QueueModel::new(alloc))?;
-    boxes.push(queue)?;
-    let generator: Box<dyn AtomicModel> = Box::new(alloc, GeneratorModel::new())?;
-    boxes.push(generator)?;
-    let cpu: Box<dyn AtomicModel> = Box::new(alloc, CpuModel::new(alloc))?;
-    boxes.push(cpu)?;
-    let counter: Box<dyn AtomicModel> = Box::new(alloc, CounterModel::new())?;
-    boxes.push(counter)?;
-    let table: Box<dyn AtomicModel> = Box::new(alloc, TableModel::new(alloc)?)?;
-    boxes.push(table)?;
+/// A box of a class.
+fn box_of(alloc: Global, class: Class) -> Result<Box<dyn AtomicModel>, Fail> {
+    let model: Box<dyn AtomicModel> = match class {
+        Class::Queue => Box::new(alloc, QueueModel::new(alloc))?,
+        Class::Generator => Box::new(alloc, GeneratorModel::new())?,
+        Class::Cpu => Box::new(alloc, CpuModel::new(alloc))?,
+        Class::Counter => Box::new(alloc, CounterModel::new())?,
+        Class::Table => Box::new(alloc, TableModel::new(alloc)?)?,
+    };
+    Ok(model)
+}
+
+/// Two of each class.
+const CLASSES: [Class; 10] = [
+    Class::Queue,
+    Class::Generator,
+    Class::Cpu,
+    Class::Counter,
+    Class::Table,
+    Class::Queue,
+    Class::Generator,
+    Class::Cpu,
+    Class::Counter,
+    Class::Table,
+];
+
+/// Puts two boxes of each class behind the others.
+fn push_boxes(alloc: Global, boxes: &mut Vec<Box<dyn AtomicModel>>) -> Result<(), Fail> {
+    for class in &CLASSES {
+        boxes.push(box_of(alloc, *class)?)?;
+    }
     Ok(())
+}
+
+/// Two boxes of each class.
+fn boxes_of(alloc: Global) -> Result<Vec<Box<dyn AtomicModel>>, Fail>
+    ensures { IfOk result (λ boxes. length boxes.items < 2 ^ 32) }
+{
+    let mut boxes: Vec<Box<dyn AtomicModel>> = Vec::new(alloc);
+    push_boxes(alloc, &mut boxes)?;
+    if boxes.len() > CLASSES.len() {
+        return Err(Fail::new("many boxes"));
+    }
+    Ok(boxes)
 }
 
 /// Whether the model of a file is read.
 fn is_read(alloc: Global, room: &mut MemoryRoom, name: &str) -> Result<bool, Fail> {
-    let mut boxes: Vec<Box<dyn AtomicModel>> = Vec::new(alloc);
-    push_each(alloc, &mut boxes)?;
-    push_each(alloc, &mut boxes)?;
+    let boxes = boxes_of(alloc)?;
     is_read_over(alloc, room, name, boxes)
+}
+
+/// Puts the files into the room that models name.
+fn put_files(room: &mut MemoryRoom) -> Result<(), Fail> {
+    for (name, text) in &FILES {
+        room.put_file(name, text.as_bytes())?;
+    }
+    Ok(())
+}
+
+/// Reads each model over the files.
+fn all_are_read(rt: &(impl Abort + AllocGlobal), room: &mut MemoryRoom) -> Result<(), Fail> {
+    put_files(room)?;
+    for (name, text) in &MODELS {
+        room.put_file(name, text.as_bytes())?;
+        assert!(rt; is_read(rt.alloc(), room, name)?, "{name}");
+    }
+    Ok(())
 }
 
 #[test]
 fn models_of_the_gallery_are_read(rt: HostRuntime) -> Result<(), Fail> {
-    let alloc = rt.alloc();
-    let mut room = MemoryRoom::new(alloc, 4096);
-    for (name, text) in FILES {
-        room.put_file(name, text.as_bytes())?;
-    }
-    for (name, text) in MODELS {
-        room.put_file(name, text.as_bytes())?;
-        assert!(rt; is_read(alloc, &mut room, name)?, "{name}");
-    }
-    Ok(())
+    let mut room = MemoryRoom::new(rt.alloc(), 4096);
+    all_are_read(&rt, &mut room)
 }

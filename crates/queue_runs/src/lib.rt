@@ -6,8 +6,6 @@ mod delay_lists;
 #[cfg(test)]
 mod leaf_sets;
 #[cfg(test)]
-mod linked_queues;
-#[cfg(test)]
 mod moves;
 #[cfg(test)]
 mod queues;

@@ -14,18 +14,19 @@ pub(crate) fn moves_carried_out<Q: TimeQueue>(
 ) -> Result<Vec<Reply>, OutOfMemory>
     requires { length (Q.waiting queue.old) ≡ 5 }
 {
+    let [seven, nine, thirty] = [time(7), time(9), time(30)];
     let moves = [
-        Move::Set(2, time(7)),
-        Move::Set(0, time(7)),
-        Move::Set(1, time(9)),
-        Move::Set(2, time(9)),
-        Move::TakeAll(time(9)),
-        Move::Set(4, time(30)),
-        Move::Set(3, time(30)),
-        Move::Set(1, time(30)),
+        Move::Set(2, seven),
+        Move::Set(0, seven),
+        Move::Set(1, nine),
+        Move::Set(2, nine),
+        Move::TakeAll(nine),
+        Move::Set(4, thirty),
+        Move::Set(3, thirty),
+        Move::Set(1, thirty),
         Move::Clear(3),
-        Move::TakeAll(time(7)),
-        Move::TakeAll(time(30)),
+        Move::TakeAll(seven),
+        Move::TakeAll(thirty),
     ];
     replay(alloc, queue, 5, &moves)
 }

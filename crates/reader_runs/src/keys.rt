@@ -1,8 +1,10 @@
 // Keys of whole files, with enough memory.
-use ma_lines::Lines;
+use ma_lines::{Lines, Sections};
 use model_keys::keys_refused;
 use model_text::Kind;
 use model_walk::walk;
+use std::alloc::Global;
+use std::process::Abort;
 use std::test::Fail;
 
 const RIGHT: &[u8] =
@@ -19,22 +21,44 @@ const FEW_VALUES: &[u8] =
 const PARAMETER_AGAIN: &[u8] =
     b"[top]\ncomponents : q@queue\n[q]\npreparation : 0:0:1:0\npreparation : 0:0:2:0\n";
 
+/// Files, and how their keys are refused.
+const FILES: [(&[u8], Option<(u32, Kind)>); 5] = [
+    (RIGHT, None),
+    (PORT_AGAIN, Some((4, Kind::BadValue))),
+    (DOUBLE_SPACE, Some((5, Kind::BadValue))),
+    (FEW_VALUES, Some((8, Kind::BadValue))),
+    (PARAMETER_AGAIN, Some((5, Kind::DuplicateKey))),
+];
+
+/// How the keys of these sections are refused.
+fn refused(alloc: Global, sections: &Sections) -> Result<Option<(u32, Kind)>, Fail> {
+    let walked = walk(alloc, sections)?;
+    Ok(match keys_refused(alloc, sections, &walked)? {
+        Some(refused) => Some((refused.line, refused.kind)),
+        None => None,
+    })
+}
+
+/// Reads a file, and compares how its keys are refused.
+fn is_refused(
+    rt: &(impl Abort + AllocGlobal),
+    file: &[u8],
+    expected: Option<(u32, Kind)>,
+) -> Result<(), Fail> {
+    if file.len() > 1000 {
+        return Err(Fail::new("a long file"));
+    }
+    let sections = Lines::read(rt.alloc(), file)
+        .ok()
+        .ok_or("a file that is read")?;
+    assert_eq!(rt; refused(rt.alloc(), &sections)?, expected);
+    Ok(())
+}
+
 #[test]
 fn the_least_key_is_refused(rt: HostRuntime) -> Result<(), Fail> {
-    let rows: [(&[u8], Option<(u32, Kind)>); 5] = [
-        (RIGHT, None),
-        (PORT_AGAIN, Some((4, Kind::BadValue))),
-        (DOUBLE_SPACE, Some((5, Kind::BadValue))),
-        (FEW_VALUES, Some((8, Kind::BadValue))),
-        (PARAMETER_AGAIN, Some((5, Kind::DuplicateKey))),
-    ];
-    for (file, expected) in rows {
-        let sections = Lines::read(rt.alloc(), file)
-            .ok()
-            .ok_or("a file that is read")?;
-        let walked = walk(rt.alloc(), &sections)?;
-        let why = keys_refused(rt.alloc(), &sections, &walked)?;
-        assert_eq!(rt; why.map(|refused| (refused.line, refused.kind)), expected);
+    for (file, expected) in &FILES {
+        is_refused(&rt, file, *expected)?;
     }
     Ok(())
 }

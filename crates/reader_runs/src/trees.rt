@@ -5,6 +5,7 @@ use cell_grid::{Border, Grid, Initial, Zones};
 use model_tree::{CellGroup, Component, Coupled, End, Link, LinkRefusal, Model};
 use quantity::{DelayKind, Name, OutOfMemory, Time, Value};
 use std::alloc::{AllocError, Global};
+use std::process::Abort;
 use std::test::Fail;
 
 fn name(alloc: Global, text: &[u8]) -> Result<Name, OutOfMemory> {
@@ -85,34 +86,62 @@ fn called(model: &Model, leaf: u32, into: &mut Vec<u8>) -> Result<(), OutOfMemor
     Ok(())
 }
 
-#[test]
-fn links_are_added_and_refused(rt: HostRuntime) -> Result<(), Fail> {
-    let mut group = group(rt.alloc())?;
-    for (port, cell, want) in [
-        (b"w".as_slice(), 4, Ok(())),
-        (b"v".as_slice(), 4, Ok(())),
-        (b"w".as_slice(), 4, Err(LinkRefusal::DuplicateLink)),
-        (b"w".as_slice(), 6, Err(LinkRefusal::UnknownPort)),
-    ] {
-        let link = into_cell(rt.alloc(), port, cell)?;
-        assert_eq!(rt; group.link(link), want);
+/// A port, a cell, and what comes of a link to them.
+type Joined<'a> = (&'a [u8], u32, Result<(), LinkRefusal>);
+
+/// Links that are added and refused.
+const LINKS: [Joined<'static>; 4] = [
+    (b"w", 4, Ok(())),
+    (b"v", 4, Ok(())),
+    (b"w", 4, Err(LinkRefusal::DuplicateLink)),
+    (b"w", 6, Err(LinkRefusal::UnknownPort)),
+];
+
+/// Adds the links to the group.
+fn join(rt: &(impl Abort + AllocGlobal), group: &mut CellGroup) -> Result<(), Fail> {
+    for (port, cell, want) in &LINKS {
+        let joined = group.link(into_cell(rt.alloc(), port, *cell)?);
+        assert_eq!(rt; joined, *want);
     }
-    assert_eq!(rt; ports_of(rt.alloc(), &group, 4)?, 2);
-    let mut top = around(rt.alloc(), group)?;
-    let link = Link {
-        from: End::Own(name(rt.alloc(), b"p")?),
-        to: End::Child(name(rt.alloc(), b"p")?, name(rt.alloc(), b"b")?),
-    };
+    assert_eq!(rt; ports_of(rt.alloc(), group, 4)?, 2);
+    Ok(())
+}
+
+/// From the input `p` to the group's input `p`.
+fn into_group(alloc: Global) -> Result<Link, OutOfMemory> {
+    Ok(Link {
+        from: End::Own(name(alloc, b"p")?),
+        to: End::Child(name(alloc, b"p")?, name(alloc, b"b")?),
+    })
+}
+
+/// Links the component to its group.
+fn join_group(rt: &(impl Abort + AllocGlobal), top: &mut Coupled) -> Result<(), Fail> {
+    let link = into_group(rt.alloc())?;
     assert_eq!(rt; top.link(link), Ok(()));
     Ok(())
 }
 
 #[test]
-fn leaves_and_ports_are_called(rt: HostRuntime) -> Result<(), Fail> {
+fn links_are_added_and_refused(rt: HostRuntime) -> Result<(), Fail> {
     let mut group = group(rt.alloc())?;
-    let _added = group.link(into_cell(rt.alloc(), b"v", 4)?);
-    let top = around(rt.alloc(), group)?;
-    let model = Model::new(rt.alloc(), top)?;
+    join(&rt, &mut group)?;
+    let mut top = around(rt.alloc(), group)?;
+    join_group(&rt, &mut top)
+}
+
+/// A model of the component with the group, in which the input leads to a cell.
+fn model_of(alloc: Global) -> Result<Model, Fail> {
+    let link = into_cell(alloc, b"v", 4)?;
+    let mut group = group(alloc)?;
+    let _added = group.link(link);
+    let top = around(alloc, group)?;
+    Ok(Model::new(alloc, top)?)
+}
+
+#[test]
+fn leaves_and_ports_are_called(rt: HostRuntime) -> Result<(), Fail> {
+    let model = model_of(rt.alloc())?;
     let mut text = Vec::new(rt.alloc());
     called(&model, 4, &mut text)?;
     assert_eq!(rt; text.as_slice(), b"b(1,1)outv".as_slice());

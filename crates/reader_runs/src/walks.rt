@@ -1,15 +1,15 @@
 // A walk, with enough memory.
-use ma_lines::Lines;
+use ma_lines::{Lines, Sections};
 use model_walk::{Walked, walk};
-use std::alloc::{AllocError, Global};
+use std::alloc::AllocError;
+use std::process::Abort;
 use std::test::Fail;
 
 const MODEL: &[u8] =
     b"[top]\ncomponents : a line\n[line]\ntype : cell\n[b]\ncomponents : c@cpu\n[a]\ncomponents : q@queue\ncomponents : b\n";
 
-/// The names of the sections, then the items.
-fn listed(alloc: Global, walked: &Walked<'_>) -> Result<Vec<u8>, AllocError> {
-    let mut text = Vec::new(alloc);
+/// Puts the names of the sections behind a text, then the items.
+fn list(text: &mut Vec<u8>, walked: &Walked<'_>) -> Result<(), AllocError> {
     for section in &walked.sections {
         text.extend_from_slice(section.name.as_bytes())?;
         text.push(b' ')?;
@@ -18,7 +18,17 @@ fn listed(alloc: Global, walked: &Walked<'_>) -> Result<Vec<u8>, AllocError> {
         text.push(b' ')?;
         text.extend_from_slice(item.text)?;
     }
-    Ok(text)
+    Ok(())
+}
+
+/// Walks the sections, and compares what is listed.
+fn goes_down_first(rt: &(impl Abort + AllocGlobal), sections: &Sections) -> Result<(), Fail> {
+    let walked = walk(rt.alloc(), sections)?;
+    let mut text = Vec::new(rt.alloc());
+    list(&mut text, &walked)?;
+    let expected = b"top a b line  a q@queue b c@cpu line".as_slice();
+    assert_eq!(rt; text.as_slice(), expected);
+    Ok(())
 }
 
 #[test]
@@ -26,8 +36,5 @@ fn a_walk_goes_down_first(rt: HostRuntime) -> Result<(), Fail> {
     let sections = Lines::read(rt.alloc(), MODEL)
         .ok()
         .ok_or("a file that is read")?;
-    let walked = walk(rt.alloc(), &sections)?;
-    let expected = b"top a b line  a q@queue b c@cpu line".as_slice();
-    assert_eq!(rt; listed(rt.alloc(), &walked)?.as_slice(), expected);
-    Ok(())
+    goes_down_first(&rt, &sections)
 }

@@ -68,31 +68,46 @@ fn counts(set: &SetVariable) -> bool {
     }
 }
 
+// Whether what a rule gives, sets, its delay and its condition are those of the text.
+fn are_right(rule: &RuleTree) -> (bool, bool, bool, bool) {
+    let gives = match rule.gives.as_slice() {
+        [give] => is_greater_at_p(give),
+        _ => false,
+    };
+    let sets = match rule.sets.as_slice() {
+        [set] => counts(set),
+        _ => false,
+    };
+    (
+        gives,
+        sets,
+        is_number(&rule.delay, 10_000_000),
+        matches!(rule.condition, Node::Truth(Tri::True)),
+    )
+}
+
 #[test]
 fn a_rule_is_read(rt: HostRuntime) {
     let text = "{ ~p := max((0,1), truecount); } { $a := $a + 1; } 100 { t }";
     let rule = read(&rt, text).expect(&rt, text);
-    assert_eq!(rt; rule.gives.len(), 1);
-    assert!(rt; is_greater_at_p(&rule.gives[0]));
-    assert_eq!(rt; rule.sets.len(), 1);
-    assert!(rt; counts(&rule.sets[0]));
-    assert!(rt; is_number(&rule.delay, 10_000_000));
-    assert!(rt; matches!(rule.condition, Node::Truth(Tri::True)));
+    assert_eq!(rt; are_right(&rule), (true, true, true, true));
 }
+
+// Texts, and why they are refused.
+const REFUSED: [(&str, RuleRefusal); 8] = [
+    ("1 100", RuleRefusal::BadRule),
+    ("{ t } 100 { t }", RuleRefusal::BadSort),
+    ("{ random } 100 { t }", RuleRefusal::RandomRefused),
+    ("{ power(2,3) } 100 { t }", RuleRefusal::UnknownFunction),
+    ("{ (0,2) } 100 { t }", RuleRefusal::NotANeighbour),
+    ("{ $z } 100 { t }", RuleRefusal::UnknownVariable),
+    ("{ ~q := 1; } 100 { t }", RuleRefusal::UnknownNeighbourPort),
+    (TOO_DEEP, RuleRefusal::TooLarge),
+];
 
 #[test]
 fn texts_are_refused(rt: HostRuntime) {
-    let table = [
-        ("1 100", RuleRefusal::BadRule),
-        ("{ t } 100 { t }", RuleRefusal::BadSort),
-        ("{ random } 100 { t }", RuleRefusal::RandomRefused),
-        ("{ power(2,3) } 100 { t }", RuleRefusal::UnknownFunction),
-        ("{ (0,2) } 100 { t }", RuleRefusal::NotANeighbour),
-        ("{ $z } 100 { t }", RuleRefusal::UnknownVariable),
-        ("{ ~q := 1; } 100 { t }", RuleRefusal::UnknownNeighbourPort),
-        (TOO_DEEP, RuleRefusal::TooLarge),
-    ];
-    for (text, why) in table {
-        assert_eq!(rt; read(&rt, text).err(), Some(why), "{text}");
+    for (text, why) in &REFUSED {
+        assert_eq!(rt; read(&rt, text).err(), Some(*why), "{text}");
     }
 }

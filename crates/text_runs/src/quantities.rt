@@ -3,13 +3,19 @@ use crate::values::number;
 use quantity::{MAX_TIME, Name, Text, Time};
 use std::test::Fail;
 
+/// Puts two values and the last time behind a text.
+fn append(text: &mut Vec<u8>) -> Result<(), Fail> {
+    number(-150_000).text5(text)?;
+    number(-40_000).text(0, 3, text)?;
+    let latest = Time::new(MAX_TIME).ok_or("a time")?;
+    latest.text(text)?;
+    Ok(())
+}
+
 #[test]
 fn texts_are_appended(rt: HostRuntime) -> Result<(), Fail> {
     let mut text = Vec::new(rt.alloc());
-    number(-150_000).text5(&mut text)?;
-    number(-40_000).text(0, 3, &mut text)?;
-    let latest = Time::new(MAX_TIME).ok_or("a time")?;
-    latest.text(&mut text)?;
+    append(&mut text)?;
     assert_eq!(rt; text.as_slice(), b"-1.50000  0199:59:59:998".as_slice());
     Ok(())
 }

@@ -3,28 +3,9 @@ use room_edge::{
     FolderRoom, MemoryRoom, ReadWhole, Room, RoomCall, SureRoom, WriteAll, WriteError,
     complain_all, read_whole, show_all, write_all,
 };
-use std::alloc::Global;
 use std::fs;
+use std::process::Abort;
 use std::test::Fail;
-
-// The file `abc` in a room with pieces of that size, read within a limit.
-fn read_abc(
-    alloc: Global,
-    piece: usize,
-    fails: Option<(RoomCall, u64)>,
-    limit: u32,
-) -> Result<Vec<u8>, ReadWhole> {
-    let mut room = MemoryRoom::new(alloc, piece.max(1));
-    if room.put_file("abc.txt", b"abc").is_err() {
-        return Err(ReadWhole::Memory);
-    }
-    if let Some((call, number)) = fails {
-        if room.fail(call, number).is_err() {
-            return Err(ReadWhole::Memory);
-        }
-    }
-    read_whole(alloc, &mut room, "abc.txt", limit)
-}
 
 // Writes two pieces to a new file.
 fn make<R: Room>(room: &mut R, name: &str, first: &[u8], second: &[u8]) -> Result<(), WriteAll> {
@@ -57,35 +38,84 @@ fn write_story(written: &Result<(), WriteAll>) -> (&'static [u8], usize) {
     }
 }
 
-#[test]
-fn reads_within_a_limit_past_it_and_failing(rt: HostRuntime) {
-    let rows: [(usize, Option<(RoomCall, u64)>, u32, (&[u8], u64)); 5] = [
-        (64, None, 3, (b"abc", 0)),
-        (64, None, 2, (b"too long", 3)),
-        (1, None, 1, (b"too long", 2)),
-        (2, Some((RoomCall::Read, 2)), 3, (b"read fault", 0)),
-        (2, Some((RoomCall::Open, 1)), 3, (b"read fault", 0)),
-    ];
-    for (piece, fails, limit, story) in rows {
-        assert_eq!(rt;
-            read_story(&read_abc(rt.alloc(), piece, fails, limit)),
-            story
-        );
+// The size of the pieces of a room with the file `abc`, the call that fails, the limit of a read,
+// and what comes of it.
+type Read<'a> = (usize, Option<(RoomCall, u64)>, u32, (&'a [u8], u64));
+
+const READS: [Read<'static>; 5] = [
+    (64, None, 3, (b"abc", 0)),
+    (64, None, 2, (b"too long", 3)),
+    (1, None, 1, (b"too long", 2)),
+    (2, Some((RoomCall::Read, 2)), 3, (b"read fault", 0)),
+    (2, Some((RoomCall::Open, 1)), 3, (b"read fault", 0)),
+];
+
+// Puts the file `abc` into a room, of which a call fails.
+fn prepare(room: &mut MemoryRoom, fails: Option<(RoomCall, u64)>) -> Result<(), Fail> {
+    room.put_file("abc.txt", b"abc")?;
+    if let Some((call, number)) = fails {
+        room.fail(call, number)?;
     }
+    Ok(())
+}
+
+// Reads the file `abc` in the room.
+fn reads(
+    rt: &(impl Abort + AllocGlobal),
+    room: &mut MemoryRoom,
+    wanted: &Read<'_>,
+) -> Result<(), Fail> {
+    let (_, fails, limit, story) = *wanted;
+    prepare(room, fails)?;
+    let read = read_whole(rt.alloc(), room, "abc.txt", limit);
+    assert_eq!(rt; read_story(&read), story);
+    Ok(())
+}
+
+#[test]
+fn reads_within_a_limit_past_it_and_failing(rt: HostRuntime) -> Result<(), Fail> {
+    for wanted in &READS {
+        let mut room = MemoryRoom::new(rt.alloc(), wanted.0.max(1));
+        reads(&rt, &mut room, wanted)?;
+    }
+    Ok(())
+}
+
+// The call that fails in a room with pieces of one byte, what comes of writing `abc`, and the file.
+type Written<'a> = (RoomCall, u64, (&'a [u8], usize), &'a [u8]);
+
+const WRITTEN: [Written<'static>; 3] = [
+    (RoomCall::Append, 4, (b"whole", 0), b"abc"),
+    (RoomCall::Append, 2, (b"write fault", 1), b"a"),
+    (RoomCall::Create, 1, (b"write fault", 0), b"none"),
+];
+
+// Compares what came of writing.
+fn is_written(
+    rt: &impl Abort,
+    written: &Result<(), WriteAll>,
+    room: &MemoryRoom,
+    wanted: &Written<'_>,
+) {
+    assert_eq!(rt;
+        (write_story(written), room.made("a.txt").unwrap_or(b"none")),
+        (wanted.2, wanted.3)
+    );
+}
+
+// Writes `abc` in the room.
+fn writes(rt: &impl Abort, room: &mut MemoryRoom, wanted: &Written<'_>) -> Result<(), Fail> {
+    room.fail(wanted.0, wanted.1)?;
+    let written = make(room, "a.txt", b"abc", b"");
+    is_written(rt, &written, room, wanted);
+    Ok(())
 }
 
 #[test]
 fn writes_that_are_whole_or_fail(rt: HostRuntime) -> Result<(), Fail> {
-    let rows: [(RoomCall, u64, (&[u8], usize), &[u8]); 3] = [
-        (RoomCall::Append, 4, (b"whole", 0), b"abc"),
-        (RoomCall::Append, 2, (b"write fault", 1), b"a"),
-        (RoomCall::Create, 1, (b"write fault", 0), b"none"),
-    ];
-    for (call, number, story, bytes) in rows {
+    for wanted in &WRITTEN {
         let mut room = MemoryRoom::new(rt.alloc(), 1);
-        room.fail(call, number)?;
-        assert_eq!(rt; write_story(&make(&mut room, "a.txt", b"abc", b"")), story);
-        assert_eq!(rt; room.made("a.txt").unwrap_or(b"none"), bytes);
+        writes(&rt, &mut room, wanted)?;
     }
     Ok(())
 }
@@ -93,37 +123,46 @@ fn writes_that_are_whole_or_fail(rt: HostRuntime) -> Result<(), Fail> {
 #[test]
 fn both_streams(rt: HostRuntime) {
     let mut room = SureRoom::new(rt.alloc(), 1);
-    let all = [show_all(&mut room, b"ab"), complain_all(&mut room, b"cd")];
-    assert!(rt; all.iter().all(|written| written.is_ok()));
+    let shows = show_all(&mut room, b"ab").is_ok();
+    let complains = complain_all(&mut room, b"cd").is_ok();
     assert_eq!(rt;
-        (room.shown(), room.complained()),
-        (b"ab".as_slice(), b"cd".as_slice())
+        (shows, complains, room.shown(), room.complained()),
+        (true, true, b"ab".as_slice(), b"cd".as_slice())
     );
 }
 
-// Where there is no full device, no file of that name can be made either.
+// What is written in a real folder. Where there is no full device, no file of that name can be made
+// either.
+const FOLDER_WRITES: [(&str, (&[u8], usize)); 3] = [
+    ("log.txt", (b"whole", 0)),
+    (".", (b"write fault", 0)),
+    ("/dev/full", (b"write fault", 0)),
+];
+
+// What is read there then.
+const FOLDER_READS: [(&str, (&[u8], u64)); 3] = [
+    ("log.txt", (b"one two", 0)),
+    ("none.txt", (b"missing", 0)),
+    (".", (b"read fault", 0)),
+];
+
+fn folder_writes<R: Room>(rt: &impl Abort, room: &mut R) {
+    for (name, story) in &FOLDER_WRITES {
+        assert_eq!(rt; write_story(&make(room, name, b"one ", b"two")), *story);
+    }
+}
+
+fn folder_reads<R: Room>(rt: &(impl Abort + AllocGlobal), room: &mut R) {
+    for (name, story) in &FOLDER_READS {
+        assert_eq!(rt; read_story(&read_whole(rt.alloc(), room, name, 7)), *story);
+    }
+}
+
 #[test]
 fn a_real_folder(rt: HostRuntime) -> Result<(), Fail> {
     let mut room = FolderRoom::new(rt.clone()?);
-    let written: [(&str, (&[u8], usize)); 3] = [
-        ("log.txt", (b"whole", 0)),
-        (".", (b"write fault", 0)),
-        ("/dev/full", (b"write fault", 0)),
-    ];
-    for (name, story) in written {
-        assert_eq!(rt; write_story(&make(&mut room, name, b"one ", b"two")), story);
-    }
-    let read: [(&str, (&[u8], u64)); 3] = [
-        ("log.txt", (b"one two", 0)),
-        ("none.txt", (b"missing", 0)),
-        (".", (b"read fault", 0)),
-    ];
-    for (name, story) in read {
-        assert_eq!(rt;
-            read_story(&read_whole(rt.alloc(), &mut room, name, 7)),
-            story
-        );
-    }
+    folder_writes(&rt, &mut room);
+    folder_reads(&rt, &mut room);
     fs::remove_file(&rt, "log.txt")?;
     Ok(())
 }

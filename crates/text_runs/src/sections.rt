@@ -1,6 +1,7 @@
 // Whole files as they are cut into sections.
-use ma_lines::{Lines, Sections};
+use ma_lines::{Lines, Section, Sections};
 use std::alloc::{AllocError, Global};
+use std::process::Abort;
 use std::test::Fail;
 
 const LIFE: &[u8] =
@@ -15,49 +16,71 @@ const RING: &[u8] =
 const RING_LISTED: &[u8] =
     b"1 [top]\n2 components=line\n3 [line]\n4 type=cell\n5 dim=(1,3)\n6 delay=transport\n7 defaultdelaytime=100\n8 border=wrapped\n9 neighbors=line(0,-1) line(0,0) line(0,1)\n10 initialvalue=0\n11 initialrowvalue=0 010\n12 localtransition=r\n13 [r]\n14 rule=1 100 { truecount = 1 }\n16 rule=0 100 { t }\n";
 
-/// The sections, one thing a line: `number [name]`, and `number key=value`.
-fn listed(alloc: Global, sections: &Sections) -> Result<Vec<u8>, AllocError> {
-    let mut text = Vec::new(alloc);
-    for at in 0..sections.len() {
-        let section = sections.section(at);
-        let name = section.name.as_bytes();
-        list(
-            alloc,
-            &mut text,
-            section.line,
-            [b"[".as_slice(), name, b"]\n".as_slice()],
-        )?;
-        for entry in &section.entries {
-            let parts = [
-                entry.key.as_bytes(),
-                b"=".as_slice(),
-                entry.value.as_bytes(),
-            ];
-            list(alloc, &mut text, entry.line, parts)?;
-            text.extend_from_slice(b"\n")?;
-        }
-    }
-    Ok(text)
-}
-
-fn list(alloc: Global, text: &mut Vec<u8>, line: u32, parts: [&[u8]; 3]) -> Result<(), AllocError> {
+fn list(alloc: Global, text: &mut Vec<u8>, line: u32, parts: &[&[u8]]) -> Result<(), AllocError> {
     let number = format!(in alloc; "{line} ")?;
     text.extend_from_slice(number.as_bytes())?;
     for part in parts {
         text.extend_from_slice(part)?;
     }
+    text.extend_from_slice(b"\n")
+}
+
+/// A section, one thing a line: `number [name]`, and `number key=value`.
+fn list_section(alloc: Global, text: &mut Vec<u8>, section: &Section) -> Result<(), AllocError> {
+    let name: [&[u8]; 3] = [b"[", section.name.as_bytes(), b"]"];
+    list(alloc, text, section.line, &name)?;
+    for entry in &section.entries {
+        let parts: [&[u8]; 3] = [entry.key.as_bytes(), b"=", entry.value.as_bytes()];
+        list(alloc, text, entry.line, &parts)?;
+    }
+    Ok(())
+}
+
+/// The sections, one after another.
+fn list_all(alloc: Global, text: &mut Vec<u8>, sections: &Sections) -> Result<(), AllocError> {
+    for at in 0..sections.len() {
+        list_section(alloc, text, sections.section(at))?;
+    }
+    Ok(())
+}
+
+/// Files, and how they are listed.
+const FILES: [(&[u8], &[u8]); 3] = [(LIFE, LIFE_LISTED), (RING, RING_LISTED), (b"", b"")];
+
+fn is_listed(rt: &(impl Abort + AllocGlobal), file: &[u8], expected: &[u8]) -> Result<(), Fail> {
+    if file.len() > 1000 {
+        return Err(Fail::new("a long file"));
+    }
+    let sections = Lines::read(rt.alloc(), file)
+        .ok()
+        .ok_or("a file that is read")?;
+    let mut text = Vec::new(rt.alloc());
+    list_all(rt.alloc(), &mut text, &sections)?;
+    assert_eq!(rt; text.as_slice(), expected);
     Ok(())
 }
 
 #[test]
 fn whole_files_are_listed(rt: HostRuntime) -> Result<(), Fail> {
-    for (file, expected) in [(LIFE, LIFE_LISTED), (RING, RING_LISTED), (b"", b"")] {
-        let sections = Lines::read(rt.alloc(), file)
-            .ok()
-            .ok_or("a file that is read")?;
-        assert_eq!(rt; listed(rt.alloc(), &sections)?.as_slice(), expected);
+    for (file, expected) in &FILES {
+        is_listed(&rt, file, expected)?;
     }
     Ok(())
+}
+
+/// Names, and where their sections stand in the ring.
+const NAMES: [(&[u8], Option<usize>); 5] = [
+    (b"top", Some(0)),
+    (b"line", Some(1)),
+    (b"r", Some(2)),
+    (b"t", None),
+    (b"TOP", None),
+];
+
+fn are_found(rt: &impl Abort, sections: &Sections) {
+    for (name, at) in &NAMES {
+        assert_eq!(rt; sections.find(name), *at);
+    }
 }
 
 #[test]
@@ -65,15 +88,6 @@ fn each_section_is_found(rt: HostRuntime) -> Result<(), Fail> {
     let sections = Lines::read(rt.alloc(), RING)
         .ok()
         .ok_or("a file that is read")?;
-    let rows: [(&[u8], Option<usize>); 5] = [
-        (b"top", Some(0)),
-        (b"line", Some(1)),
-        (b"r", Some(2)),
-        (b"t", None),
-        (b"TOP", None),
-    ];
-    for (name, at) in rows {
-        assert_eq!(rt; sections.find(name), at);
-    }
+    are_found(&rt, &sections);
     Ok(())
 }

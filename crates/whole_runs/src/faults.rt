@@ -1,11 +1,7 @@
 // Runs of the two programs in which a call of the room fails, or whose file is cut short.
-ghost use Rattle.std.specs.Prelude.{◌≡◌};
-
 use crate::models;
-use crate::rows::{USAGE, run, words_of};
-use drawlog_top::drawlog;
+use crate::rows::{USAGE, run};
 use room_edge::{MemoryRoom, RoomCall};
-use std::alloc::Global;
 use std::process::Abort;
 use std::test::Fail;
 
@@ -13,43 +9,53 @@ use std::test::Fail;
 #[derive(Clone, Copy)]
 struct Start<'a> {
     name: &'a str,
-    model: &'a str,
+    text: &'a str,
     words: &'a str,
 }
-
-/// The words for a run of the ring.
-const RING_WORDS: &str = "cdpp -m row1.ma -t 00:00:00:100 -l log.txt";
 
 /// A run of the ring.
 const RING_RUN: Start<'static> = Start {
     name: "row1.ma",
-    model: models::RING,
-    words: RING_WORDS,
+    text: models::RING,
+    words: "cdpp -m row1.ma -t 00:00:00:100 -l log.txt",
 };
 
 /// A run that makes two files.
 const SERVED_RUN: Start<'static> = Start {
     name: "t.ma",
-    model: models::SERVED,
+    text: models::SERVED,
     words: "cdpp -m t.ma -t 00:00:00:000 -l log.txt -o out.txt -L YXS",
 };
 
 /// A run that is refused by its words.
 const REFUSED_RUN: Start<'static> = Start {
     name: "row1.ma",
-    model: models::RING,
+    text: models::RING,
     words: "cdpp -m row1.ma",
+};
+
+/// A drawing of the ring's log.
+const DRAWING: Start<'static> = Start {
+    name: "log.txt",
+    text: models::RING_LOG,
+    words: "drawlog -l log.txt -g line -s 1,3",
 };
 
 /// What a run of the ring shows.
 const RING_SHOWN: &str = "end 00:00:00:100 cycles 2\n";
 
-/// What is left of a run: its status, its complaint, and how many bytes of the ring's log were made,
-/// if it was.
+/// How it is told that the model is not read.
+const UNREAD: &str = "read fault: row1.ma\n";
+
+/// How it is told that the log is not written.
+const LOG_FAULT: &str = "write fault: log.txt\n";
+
+/// What is left of a run: its status, what it shows if that is 0 and complains if not, and how many
+/// bytes of the ring's log were made, if it was.
 #[derive(Clone, Copy)]
 struct Left<'a> {
     status: u8,
-    complained: &'a str,
+    told: &'a str,
     log: Option<usize>,
 }
 
@@ -63,13 +69,6 @@ fn first(text: &str, count: usize) -> &[u8] {
     }
 }
 
-/// A room of pieces of 64 bytes with this file alone.
-fn room_of(alloc: Global, name: &str, bytes: &[u8]) -> Result<MemoryRoom, Fail> {
-    let mut room = MemoryRoom::new(alloc, 64);
-    room.put_file(name, bytes)?;
-    Ok(room)
-}
-
 /// The beginning of the ring's log that is left.
 fn log_of(wanted: &Left<'_>) -> Option<&'static [u8]> {
     match wanted.log {
@@ -78,22 +77,26 @@ fn log_of(wanted: &Left<'_>) -> Option<&'static [u8]> {
     }
 }
 
-/// Compares the files that were made: the beginning of the ring's log, and no other.
-fn are_made(rt: &impl Abort, room: &MemoryRoom, wanted: &Left<'_>) {
-    assert_eq!(rt; room.made("log.txt"), log_of(wanted));
-    assert_eq!(rt; room.made("out.txt"), None);
-}
-
 /// Compares what was answered with what is wanted.
-fn stands(rt: &impl Abort, status: u8, room: &MemoryRoom, wanted: &Left<'_>) {
-    let shown = if status == 0 { RING_SHOWN } else { "" };
+fn stands(rt: &impl Abort, status: u8, room: &MemoryRoom, wanted: &Left<'_>, number: u64) {
+    let (shown, complained) = if wanted.status == 0 {
+        (wanted.told, "")
+    } else {
+        ("", wanted.told)
+    };
     assert_eq!(rt;
         (status, room.shown(), room.complained()),
-        (
-            wanted.status,
-            shown.as_bytes(),
-            wanted.complained.as_bytes()
-        )
+        (wanted.status, shown.as_bytes(), complained.as_bytes()),
+        "{number}"
+    );
+}
+
+/// Compares the files that were made: the beginning of the ring's log, and no other.
+fn are_made(rt: &impl Abort, room: &MemoryRoom, wanted: &Left<'_>, number: u64) {
+    assert_eq!(rt;
+        (room.made("log.txt"), room.made("out.txt")),
+        (log_of(wanted), None),
+        "{number}"
     );
 }
 
@@ -103,276 +106,245 @@ fn leaves(
     words: &str,
     room: &mut MemoryRoom,
     wanted: &Left<'_>,
+    number: u64,
 ) -> Result<(), Fail> {
     let status = run(rt.alloc(), words, room)?;
-    stands(rt, status, room, wanted);
-    are_made(rt, room, wanted);
+    stands(rt, status, room, wanted, number);
+    are_made(rt, room, wanted, number);
     Ok(())
 }
 
-/// Runs where one call of the room fails.
-fn leaves_at(
-    rt: &(impl Abort + AllocGlobal),
-    start: &Start<'_>,
-    call: RoomCall,
-    number: u64,
-    wanted: &Left<'_>,
-) -> Result<(), Fail> {
-    let mut room = room_of(rt.alloc(), start.name, start.model.as_bytes())?;
-    room.fail(call, number)?;
-    leaves(rt, start.words, &mut room, wanted)
-}
+/// A run in which one call of the room fails, the kind and number of that call, and what is left.
+type Fault<'a> = (&'a Start<'a>, RoomCall, u64, u8, &'a str, Option<usize>);
 
-/// Runs the ring where one call of the room fails.
-fn ring_leaves_at(
-    rt: &(impl Abort + AllocGlobal),
-    call: RoomCall,
-    number: u64,
-    wanted: &Left<'_>,
-) -> Result<(), Fail> {
-    leaves_at(rt, &RING_RUN, call, number, wanted)
-}
-
-#[test]
-fn no_file_is_made_where_the_model_is_not_read(rt: HostRuntime) -> Result<(), Fail> {
-    let unread = Left {
-        status: 4,
-        complained: "read fault: row1.ma\n",
-        log: None,
-    };
-    ring_leaves_at(&rt, RoomCall::Open, 1, &unread)?;
-    // The model has 271 bytes: five pieces, and the end.
-    for number in 1..7 {
-        ring_leaves_at(&rt, RoomCall::Read, number, &unread)?;
-    }
-    let whole = Left {
-        status: 0,
-        complained: "",
-        log: Some(225),
-    };
-    ring_leaves_at(&rt, RoomCall::Read, 7, &whole)
-}
-
-#[test]
-fn a_log_that_is_not_written_keeps_its_beginning(rt: HostRuntime) -> Result<(), Fail> {
-    // The first cycle has 135 bytes, the second 90.
-    for (call, number, log) in [
-        (RoomCall::Create, 1, None),
-        (RoomCall::Append, 1, Some(0)),
-        (RoomCall::Append, 2, Some(64)),
-        (RoomCall::Append, 3, Some(128)),
-        (RoomCall::Append, 4, Some(135)),
-        (RoomCall::Append, 5, Some(199)),
-    ] {
-        let cut = Left {
-            status: 5,
-            complained: "write fault: log.txt\n",
-            log,
-        };
-        ring_leaves_at(&rt, call, number, &cut)?;
-    }
-    let whole = Left {
-        status: 0,
-        complained: "",
-        log: Some(225),
-    };
-    ring_leaves_at(&rt, RoomCall::Append, 6, &whole)
-}
-
-#[test]
-fn a_log_stays_where_the_end_is_not_shown(rt: HostRuntime) -> Result<(), Fail> {
-    let unshown = Left {
-        status: 5,
-        complained: "write fault: standard output\n",
-        log: Some(225),
-    };
-    ring_leaves_at(&rt, RoomCall::Show, 1, &unshown)
-}
-
-#[test]
-fn a_second_file_is_not_made(rt: HostRuntime) -> Result<(), Fail> {
-    for (number, complained, log) in [
-        (1, "write fault: log.txt\n", None),
-        (2, "write fault: out.txt\n", Some(0)),
-    ] {
-        let unmade = Left {
-            status: 5,
-            complained,
-            log,
-        };
-        leaves_at(&rt, &SERVED_RUN, RoomCall::Create, number, &unmade)?;
-    }
-    Ok(())
-}
-
-#[test]
-fn a_complaint_fails(rt: HostRuntime) -> Result<(), Fail> {
-    for (number, status, complained) in [(1, 5, ""), (99, 2, USAGE)] {
-        let refused = Left {
-            status,
-            complained,
-            log: None,
-        };
-        leaves_at(&rt, &REFUSED_RUN, RoomCall::Complain, number, &refused)?;
-    }
-    Ok(())
-}
-
-/// Runs the ring on the first bytes of its model, for each of these numbers of bytes.
-fn cut_leaves(
-    rt: &(impl Abort + AllocGlobal),
-    from: usize,
-    to: usize,
-    wanted: &Left<'_>,
-) -> Result<(), Fail> {
-    for count in from..to {
-        let mut room = room_of(rt.alloc(), "row1.ma", first(models::RING, count))?;
-        leaves(rt, RING_WORDS, &mut room, wanted)?;
-    }
-    Ok(())
-}
-
-/// From how many bytes of the ring's model to how many, and how that beginning is refused.
-const REFUSED: [(usize, usize, &str); 35] = [
-    (0, 1, "model refused: line 0: 3 NoTop\n"),
-    (1, 5, "model refused: line 1: 1 BadLine\n"),
-    (5, 7, "model refused: line 1: 6 MissingKey\n"),
-    (7, 18, "model refused: line 2: 1 BadLine\n"),
-    (18, 20, "model refused: line 1: 6 MissingKey\n"),
-    (20, 25, "model refused: line 2: 8 UnknownComponent\n"),
-    (25, 30, "model refused: line 3: 1 BadLine\n"),
-    (30, 32, "model refused: line 3: 6 MissingKey\n"),
-    (32, 37, "model refused: line 4: 1 BadLine\n"),
-    (37, 42, "model refused: line 4: 7 BadValue\n"),
-    (42, 44, "model refused: line 3: 6 MissingKey\n"),
-    (44, 48, "model refused: line 5: 1 BadLine\n"),
-    (48, 56, "model refused: line 3: 6 MissingKey\n"),
-    (56, 62, "model refused: line 6: 1 BadLine\n"),
-    (62, 74, "model refused: line 3: 6 MissingKey\n"),
-    (74, 91, "model refused: line 7: 1 BadLine\n"),
-    (91, 97, "model refused: line 3: 6 MissingKey\n"),
-    (97, 104, "model refused: line 8: 1 BadLine\n"),
-    (104, 114, "model refused: line 3: 6 MissingKey\n"),
-    (114, 124, "model refused: line 9: 1 BadLine\n"),
-    (124, 157, "model refused: line 3: 6 MissingKey\n"),
-    (157, 170, "model refused: line 10: 1 BadLine\n"),
-    (170, 174, "model refused: line 3: 6 MissingKey\n"),
-    (174, 190, "model refused: line 11: 1 BadLine\n"),
-    (190, 198, "model refused: line 3: 6 MissingKey\n"),
-    (198, 214, "model refused: line 12: 1 BadLine\n"),
-    (214, 216, "model refused: line 12: 7 BadValue\n"),
-    (216, 218, "model refused: line 12: 28 NoSection\n"),
-    (218, 220, "model refused: line 13: 1 BadLine\n"),
-    (222, 227, "model refused: line 14: 1 BadLine\n"),
-    (227, 235, "model refused: line 14: 19 BadRule\n"),
-    (235, 251, "model refused: line 14: 1 BadLine\n"),
-    (253, 258, "model refused: line 15: 1 BadLine\n"),
-    (258, 266, "model refused: line 15: 19 BadRule\n"),
-    (266, 270, "model refused: line 15: 1 BadLine\n"),
+/// The ring's model has 271 bytes, which are five pieces, and the end; the first cycle of its log
+/// has 135 bytes, the second 90.
+const FAULTS: [Fault<'static>; 20] = [
+    (&RING_RUN, RoomCall::Open, 1, 4, UNREAD, None),
+    (&RING_RUN, RoomCall::Read, 1, 4, UNREAD, None),
+    (&RING_RUN, RoomCall::Read, 2, 4, UNREAD, None),
+    (&RING_RUN, RoomCall::Read, 3, 4, UNREAD, None),
+    (&RING_RUN, RoomCall::Read, 4, 4, UNREAD, None),
+    (&RING_RUN, RoomCall::Read, 5, 4, UNREAD, None),
+    (&RING_RUN, RoomCall::Read, 6, 4, UNREAD, None),
+    (&RING_RUN, RoomCall::Read, 7, 0, RING_SHOWN, Some(225)),
+    (&RING_RUN, RoomCall::Create, 1, 5, LOG_FAULT, None),
+    (&RING_RUN, RoomCall::Append, 1, 5, LOG_FAULT, Some(0)),
+    (&RING_RUN, RoomCall::Append, 2, 5, LOG_FAULT, Some(64)),
+    (&RING_RUN, RoomCall::Append, 3, 5, LOG_FAULT, Some(128)),
+    (&RING_RUN, RoomCall::Append, 4, 5, LOG_FAULT, Some(135)),
+    (&RING_RUN, RoomCall::Append, 5, 5, LOG_FAULT, Some(199)),
+    (&RING_RUN, RoomCall::Append, 6, 0, RING_SHOWN, Some(225)),
+    (
+        &RING_RUN,
+        RoomCall::Show,
+        1,
+        5,
+        "write fault: standard output\n",
+        Some(225),
+    ),
+    (&SERVED_RUN, RoomCall::Create, 1, 5, LOG_FAULT, None),
+    (
+        &SERVED_RUN,
+        RoomCall::Create,
+        2,
+        5,
+        "write fault: out.txt\n",
+        Some(0),
+    ),
+    (&REFUSED_RUN, RoomCall::Complain, 1, 5, "", None),
+    (&REFUSED_RUN, RoomCall::Complain, 99, 2, USAGE, None),
 ];
 
-#[test]
-fn a_cut_model_is_refused(rt: HostRuntime) -> Result<(), Fail> {
-    for (from, to, complained) in REFUSED {
-        let refused = Left {
-            status: 6,
-            complained,
-            log: None,
-        };
-        cut_leaves(&rt, from, to, &refused)?;
-    }
-    Ok(())
-}
-
-#[test]
-fn a_model_that_is_cut_after_a_line_runs(rt: HostRuntime) -> Result<(), Fail> {
-    for (from, to, status, complained, log) in [
-        (220, 222, 8, "no true rule: line(0,0) at 00:00:00:000\n", 0),
-        (
-            251,
-            253,
-            8,
-            "no true rule: line(0,0) at 00:00:00:100\n",
-            135,
-        ),
-        (270, 272, 0, "", 225),
-    ] {
-        let cut = Left {
-            status,
-            complained,
-            log: Some(log),
-        };
-        cut_leaves(&rt, from, to, &cut)?;
-    }
-    Ok(())
-}
-
-/// Draws the log in the room.
-fn drawn(alloc: Global, room: &mut MemoryRoom) -> Result<u8, Fail> {
-    let words = words_of(alloc, "drawlog -l log.txt -g line -s 1,3")?;
-    Ok(drawlog(alloc, &words, room))
-}
-
-/// Draws the first bytes of the ring's log, and compares what is left.
-fn draws(
+/// Runs where one call of the room fails.
+fn fails_in(
     rt: &(impl Abort + AllocGlobal),
-    count: usize,
-    wanted_status: u8,
-    shown: &str,
-    complained: &str,
+    room: &mut MemoryRoom,
+    fault: &Fault<'_>,
 ) -> Result<(), Fail> {
-    let mut room = room_of(rt.alloc(), "log.txt", first(models::RING_LOG, count))?;
-    let status = drawn(rt.alloc(), &mut room)?;
-    assert_eq!(rt;
-        (status, room.shown(), room.complained()),
-        (wanted_status, shown.as_bytes(), complained.as_bytes()),
-        "{count}"
-    );
-    Ok(())
+    let (start, call, number, status, told, log) = *fault;
+    room.put_file(start.name, start.text.as_bytes())?;
+    room.fail(call, number)?;
+    leaves(rt, start.words, room, &Left { status, told, log }, number)
 }
 
 #[test]
-fn whole_lines_of_a_log_are_drawn(rt: HostRuntime) -> Result<(), Fail> {
-    for (count, shown) in [
-        (0, ""),
-        (
-            45,
-            "Time: 00:00:00:000\n+---------+\n|  0  ?  ?|\n+---------+\n\n",
-        ),
-        (
-            90,
-            "Time: 00:00:00:000\n+---------+\n|  0  1  ?|\n+---------+\n\n",
-        ),
-        (
-            135,
-            "Time: 00:00:00:000\n+---------+\n|  0  1  0|\n+---------+\n\n",
-        ),
-        (
-            180,
-            "Time: 00:00:00:000\n+---------+\n|  0  1  0|\n+---------+\n\nTime: 00:00:00:100\n+---------+\n|  1  1  0|\n+---------+\n\n",
-        ),
-        (
-            225,
-            "Time: 00:00:00:000\n+---------+\n|  0  1  0|\n+---------+\n\nTime: 00:00:00:100\n+---------+\n|  1  1  1|\n+---------+\n\n",
-        ),
-    ] {
-        draws(&rt, count, 0, shown, "")?;
+fn calls_fail(rt: HostRuntime) -> Result<(), Fail> {
+    for fault in &FAULTS {
+        let mut room = MemoryRoom::new(rt.alloc(), 64);
+        fails_in(&rt, &mut room, fault)?;
+    }
+    Ok(())
+}
+
+/// From how many bytes of a file to how many, and what each of these beginnings leaves.
+type Cut<'a> = (usize, usize, u8, &'a str, Option<usize>);
+
+/// The ring's model, cut at each byte.
+const RING_CUTS: [Cut<'static>; 38] = [
+    (0, 1, 6, "model refused: line 0: 3 NoTop\n", None),
+    (1, 5, 6, "model refused: line 1: 1 BadLine\n", None),
+    (5, 7, 6, "model refused: line 1: 6 MissingKey\n", None),
+    (7, 18, 6, "model refused: line 2: 1 BadLine\n", None),
+    (18, 20, 6, "model refused: line 1: 6 MissingKey\n", None),
+    (
+        20,
+        25,
+        6,
+        "model refused: line 2: 8 UnknownComponent\n",
+        None,
+    ),
+    (25, 30, 6, "model refused: line 3: 1 BadLine\n", None),
+    (30, 32, 6, "model refused: line 3: 6 MissingKey\n", None),
+    (32, 37, 6, "model refused: line 4: 1 BadLine\n", None),
+    (37, 42, 6, "model refused: line 4: 7 BadValue\n", None),
+    (42, 44, 6, "model refused: line 3: 6 MissingKey\n", None),
+    (44, 48, 6, "model refused: line 5: 1 BadLine\n", None),
+    (48, 56, 6, "model refused: line 3: 6 MissingKey\n", None),
+    (56, 62, 6, "model refused: line 6: 1 BadLine\n", None),
+    (62, 74, 6, "model refused: line 3: 6 MissingKey\n", None),
+    (74, 91, 6, "model refused: line 7: 1 BadLine\n", None),
+    (91, 97, 6, "model refused: line 3: 6 MissingKey\n", None),
+    (97, 104, 6, "model refused: line 8: 1 BadLine\n", None),
+    (104, 114, 6, "model refused: line 3: 6 MissingKey\n", None),
+    (114, 124, 6, "model refused: line 9: 1 BadLine\n", None),
+    (124, 157, 6, "model refused: line 3: 6 MissingKey\n", None),
+    (157, 170, 6, "model refused: line 10: 1 BadLine\n", None),
+    (170, 174, 6, "model refused: line 3: 6 MissingKey\n", None),
+    (174, 190, 6, "model refused: line 11: 1 BadLine\n", None),
+    (190, 198, 6, "model refused: line 3: 6 MissingKey\n", None),
+    (198, 214, 6, "model refused: line 12: 1 BadLine\n", None),
+    (214, 216, 6, "model refused: line 12: 7 BadValue\n", None),
+    (216, 218, 6, "model refused: line 12: 28 NoSection\n", None),
+    (218, 220, 6, "model refused: line 13: 1 BadLine\n", None),
+    (
+        220,
+        222,
+        8,
+        "no true rule: line(0,0) at 00:00:00:000\n",
+        Some(0),
+    ),
+    (222, 227, 6, "model refused: line 14: 1 BadLine\n", None),
+    (227, 235, 6, "model refused: line 14: 19 BadRule\n", None),
+    (235, 251, 6, "model refused: line 14: 1 BadLine\n", None),
+    (
+        251,
+        253,
+        8,
+        "no true rule: line(0,0) at 00:00:00:100\n",
+        Some(135),
+    ),
+    (253, 258, 6, "model refused: line 15: 1 BadLine\n", None),
+    (258, 266, 6, "model refused: line 15: 19 BadRule\n", None),
+    (266, 270, 6, "model refused: line 15: 1 BadLine\n", None),
+    (270, 272, 0, RING_SHOWN, Some(225)),
+];
+
+/// The ring's log, cut at each byte.
+const DRAWING_CUTS: [Cut<'static>; 11] = [
+    (0, 1, 0, "", None),
+    (1, 45, 13, "log refused: line 1\n", None),
+    (
+        45,
+        46,
+        0,
+        "Time: 00:00:00:000\n+---------+\n|  0  ?  ?|\n+---------+\n\n",
+        None,
+    ),
+    (46, 90, 13, "log refused: line 2\n", None),
+    (
+        90,
+        91,
+        0,
+        "Time: 00:00:00:000\n+---------+\n|  0  1  ?|\n+---------+\n\n",
+        None,
+    ),
+    (91, 135, 13, "log refused: line 3\n", None),
+    (
+        135,
+        136,
+        0,
+        "Time: 00:00:00:000\n+---------+\n|  0  1  0|\n+---------+\n\n",
+        None,
+    ),
+    (136, 180, 13, "log refused: line 4\n", None),
+    (
+        180,
+        181,
+        0,
+        "Time: 00:00:00:000
++---------+
+|  0  1  0|
++---------+
+
+Time: 00:00:00:100
++---------+
+|  1  1  0|
++---------+
+
+",
+        None,
+    ),
+    (181, 225, 13, "log refused: line 5\n", None),
+    (
+        225,
+        226,
+        0,
+        "Time: 00:00:00:000
++---------+
+|  0  1  0|
++---------+
+
+Time: 00:00:00:100
++---------+
+|  1  1  1|
++---------+
+
+",
+        None,
+    ),
+];
+
+/// Runs on the first bytes of a file.
+fn cut_in(
+    rt: &(impl Abort + AllocGlobal),
+    room: &mut MemoryRoom,
+    start: &Start<'_>,
+    count: usize,
+    wanted: &Left<'_>,
+) -> Result<(), Fail> {
+    room.put_file(start.name, first(start.text, count))?;
+    leaves(rt, start.words, room, wanted, count as u64)
+}
+
+/// Runs on each of these beginnings of a file.
+fn cut_leaves(
+    rt: &(impl Abort + AllocGlobal),
+    start: &Start<'_>,
+    cut: &Cut<'_>,
+) -> Result<(), Fail> {
+    let (from, to, status, told, log) = *cut;
+    for count in from..to {
+        let mut room = MemoryRoom::new(rt.alloc(), 64);
+        cut_in(rt, &mut room, start, count, &Left { status, told, log })?;
+    }
+    Ok(())
+}
+
+/// Runs on each row's beginnings of a file.
+fn cuts_leave(
+    rt: &(impl Abort + AllocGlobal),
+    start: &Start<'_>,
+    cuts: &[Cut<'_>],
+) -> Result<(), Fail> {
+    for cut in cuts {
+        cut_leaves(rt, start, cut)?;
     }
     Ok(())
 }
 
 #[test]
-fn a_cut_line_of_a_log_is_refused(rt: HostRuntime) -> Result<(), Fail> {
-    for part in 1..45 {
-        for (start, complained) in [
-            (0usize, "log refused: line 1\n"),
-            (45, "log refused: line 2\n"),
-            (90, "log refused: line 3\n"),
-            (135, "log refused: line 4\n"),
-            (180, "log refused: line 5\n"),
-        ] {
-            draws(&rt, start.saturating_add(part), 13, "", complained)?;
-        }
-    }
-    Ok(())
+fn files_are_cut(rt: HostRuntime) -> Result<(), Fail> {
+    cuts_leave(&rt, &RING_RUN, &RING_CUTS)?;
+    cuts_leave(&rt, &DRAWING, &DRAWING_CUTS)
 }

@@ -1,7 +1,6 @@
-// Runs of models with further keys, and how the ring is refused with another text in one line.
+// Rows of models with further keys; how models are refused, and the ring with another line.
 use crate::models;
-use crate::rows::{Row, all_answer, answers};
-use std::alloc::Global;
+use crate::rows::{Row, answers};
 use std::process::Abort;
 use std::test::Fail;
 
@@ -42,7 +41,7 @@ Y / 00:00:00:130 / line(0,1) / out / 2.00000
 ";
 
 /// Models with further keys.
-const FURTHER_KEYS: [Row<'static>; 5] = [
+pub(crate) const FURTHER_KEYS: [Row<'static>; 5] = [
     Row {
         files: &[("m.ma", models::SHOUTED)],
         words: "cdpp -m m.ma -t 00:00:00:100 -l log.txt",
@@ -85,13 +84,8 @@ const FURTHER_KEYS: [Row<'static>; 5] = [
     },
 ];
 
-#[test]
-fn models_with_further_keys(rt: HostRuntime) -> Result<(), Fail> {
-    all_answer(&rt, &FURTHER_KEYS)
-}
-
 /// A light that takes an event before it changes by itself, and one at that very time.
-const LIGHTS: [Row<'static>; 2] = [
+pub(crate) const LIGHTS: [Row<'static>; 2] = [
     Row {
         files: &[
             ("m.ma", models::LIGHT),
@@ -122,21 +116,61 @@ const LIGHTS: [Row<'static>; 2] = [
     },
 ];
 
-#[test]
-fn a_light_takes_an_event(rt: HostRuntime) -> Result<(), Fail> {
-    all_answer(&rt, &LIGHTS)
+/// Models, and how they are refused.
+const REFUSED: [(&str, &str); 11] = [
+    (
+        "[top]\ncomponents : q@queue\nlink : out@q in@q\n",
+        "model refused: line 3: 15 SelfLink\n",
+    ),
+    (
+        "[top]\ncomponents : q@queue\nin : a\nout : b\nlink : a b\n",
+        "model refused: line 5: 16 PassThrough\n",
+    ),
+    (
+        "[top]\ncomponents : a@queue b@queue\ncomponents : c@queue\n",
+        "model refused: line 3: 12 OutOfStock\n",
+    ),
+    (
+        "[top]\ncomponents : a@server\n",
+        "model refused: line 2: 11 UnknownClass\n",
+    ),
+    (models::RANDOM, "model refused: line 10: 21 RandomRefused\n"),
+    (
+        models::STRANGER,
+        "model refused: line 10: 23 NotANeighbour\n",
+    ),
+    (models::MIXED, "model refused: line 10: 20 BadSort\n"),
+    (
+        models::NO_FUNCTION,
+        "model refused: line 10: 22 UnknownFunction\n",
+    ),
+    (models::OPEN, "model refused: line 10: 1 BadLine\n"),
+    ("", "model refused: line 0: 3 NoTop\n"),
+    (
+        "[top]\ncomponents :\n",
+        "model refused: line 1: 6 MissingKey\n",
+    ),
+];
+
+/// How a model is refused.
+fn refuses(rt: &(impl Abort + AllocGlobal), model: &str, refused: &str) -> Result<(), Fail> {
+    let row = Row {
+        files: &[("m.ma", model)],
+        words: "cdpp -m m.ma -t 00:00:00:100 -l log.txt",
+        status: 6,
+        shown: "",
+        complained: refused,
+        made: &[],
+    };
+    answers(rt, &row)
 }
 
-/// A text with another line in the place of one, counted from 0.
-fn with_line(alloc: Global, text: &str, place: u32, line: &str) -> Result<String, Fail> {
-    let mut changed = String::new(alloc);
-    let mut here: u32 = 0;
-    for old in text.split('\n') {
-        changed.push_str(if here == place { line } else { old })?;
-        changed.push_str("\n")?;
-        here = here.saturating_add(1);
+/// Runs each model of the table.
+fn all_are_refused(rt: &(impl Abort + AllocGlobal)) -> Result<(), Fail> {
+    for (model, refused) in &REFUSED {
+        refuses(rt, model, refused)?;
     }
-    Ok(changed)
+    Ok(())
 }
 
 /// The place of a line in the ring's model, counted from 0, what stands there, and how that is
@@ -173,24 +207,34 @@ const CHANGED: [(u32, &str, &str); 9] = [
     (13, "rule : 1 100", "model refused: line 14: 19 BadRule\n"),
 ];
 
-/// How a changed ring is refused.
-fn refuses(rt: &(impl Abort + AllocGlobal), model: &str, refused: &str) -> Result<(), Fail> {
-    let row = Row {
-        files: &[("m.ma", model)],
-        words: "cdpp -m m.ma -t 00:00:00:100 -l log.txt",
-        status: 6,
-        shown: "",
-        complained: refused,
-        made: &[],
-    };
-    answers(rt, &row)
+/// Puts a text behind another, with a line in the place of one, counted from 0.
+fn push_with_line(changed: &mut String, text: &str, place: u32, line: &str) -> Result<(), Fail> {
+    let mut here: u32 = 0;
+    for old in text.split('\n') {
+        changed.push_str(if here == place { line } else { old })?;
+        changed.push_str("\n")?;
+        here = here.saturating_add(1);
+    }
+    Ok(())
+}
+
+/// Runs the ring with another line.
+fn changed_is_refused(
+    rt: &(impl Abort + AllocGlobal),
+    place: u32,
+    line: &str,
+    refused: &str,
+) -> Result<(), Fail> {
+    let mut model = String::new(rt.alloc());
+    push_with_line(&mut model, models::RING, place, line)?;
+    refuses(rt, &model, refused)
 }
 
 #[test]
-fn a_changed_ring_is_refused(rt: HostRuntime) -> Result<(), Fail> {
+fn models_are_refused(rt: HostRuntime) -> Result<(), Fail> {
+    all_are_refused(&rt)?;
     for (place, line, refused) in &CHANGED {
-        let model = with_line(rt.alloc(), models::RING, *place, line)?;
-        refuses(&rt, &model, refused)?;
+        changed_is_refused(&rt, *place, line, refused)?;
     }
     Ok(())
 }

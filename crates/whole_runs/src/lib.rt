@@ -1,6 +1,8 @@
-//! Whole runs of the program: words, models and events, and what is answered to them.
+//! Whole runs of the two programs: words, models, events and logs, and what is answered to them.
 #![tactic(auto)]
 
+#[cfg(test)]
+mod drawings;
 #[cfg(test)]
 mod faults;
 #[cfg(test)]
@@ -11,3 +13,5 @@ mod limits;
 mod models;
 #[cfg(test)]
 mod rows;
+#[cfg(test)]
+mod tables;

@@ -399,6 +399,112 @@ link : b@s15 in@q
 link : b@s15 done@q
 ";
 
+/// A generator in fifteen components, each of which doubles the paths from it.
+pub(crate) const DOUBLED: &str = "[s15]
+components : s14
+out : a b
+link : a@s14 a
+link : a@s14 b
+link : b@s14 a
+link : b@s14 b
+[s14]
+components : s13
+out : a b
+link : a@s13 a
+link : a@s13 b
+link : b@s13 a
+link : b@s13 b
+[s13]
+components : s12
+out : a b
+link : a@s12 a
+link : a@s12 b
+link : b@s12 a
+link : b@s12 b
+[s12]
+components : s11
+out : a b
+link : a@s11 a
+link : a@s11 b
+link : b@s11 a
+link : b@s11 b
+[s11]
+components : s10
+out : a b
+link : a@s10 a
+link : a@s10 b
+link : b@s10 a
+link : b@s10 b
+[s10]
+components : s9
+out : a b
+link : a@s9 a
+link : a@s9 b
+link : b@s9 a
+link : b@s9 b
+[s9]
+components : s8
+out : a b
+link : a@s8 a
+link : a@s8 b
+link : b@s8 a
+link : b@s8 b
+[s8]
+components : s7
+out : a b
+link : a@s7 a
+link : a@s7 b
+link : b@s7 a
+link : b@s7 b
+[s7]
+components : s6
+out : a b
+link : a@s6 a
+link : a@s6 b
+link : b@s6 a
+link : b@s6 b
+[s6]
+components : s5
+out : a b
+link : a@s5 a
+link : a@s5 b
+link : b@s5 a
+link : b@s5 b
+[s5]
+components : s4
+out : a b
+link : a@s4 a
+link : a@s4 b
+link : b@s4 a
+link : b@s4 b
+[s4]
+components : s3
+out : a b
+link : a@s3 a
+link : a@s3 b
+link : b@s3 a
+link : b@s3 b
+[s3]
+components : s2
+out : a b
+link : a@s2 a
+link : a@s2 b
+link : b@s2 a
+link : b@s2 b
+[s2]
+components : s1
+out : a b
+link : a@s1 a
+link : a@s1 b
+link : b@s1 a
+link : b@s1 b
+[s1]
+components : g@generator
+out : a b
+link : out@g a
+link : out@g b
+";
+
 /// Life in a large space, whose values come from a file.
 pub(crate) const QUIET: &str = "[Top]
 components : Life
