@@ -6,7 +6,7 @@ ghost use Rattle.quantity.specs.Names.{is_name, is_of_name};
 ghost use Rattle.quantity.specs.Times.{time_text, IsTime};
 ghost use Rattle.text_forms.specs.LogLine.{is_leaf, leaf_text, letter_text, state_text};
 ghost use Rattle.line_read.specs.Fronts.{stroke, is_state_value, IsPlaceInFront};
-ghost use Rattle.line_read.specs.LeafRead.{named_leaf};
+ghost use Rattle.line_read.specs.LeafRead.{named_leaf, HasWholePlace};
 
 use crate::leaf_name::LeafName;
 use crate::line::read_state;
@@ -137,8 +137,9 @@ pub(crate) fn time_in_front(text: &[u8]) -> Option<(Time, &[u8])>
 /// An atomic component, or a cell of a space of two dimensions.
 #[inline(always)]
 pub(crate) fn leaf_in_front(text: &[u8]) -> Option<(LeafName<'_>, &[u8])>
-    ensures { IfSome result (λ t. (is_leaf (named_leaf t.0) ≡ true)
+    ensures leaf { IfSome result (λ t. (is_leaf (named_leaf t.0) ≡ true)
         × (text.now ≡ stroke (leaf_text (named_leaf t.0)) t.1.now)) }
+    ensures whole { IfSome result (λ t. HasWholePlace t.0) }
 {
     let (name, behind_name) = name_in_front(text)?;
     match behind_byte(b'(', behind_name) {
@@ -163,7 +164,8 @@ pub(crate) fn leaf_in_front(text: &[u8]) -> Option<(LeafName<'_>, &[u8])>
 /// Two coordinates, and the end of a place.
 #[inline(always)]
 fn place_in_front(text: &[u8]) -> Option<(Place, &[u8])>
-    ensures { IfSome result (λ t. IsPlaceInFront text.now t.0.row t.0.column t.1.now) }
+    ensures place { IfSome result (λ t. IsPlaceInFront text.now t.0.row t.0.column t.1.now) }
+    ensures plane { IfSome result (λ t. t.0.plane ≡ 0) }
 {
     let (row, behind_row) = number_in_front(text)?;
     let at_column = behind_byte(b',', behind_row)?;

@@ -1,8 +1,8 @@
 // The name of a leaf, in a line of a log.
-ghost use Rattle.std.specs.Prelude.{◌≡◌};
+ghost use Rattle.std.specs.Prelude.{◌≡◌, IfSome};
 ghost use Rattle.std.specs.Option.{option_map, option_copied};
 ghost use Rattle.text_forms.specs.LogLine.{has_place};
-ghost use Rattle.line_read.specs.LeafRead.{at_of, named_leaf};
+ghost use Rattle.line_read.specs.LeafRead.{at_of, named_leaf, HasCoordinates, HasWholePlace};
 ghost use Rattle.line_read.specs.Strict as strict;
 
 use crate::usual::plain_number;
@@ -30,7 +30,8 @@ pub(crate) struct At {
 
 /// The leaf's name that a text is.
 pub(crate) fn read_leaf(text: &[u8]) -> Option<LeafName<'_>>
-    ensures { option_map named_leaf result ≡ strict.read_leaf text.now }
+    ensures read { option_map named_leaf result ≡ strict.read_leaf text.now }
+    ensures whole { IfSome result (λ leaf. HasWholePlace leaf) }
 {
     let (name, rest) = cut_at(b'(', text);
     if !is_name(name) {
@@ -53,7 +54,8 @@ pub(crate) fn has_place(leaf: &LeafName<'_>) -> bool
 
 /// The coordinates behind a name: none where the text ends with it.
 fn read_at(ends: bool, rest: &[u8]) -> Option<At>
-    ensures { option_map at_of result ≡ strict.at_in ends rest.now }
+    ensures read { option_map at_of result ≡ strict.at_in ends rest.now }
+    ensures whole { IfSome result (λ at. HasCoordinates at.place at.dims) }
 {
     if ends {
         let place = Place {
@@ -81,7 +83,8 @@ fn before_end(text: &[u8]) -> Option<&[u8]>
 
 /// Two or three coordinates with commas between.
 fn read_place(text: &[u8]) -> Option<At>
-    ensures { option_map at_of result ≡ strict.place_in text.now }
+    ensures read { option_map at_of result ≡ strict.place_in text.now }
+    ensures whole { IfSome result (λ at. HasCoordinates at.place at.dims) }
 {
     let (row, rest) = cut_at(b',', text);
     let (column, plane) = cut_at(b',', rest);
@@ -92,7 +95,8 @@ fn read_place(text: &[u8]) -> Option<At>
 }
 
 fn with_plane(row: u32, column: u32, ends: bool, plane: &[u8]) -> Option<At>
-    ensures { option_map at_of result ≡ strict.with_plane row column ends plane.now }
+    ensures read { option_map at_of result ≡ strict.with_plane row column ends plane.now }
+    ensures whole { IfSome result (λ at. HasCoordinates at.place at.dims) }
 {
     if ends {
         let place = Place {

@@ -1,10 +1,10 @@
 // A log line read back.
-ghost use Rattle.std.specs.Prelude.{◌≡◌};
+ghost use Rattle.std.specs.Prelude.{◌≡◌, IfSome};
 ghost use Rattle.std.specs.Option.{option_map};
 ghost use Rattle.text_forms.specs.LogLine as forms;
 ghost use Rattle.text_forms.specs.Frames.{line_time};
-ghost use Rattle.line_read.specs.LeafRead.{named_leaf};
-ghost use Rattle.line_read.specs.LineRead.{line_of};
+ghost use Rattle.line_read.specs.LeafRead.{named_leaf, HasWholePlace};
+ghost use Rattle.line_read.specs.LineRead.{leaf_in, line_of};
 ghost use Rattle.line_read.specs.PartsRead.{parts_of};
 ghost use Rattle.line_read.specs.Strict as strict;
 
@@ -64,7 +64,8 @@ impl LogLine<'_> {
 /// The line that a text, without its line end, is; None exactly where it is off the form of a log's
 /// lines. It takes no memory.
 pub fn read_line(text: &[u8]) -> Option<LogLine<'_>>
-    ensures { option_map line_of result ≡ forms.read_line text.now }
+    ensures line { option_map line_of result ≡ forms.read_line text.now }
+    ensures leaf { IfSome result (λ line. HasWholePlace (leaf_in line)) }
 {
     match usual_line(text) {
         Some(line) => Some(line),
@@ -76,7 +77,8 @@ pub fn read_line(text: &[u8]) -> Option<LogLine<'_>>
 #[cold]
 #[inline(never)]
 fn strict_line(text: &[u8]) -> Option<LogLine<'_>>
-    ensures { option_map line_of result ≡ strict.strict_line text.now }
+    ensures line { option_map line_of result ≡ strict.strict_line text.now }
+    ensures leaf { IfSome result (λ line. HasWholePlace (leaf_in line)) }
 {
     let parts = cut_parts(text)?;
     line_by(&parts)
@@ -84,7 +86,8 @@ fn strict_line(text: &[u8]) -> Option<LogLine<'_>>
 
 /// The line of these parts, by its letter.
 fn line_by<'a>(parts: &Parts<'a>) -> Option<LogLine<'a>>
-    ensures { option_map line_of result ≡ strict.line_by parts.now.letter.now (parts_of parts.now) }
+    ensures line { option_map line_of result ≡ strict.line_by parts.now.letter.now (parts_of parts.now) }
+    ensures leaf { IfSome result (λ line. HasWholePlace (leaf_in line)) }
 {
     match parts.letter {
         [byte] => one_letter(Letter::of_byte(*byte)?, parts),
@@ -94,7 +97,8 @@ fn line_by<'a>(parts: &Parts<'a>) -> Option<LogLine<'a>>
 
 /// The line of this letter, of its other parts.
 fn one_letter<'a>(letter: Letter, parts: &Parts<'a>) -> Option<LogLine<'a>>
-    ensures { option_map line_of result ≡ strict.one_letter letter (parts_of parts.now) }
+    ensures line { option_map line_of result ≡ strict.one_letter letter (parts_of parts.now) }
+    ensures leaf { IfSome result (λ line. HasWholePlace (leaf_in line)) }
 {
     match letter.tells() {
         Tells::Given { .. } => given_line(letter, parts),
@@ -103,7 +107,8 @@ fn one_letter<'a>(letter: Letter, parts: &Parts<'a>) -> Option<LogLine<'a>>
 }
 
 fn given_line<'a>(letter: Letter, parts: &Parts<'a>) -> Option<LogLine<'a>>
-    ensures { option_map line_of result ≡ strict.given_line letter (parts_of parts.now) }
+    ensures line { option_map line_of result ≡ strict.given_line letter (parts_of parts.now) }
+    ensures leaf { IfSome result (λ line. HasWholePlace (leaf_in line)) }
 {
     let time = read_time(parts.time)?;
     let leaf = read_leaf(parts.leaf)?;
@@ -123,8 +128,10 @@ pub(crate) fn given<'a>(
     port: &'a [u8],
     value: Value,
 ) -> Option<LogLine<'a>>
-    ensures { option_map line_of result
+    requires { HasWholePlace leaf.now }
+    ensures line { option_map line_of result
         ≡ strict.given_as letter time (named_leaf leaf.now) port.now value }
+    ensures leaf { IfSome result (λ line. HasWholePlace (leaf_in line)) }
 {
     let leaf_here = *leaf;
     match letter {
@@ -157,7 +164,8 @@ pub(crate) fn given<'a>(
 }
 
 fn moved_line<'a>(parts: &Parts<'a>) -> Option<LogLine<'a>>
-    ensures { option_map line_of result ≡ strict.moved_line (parts_of parts.now) }
+    ensures line { option_map line_of result ≡ strict.moved_line (parts_of parts.now) }
+    ensures leaf { IfSome result (λ line. HasWholePlace (leaf_in line)) }
 {
     let time = read_time(parts.time)?;
     let leaf = read_leaf(parts.leaf)?;
@@ -173,7 +181,9 @@ pub(crate) fn moved<'a>(
     value: Option<Value>,
     next: Option<Time>,
 ) -> Option<LogLine<'a>>
-    ensures { option_map line_of result ≡ strict.moved_as time (named_leaf leaf.now) value next }
+    requires { HasWholePlace leaf.now }
+    ensures line { option_map line_of result ≡ strict.moved_as time (named_leaf leaf.now) value next }
+    ensures leaf { IfSome result (λ line. HasWholePlace (leaf_in line)) }
 {
     let leaf_here = *leaf;
     if agrees(leaf, &value) {

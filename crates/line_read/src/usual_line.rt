@@ -5,8 +5,8 @@ ghost use Rattle.quantity.specs.Times.{IsTime};
 ghost use Rattle.text_forms.specs.declared.letter.Letter.TheVariants.{S};
 ghost use Rattle.text_forms.specs.LogLine.{is_leaf};
 ghost use Rattle.line_read.specs.Fronts.{headed, IsLineText};
-ghost use Rattle.line_read.specs.LeafRead.{named_leaf};
-ghost use Rattle.line_read.specs.LineRead.{line_of};
+ghost use Rattle.line_read.specs.LeafRead.{named_leaf, HasWholePlace};
+ghost use Rattle.line_read.specs.LineRead.{leaf_in, line_of};
 
 use crate::front::{leaf_in_front, letter_in_front, port_in_front, state_in_front, time_in_front};
 use crate::leaf_name::LeafName;
@@ -18,7 +18,8 @@ use text_forms::{Letter, Tells};
 /// The line that a text is, where letter, time and leaf are of the usual form.
 #[inline(always)]
 pub(crate) fn usual_line(text: &[u8]) -> Option<LogLine<'_>>
-    ensures { IfSome result (λ line. IsLineText text.now (line_of line)) }
+    ensures line { IfSome result (λ line. IsLineText text.now (line_of line)) }
+    ensures leaf { IfSome result (λ line. HasWholePlace (leaf_in line)) }
 {
     let Some((letter, behind_letter)) = letter_in_front(text) else {
         return None;
@@ -45,8 +46,10 @@ fn usual_given<'a>(
 ) -> Option<LogLine<'a>>
     requires time { IsTime time }
     requires leaf { is_leaf (named_leaf leaf.now) ≡ true }
-    ensures { IfSome result (λ line.
+    requires whole { HasWholePlace leaf.now }
+    ensures line { IfSome result (λ line.
         IsLineText (headed letter time (named_leaf leaf.now) text.now) (line_of line)) }
+    ensures leaf { IfSome result (λ line. HasWholePlace (leaf_in line)) }
 {
     let (port, behind_port) = port_in_front(text)?;
     let value = read_value(behind_port)?;
@@ -58,8 +61,10 @@ fn usual_given<'a>(
 fn usual_moved<'a>(time: Time, leaf: &LeafName<'a>, text: &[u8]) -> Option<LogLine<'a>>
     requires time { IsTime time }
     requires leaf { is_leaf (named_leaf leaf.now) ≡ true }
-    ensures { IfSome result (λ line.
+    requires whole { HasWholePlace leaf.now }
+    ensures line { IfSome result (λ line.
         IsLineText (headed S time (named_leaf leaf.now) text.now) (line_of line)) }
+    ensures leaf { IfSome result (λ line. HasWholePlace (leaf_in line)) }
 {
     let Some((state, behind_state)) = state_in_front(text) else {
         return None;

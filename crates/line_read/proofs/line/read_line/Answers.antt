@@ -3,8 +3,8 @@ use Rattle.line_read.specs.LineRead.{line_of}
 use Rattle.line_read.proofs.StrictLines.{line_as_read, strict}
 use Rattle.line_read.proofs.line.read_line.Goals as goal
 
-pub returns-in-Some : goal.returns-in-Some
-returns-in-Some c = line_as_read c.args.text.now (line_of c.in-Some.line) c.in-Some.ensures
+pub returns-in-Some-clause-line : goal.returns-in-Some-clause-line
+returns-in-Some-clause-line c = line_as_read c.args.text.now (line_of c.in-Some.line) c.in-Some.ensures.line
 
-pub returns-in-None : goal.returns-in-None
-returns-in-None c = c.strict_line.ensures ∙ strict c.args.text.now
+pub returns-in-None-clause-line : goal.returns-in-None-clause-line
+returns-in-None-clause-line c = c.strict_line.ensures.line ∙ strict c.args.text.now

@@ -4,7 +4,7 @@ use Rattle.line_read.specs.LineRead.{line_of}
 use Rattle.line_read.proofs.UsualLines.{moved_in_front}
 use Rattle.line_read.proofs.usual_line.usual_moved.Goals as goal
 
-pub returns : goal.returns
-returns c =
+pub returns-clause-line : goal.returns-clause-line
+returns-clause-line c =
     moved_in_front line_of c.moved.result c.args.time (named_leaf c.args.leaf.now) c.in-Some.state c.in_ok-next.next
-    c.args.text.now c.in-Some.behind_state.now c.moved.ensures c.requires.leaf c.requires.time c.in-Some.ensures.0 c.in-Some.ensures.1 (sym c.in_ok-next.ensures)
+    c.args.text.now c.in-Some.behind_state.now c.moved.ensures.line c.requires.leaf c.requires.time c.in-Some.ensures.0 c.in-Some.ensures.1 (sym c.in_ok-next.ensures)
