@@ -4,8 +4,8 @@ ghost use Rattle.std.specs.Option.{option_map};
 ghost use Rattle.rule_tree.specs.Meaning.{coordinates};
 ghost use Rattle.cell_grid.specs.Space.{cell_count};
 ghost use Rattle.text_forms.specs.Frames as frames;
-ghost use Rattle.line_read.specs.LeafRead.{named_leaf};
-ghost use Rattle.line_read.specs.LineRead.{line_of};
+ghost use Rattle.line_read.specs.LeafRead.{named_leaf, HasWholePlace};
+ghost use Rattle.line_read.specs.LineRead.{leaf_in, line_of};
 ghost use Rattle.draw_log.specs.Seen.{listed, seen, seen_as, seen_line, shows};
 
 use cell_grid::Grid;
@@ -41,6 +41,7 @@ pub(crate) fn see_line(text: &[u8], before: Time, grid: &Grid, group: &Name) -> 
 
 /// The same of a line that was read.
 fn see(line: &LogLine<'_>, before: Time, grid: &Grid, group: &Name) -> Option<SeenLine>
+    requires { HasWholePlace (leaf_in line.now) }
     ensures value { let read = frames.not_before before (Some (line_of line.now)) in
         option_map seen_as result ≡ seen_line grid.now group.now read }
     ensures inside { IfSome result (λ line. IfSome line.given (λ g. g.cell < cell_count grid.now)) }
@@ -55,6 +56,7 @@ fn see(line: &LogLine<'_>, before: Time, grid: &Grid, group: &Name) -> Option<Se
 
 /// What a cell of the group gave in a line, if one did; None where the line is refused.
 fn given_in(line: &LogLine<'_>, grid: &Grid, group: &Name) -> Option<Option<CellValue>>
+    requires { HasWholePlace (leaf_in line.now) }
     ensures value { let line = line_of line.now in
         option_map (listed (frames.line_time line)) result
         ≡ frames.shown_of grid.now group.now line }
@@ -73,6 +75,7 @@ fn given_by(
     grid: &Grid,
     group: &Name,
 ) -> Option<Option<CellValue>>
+    requires { HasWholePlace leaf.now }
     ensures value { (time : ℕ) → let shown = shows grid.now group.now time
         (named_leaf leaf.now) value in
         option_map (listed time) result ≡ shown }
@@ -87,13 +90,14 @@ fn given_by(
 
 /// The cell of a leaf, where there are as many coordinates as the space has, and they lie in it.
 fn cell_of(leaf: &LeafName<'_>, grid: &Grid) -> Option<u32>
+    requires { HasWholePlace leaf.now }
     ensures value { result ≡ frames.cell_of grid.now (named_leaf leaf.now).at }
     ensures inside { IfSome result (λ cell. cell < cell_count grid.now) }
 {
     match leaf.dims {
-        0 | 1 => None,
         2 => cell_at_two(leaf.place.row, leaf.place.column, grid),
-        _ => cell_at_three(leaf.place, grid),
+        3 => cell_at_three(leaf.place, grid),
+        _ => None,
     }
 }
 

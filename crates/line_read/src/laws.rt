@@ -1,4 +1,4 @@
-// Calls that name the definitions.
+// Computed examples of lines, written and read.
 ghost use Rattle.line_read.specs.LineExamples.{LinesAsSaid};
 
 /// Lines of a cell of three dimensions, written and read back.

@@ -86,7 +86,8 @@ fn strict_line(text: &[u8]) -> Option<LogLine<'_>>
 
 /// The line of these parts, by its letter.
 fn line_by<'a>(parts: &Parts<'a>) -> Option<LogLine<'a>>
-    ensures line { option_map line_of result ≡ strict.line_by parts.now.letter.now (parts_of parts.now) }
+    ensures line { option_map line_of result
+        ≡ strict.line_by parts.now.letter.now (parts_of parts.now) }
     ensures leaf { IfSome result (λ line. HasWholePlace (leaf_in line)) }
 {
     match parts.letter {
@@ -182,7 +183,8 @@ pub(crate) fn moved<'a>(
     next: Option<Time>,
 ) -> Option<LogLine<'a>>
     requires { HasWholePlace leaf.now }
-    ensures line { option_map line_of result ≡ strict.moved_as time (named_leaf leaf.now) value next }
+    ensures line { option_map line_of result
+        ≡ strict.moved_as time (named_leaf leaf.now) value next }
     ensures leaf { IfSome result (λ line. HasWholePlace (leaf_in line)) }
 {
     let leaf_here = *leaf;
@@ -198,7 +200,7 @@ pub(crate) fn moved<'a>(
     }
 }
 
-/// A cell has a value, and an atomic component none.
+/// Whether the value is as the leaf has it: a cell has one, and an atomic component none.
 fn agrees(leaf: &LeafName<'_>, value: &Option<Value>) -> bool
     ensures { result ≡ strict.agrees (named_leaf leaf.now) value.now }
 {
