@@ -22,8 +22,8 @@ use Rattle.text_forms.specs.LogLine.{given, moved, state_text, next_text, with_s
 use Rattle.text_forms.specs.Lines.{ended, leaf_name}
 use Rattle.record_text.specs.declared.records.Letters.{Letters}
 use Rattle.record_text.specs.declared.records.Records.{Records}
-use Rattle.record_text.specs.RecordTexts.{all_if, head_text, letter_text, log_text, text_at}
-use Rattle.record_text.specs.Begun.{begun}
+use Rattle.record_text.specs.RecordTexts.{all_if, letter_text, log_text, text_at}
+use Rattle.record_text.specs.Begun.{begun, head_text}
 
 -- ---- a leaf of the model, whatever the settings
 

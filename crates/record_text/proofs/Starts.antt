@@ -30,8 +30,7 @@ use Rattle.model_tree.specs.Told.{Told}
 use Rattle.model_tree.proofs.Read.{rows-length, row-parts}
 use Rattle.text_forms.specs.declared.letter.Letter.{Letter}
 use Rattle.text_forms.specs.Letters.{letter_byte}
-use Rattle.record_text.specs.RecordTexts.{head_text}
-use Rattle.record_text.specs.Begun.{begun, place_text, IsBeginning, IsOfGroup, IsStart, OfGroup}
+use Rattle.record_text.specs.Begun.{begun, head_text, place_text, IsBeginning, IsOfGroup, IsStart, OfGroup}
 use Rattle.record_text.specs.declared.start.Begins.{Begins}
 use Rattle.record_text.specs.declared.start.Begins.TheVariants.{Nothing, Boxes, Cells}
 use Rattle.record_text.specs.declared.start.Start.{Start}

@@ -2,11 +2,13 @@
 use Rattle.std.specs.Prelude.{◌≡◌, ⊤, ℕ, Some, ◌∷◌, ◌++◌, map, take, slice_get, codes, decimal}
 use Rattle.std.specs.List.{join_with_byte}
 use Rattle.quantity.specs.Bytes.{Bytes}
+use Rattle.quantity.specs.ByteNames.{comma}
 use Rattle.quantity.specs.Times.{time_text}
 use Rattle.rule_tree.specs.Meaning.{coordinates}
 use Rattle.cell_grid.specs.Space.{Space, dims_of, place_of}
 use Rattle.model_tree.specs.declared.table.Model.{Model}
-use Rattle.model_tree.specs.Tree.{Group, groups}
+use Rattle.model_tree.specs.Tree.{Group, Leaf, groups}
+use Rattle.model_tree.specs.LeafTexts.{leaf_text}
 use Rattle.model_tree.specs.Models.{tree_of}
 use Rattle.model_tree.specs.Leaves.{Settings}
 use Rattle.text_forms.specs.declared.letter.Letter.{Letter}
@@ -19,10 +21,16 @@ use Rattle.record_text.specs.declared.start.Start.{Start}
 unfoldable pub begun : Letter → ℕ → Bytes
 begun letter time = (letter_byte letter ∷ codes " / ") ++ time_text time ++ codes " / "
 
+-- letter, time and leaf
+unfoldable pub head_text : Letter → ℕ → Leaf → Bytes
+head_text letter time l =
+    (letter_byte letter ∷ codes " / ") ++ time_text time ++ codes " / " ++ leaf_text l
+    ++ codes " / "
+
 -- the coordinates of a cell
 abbrev pub coordinates_text : Space → ℕ → Bytes
 coordinates_text s cell =
-    join_with_byte 44 (map decimal (take (dims_of s) (coordinates (place_of s cell))))
+    join_with_byte comma (map decimal (take (dims_of s) (coordinates (place_of s cell))))
 
 -- what stands behind a group's name and a parenthesis
 unfoldable pub place_text : Space → ℕ → Bytes

@@ -1,4 +1,4 @@
-// Calls that name the definitions.
+// Which leaves and ports the records of a run name.
 ghost use Rattle.record_text.specs.CycleNames.{CyclesNameLeaves};
 
 /// The records of a cycle of a run name leaves and ports of the model.

@@ -1,5 +1,6 @@
 // The coordinates of a cell as a text, which is written from its right end on.
 ghost use Rattle.std.specs.Prelude.{◌≡◌, ◌+◌, ◌<◌, ◌≤◌, ◌∷◌, ◌++◌, length, codes, decimal, take, OnOk};
+ghost use Rattle.quantity.specs.ByteNames.{comma};
 ghost use Rattle.cell_grid.specs.Space.{cell_count};
 ghost use Rattle.record_text.specs.Begun.{coordinates_text, place_text};
 
@@ -42,7 +43,7 @@ impl PlaceText {
     #[inline(always)]
     fn put_comma(&mut self)
         requires { length self.old < 40 }
-        ensures { self.new ≡ 44 ∷ self.old }
+        ensures { self.new ≡ comma ∷ self.old }
     {
         self.start -= 1;
         self.bytes[self.start] = b',';
@@ -76,7 +77,8 @@ impl PlaceText {
     #[inline(always)]
     fn put_two(&mut self, place: &Place)
         requires { length self.old ≤ 4 }
-        ensures { self.new ≡ decimal place.now.row ++ 44 ∷ (decimal place.now.column ++ self.old) }
+        ensures { self.new
+            ≡ decimal place.now.row ++ comma ∷ (decimal place.now.column ++ self.old) }
     {
         self.put_number(place.column);
         self.put_comma();
@@ -85,8 +87,8 @@ impl PlaceText {
 
     fn put_three(&mut self, place: &Place)
         requires { length self.old ≤ 4 }
-        ensures { self.new ≡ decimal place.now.row ++ 44 ∷ (decimal place.now.column
-            ++ 44 ∷ (decimal place.now.plane ++ self.old)) }
+        ensures { self.new ≡ decimal place.now.row ++ comma ∷ (decimal place.now.column
+            ++ comma ∷ (decimal place.now.plane ++ self.old)) }
     {
         self.put_number(place.plane);
         self.put_comma();

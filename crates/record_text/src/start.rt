@@ -7,8 +7,7 @@ ghost use Rattle.model_tree.specs.Leaves.{no_settings, Appends, IsLeafOf};
 ghost use Rattle.record_text.specs.declared.start.Begins.TheVariants.{Nothing, Boxes};
 ghost use Rattle.record_text.specs.declared.start.Begins.TheVariants.{Cells as cells};
 ghost use Rattle.model_tree.specs.declared.table.Model.{Model};
-ghost use Rattle.record_text.specs.Begun.{begun, place_text, IsBeginning, IsStart, OfGroup};
-ghost use Rattle.record_text.specs.RecordTexts.{head_text};
+ghost use Rattle.record_text.specs.Begun.{begun, head_text, place_text, IsBeginning, IsStart, OfGroup};
 
 use crate::kept::Kept;
 use crate::pieces::{put, put_begun, put_leaf};

@@ -1,7 +1,7 @@
-// The texts of a cycle's records.
+// The texts of records.
 ghost use Rattle.std.specs.Prelude.{◌≡◌, ◌∷◌, [], ◌++◌, length, take, OnOk, OnErr};
 ghost use Rattle.run_model.specs.Run.{Cycle};
-ghost use Rattle.model_tree.specs.Tree.{leaves};
+ghost use Rattle.model_tree.specs.Tree.{leaves, outs_of};
 ghost use Rattle.model_tree.specs.Leaves.{OfTree};
 ghost use Rattle.text_forms.specs.Lines as forms;
 ghost use Rattle.record_text.specs.Held.{Holds};
@@ -17,8 +17,8 @@ use model_tree::Model;
 use quantity::OutOfMemory;
 use text_forms::Letter;
 
-/// Appends the lines of the chosen letters: Y, then N, X and S. The records are those of one cycle,
-/// and name leaves and ports of the model. Where memory is refused, `into` stays as it was.
+/// Appends the lines of the chosen letters: Y, then N, X and S, each with the time of its record.
+/// The records name leaves and ports of the model. Where memory is refused, `into` stays as it was.
 pub fn log_bytes(
     records: &Records,
     letters: &Letters,
@@ -26,6 +26,8 @@ pub fn log_bytes(
     into: &mut Vec<u8>,
 ) -> Result<(), OutOfMemory>
     requires { NamesLeaves model.now records.now }
+    ensures lines { OnOk result (OfTree model.now (λ tree.
+        into.new.items ≡ into.old.items ++ log_text (leaves tree) letters.now records.now)) }
     // For the cycle whose records these are.
     ensures ok { OnOk result ((c : Cycle) → Holds records.now c → OfTree model.now (λ tree.
         into.new.items ≡ into.old.items
@@ -86,9 +88,11 @@ fn chosen<T>(is_chosen: bool, records: &[T]) -> &[T]
     if is_chosen { records } else { &[] }
 }
 
-/// Appends the lines of the outputs of top. The records are those of one cycle. Where memory is
+/// Appends the lines of the outputs of top, each with the time of its record. Where memory is
 /// refused, `into` stays as it was.
 pub fn out_bytes(records: &Records, model: &Model, into: &mut Vec<u8>) -> Result<(), OutOfMemory>
+    ensures lines { OnOk result (OfTree model.now (λ tree.
+        into.new.items ≡ into.old.items ++ out_texts (outs_of tree) records.now.out.items)) }
     // For the cycle whose records these are.
     ensures ok { OnOk result ((c : Cycle) → Holds records.now c → OfTree model.now (λ tree.
         into.new.items ≡ into.old.items ++ forms.out_bytes tree (c ∷ []))) }

@@ -2,7 +2,8 @@ use Rattle.std.proofs.Common.{◌≡◌, ◌++◌, subst}
 use Rattle.text_forms.specs.declared.letter.Letter.{Letter}
 use Rattle.text_forms.specs.declared.letter.Letter.TheVariants.{X}
 use Rattle.text_forms.specs.Lines.{in_port_name}
-use Rattle.record_text.specs.RecordTexts.{head_text, x_text}
+use Rattle.record_text.specs.Begun.{head_text}
+use Rattle.record_text.specs.RecordTexts.{x_text}
 use Rattle.record_text.proofs.Appended.{given_joined, kept_on, on_ok}
 use Rattle.record_text.proofs.given.put_reached_line.Goals as goal
 

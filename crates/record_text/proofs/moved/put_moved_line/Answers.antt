@@ -1,6 +1,7 @@
 use Rattle.std.proofs.Common.{◌≡◌, ◌++◌, subst}
 use Rattle.text_forms.specs.declared.letter.Letter.{Letter}
-use Rattle.record_text.specs.RecordTexts.{head_text, s_text}
+use Rattle.record_text.specs.Begun.{head_text}
+use Rattle.record_text.specs.RecordTexts.{s_text}
 use Rattle.record_text.proofs.Appended.{kept_on, moved_joined, on_ok}
 use Rattle.record_text.proofs.moved.put_moved_line.Goals as goal
 
