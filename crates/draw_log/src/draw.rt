@@ -1,6 +1,7 @@
 // The frames of a log.
 ghost use Rattle.std.specs.Prelude.{◌≡◌, ◌==◌, ◌<◌, ◌^◌, length};
 ghost use Rattle.std.specs.List.{slice_split};
+ghost use Rattle.quantity.specs.ByteNames.{line_feed};
 ghost use Rattle.text_forms.specs.Frames.{drawn};
 ghost use Rattle.frame_draw.specs.Drawing.{CanDraw};
 ghost use Rattle.draw_log.specs.Answered.{IsDrawn, IsReadTo};
@@ -53,7 +54,7 @@ fn take_lines(
     requires space { frames.old.drawing.picture.space ≡ grid.now }
     requires short { length log.now < 2 ^ 32 }
     ensures { IsReadTo (drawn_from group.now 1 0 frames.old
-        (slice_split (λ c. c == 10) log.now)) frames.new result }
+        (slice_split (λ c. c == line_feed) log.now)) frames.new result }
 {
     let mut before = first_time();
     let mut lines = 0;

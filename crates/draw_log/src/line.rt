@@ -88,7 +88,8 @@ fn given_by(
     Some(Some(CellValue { cell, value }))
 }
 
-/// The cell of a leaf, where there are as many coordinates as the space has, and they lie in it.
+/// The cell of a leaf, where there are as many coordinates as the space has, and they lie in it. An
+/// atomic component has none.
 fn cell_of(leaf: &LeafName<'_>, grid: &Grid) -> Option<u32>
     requires { HasWholePlace leaf.now }
     ensures value { result ≡ frames.cell_of grid.now (named_leaf leaf.now).at }

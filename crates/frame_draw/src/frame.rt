@@ -1,5 +1,6 @@
 // The text of one frame. A refusal may leave more behind what was there.
 ghost use Rattle.std.specs.Prelude.{◌≡◌, ◌*◌, ◌++◌, length, take, replicate, OnOk};
+ghost use Rattle.quantity.specs.ByteNames.{minus_sign};
 ghost use Rattle.text_forms.specs.Frames.{edge, frame_text};
 ghost use Rattle.frame_draw.specs.Drawing.{value_of};
 ghost use Rattle.frame_draw.specs.Pictures.{picture_of, time_line, IsPicture};
@@ -51,7 +52,7 @@ fn put_edge(plane: &Plane, into: &mut Vec<u8>) -> Result<(), OutOfMemory>
 }
 
 fn put_dashes(count: usize, into: &mut Vec<u8>) -> Result<(), OutOfMemory>
-    ensures ok { OnOk result (into.new.items ≡ into.old.items ++ replicate count 45) }
+    ensures ok { OnOk result (into.new.items ≡ into.old.items ++ replicate count minus_sign) }
     ensures kept { take (length into.old.items) into.new.items ≡ into.old.items }
 {
     let Some(end) = into.len().checked_add(count) else {

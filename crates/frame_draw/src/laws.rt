@@ -1,4 +1,4 @@
-// Calls that name the definitions.
+// How frames come of what is shown, instant by instant.
 ghost use Rattle.frame_draw.specs.Instants.{OneFrame};
 ghost use Rattle.frame_draw.specs.Turns.{DrawsAllFrames};
 

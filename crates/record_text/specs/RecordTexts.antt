@@ -1,5 +1,5 @@
--- The lines of records: each has the time of its record, so that records of several times have lines
--- too.
+-- The lines of records. Each line has the time of its record, so records of several times have
+-- lines too.
 use Rattle.std.specs.Prelude.{Bool, Option, Some, None, List, [], ◌++◌, slice_get}
 use Rattle.std.specs.Prelude.{if◌then◌else◌}
 use Rattle.std.specs.List.{flat_map}

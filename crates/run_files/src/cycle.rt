@@ -98,7 +98,7 @@ fn write_before<R: Room>(
     }
 }
 
-/// An instant was begun, and it is another than this.
+/// Whether an instant was begun that is another than this.
 fn has_begun_before(drawn: &Option<Drawn>, at: Time) -> bool
     ensures { result ≡ is_begun_before at drawn.now }
 {

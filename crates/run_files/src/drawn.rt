@@ -62,7 +62,7 @@ impl Drawn {
         })
     }
 
-    /// An instant was begun, and it is another than this.
+    /// Whether an instant was begun that is another than this.
     pub(crate) fn has_begun_before(&self, at: Time) -> bool
         ensures { result ≡ is_other self.now.drawing.begun at }
     {

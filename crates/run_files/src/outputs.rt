@@ -8,17 +8,19 @@ use record_text::Letters;
 /// The files that a run makes, or none of them; and what its last line and its complaints tell.
 #[derive(Clone, Copy)]
 pub struct Outputs<'a> {
-    /// The size of a model that is made, or None where it is read of a file.
+    /// The size of a model that is made, 5 to 1000, or None where it is read of a file.
     pub made: Option<u32>,
     pub end: Time,
     pub log: Option<&'a str>,
     pub out: Option<&'a str>,
     pub frames: Option<FramesFile<'a>>,
     pub letters: Letters,
+    /// How many cycles one instant may have, 1 to 1,000,000.
     pub limit: u32,
 }
 
-/// A file of frames: its name, the group and its plane, and how values are drawn.
+/// A file of frames: its name, the group and its plane, and how values are drawn: in `width` places,
+/// 1 to 20, with `decimals` decimals, 0 to 5.
 #[derive(Clone, Copy)]
 pub struct FramesFile<'a> {
     pub name: &'a str,
