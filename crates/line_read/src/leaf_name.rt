@@ -7,9 +7,9 @@ ghost use Rattle.line_read.specs.Strict as strict;
 
 use crate::usual::plain_number;
 use itoa::Buffer;
-use quantity::Place;
 use quantity::digits::{cut_at, whole_number};
 use quantity::name::is_name;
+use quantity::{MAX_CELLS, Place};
 
 /// The name of a leaf. Of a cell it is that of its group, and `dims` is the number of its
 /// coordinates, 2 or 3; of an atomic component `dims` is 0. Coordinates from number `dims` on are
@@ -111,7 +111,7 @@ fn with_plane(row: u32, column: u32, ends: bool, plane: &[u8]) -> Option<At>
     Some(At { dims: 3, place })
 }
 
-/// The number that is written so, at most 1048575.
+/// The number that is written so, where a space may have that coordinate.
 fn coordinate(text: &[u8]) -> Option<u32>
     ensures { result ≡ strict.coordinate text.now }
 {
@@ -126,7 +126,7 @@ fn written_number(text: &[u8]) -> Option<u32>
     ensures { result ≡ strict.coordinate text.now }
 {
     let number = whole_number(7, text)? as u32;
-    if number > 1_048_575 {
+    if MAX_CELLS <= number {
         return None;
     }
     let mut buffer = Buffer::new();

@@ -1,11 +1,12 @@
 // Texts of the usual forms, which are read without being written again. All others are read the
 // long way.
 ghost use Rattle.std.specs.Prelude.{◌≡◌, ◌+◌, ◌*◌, ◌<◌, ◌≤◌, [], ◌∷◌, ◌++◌, Some, false, codes, decimal, get_or, length, pos, IfSome};
+ghost use Rattle.quantity.specs.declared.bounds.TheConstants.{MAX_CELLS};
 ghost use Rattle.quantity.specs.declared.value.Value.TheVariants.{Num};
 ghost use Rattle.quantity.specs.ValueTexts.{read_text5};
 
 use quantity::digits::whole_number;
-use quantity::{Raw, Value};
+use quantity::{MAX_CELLS, Raw, Value};
 
 /// The number of a digit.
 #[inline(always)]
@@ -53,16 +54,16 @@ pub(crate) fn whole_value(number: u32) -> Option<Value>
     }
 }
 
-/// The number of at most 1048575 whose decimal digits these are.
+/// The number whose decimal digits these are, where a space may have that coordinate.
 #[inline(always)]
 pub(crate) fn plain_number(text: &[u8]) -> Option<u32>
-    ensures { IfSome result (λ n. (n ≤ 1048575) × (text.now ≡ decimal n)) }
+    ensures { IfSome result (λ n. (n < MAX_CELLS) × (text.now ≡ decimal n)) }
 {
     if has_zero_in_front(text) {
         return None;
     }
     let number = whole_number(7, text)? as u32;
-    if 1_048_575 < number {
+    if MAX_CELLS <= number {
         return None;
     }
     Some(number)

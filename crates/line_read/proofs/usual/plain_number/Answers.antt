@@ -8,4 +8,4 @@ returns c =
     let n = c.in_ok-number.field-0 in
     let le : n ≤ 1048575 = omega arith in
     let read : Some n ≡ whole_number 7 c.args.text.now = c.in_ok-number.ensures.value in
-    (le, plain_read c.args.text.now n read (c.has_zero_in_front.ensures c.if-has_zero_in_front.false) le)
+    (omega arith, plain_read c.args.text.now n read (c.has_zero_in_front.ensures c.if-has_zero_in_front.false) le)
