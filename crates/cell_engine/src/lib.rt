@@ -2,6 +2,7 @@
 #![tactic(auto)]
 
 mod bag;
+pub mod computed;
 mod desk;
 pub mod laws;
 mod make;
@@ -13,6 +14,7 @@ pub mod stop;
 pub mod store;
 
 pub use cell_table::{Cell, CellState, PortState};
+pub use computed::Computed;
 pub use rule_eval::Given;
 pub use steps::Steps;
 pub use stop::CellStop;

@@ -18,7 +18,7 @@ use crate::bag::advance;
 use crate::desk::{Desk, desk_for};
 use crate::make::{plan_of, table_of};
 use crate::plan::Plan;
-use crate::{Cell, CellState, CellStop, Steps};
+use crate::{Cell, CellState, CellStop, Computed, Steps};
 use atomic_face::PortNo;
 use cell_table::CellTable;
 use model_tree::CellGroup;
@@ -79,24 +79,20 @@ impl CellStore {
         self.table.tell(i)
     }
 
-    /// The value that a cell computed last at its port `out`. It takes no memory.
-    pub fn computed<L: Ledger>(&self, i: u32, steps: &mut Steps<L>) -> Value
+    /// The value that a cell computed last at its port `out`, and its next time. It takes no memory.
+    #[inline(always)]
+    pub fn computed<L: Ledger>(&self, i: u32, steps: &mut Steps<L>) -> Computed
         requires { i < length self.now.cells }
-        ensures value { result
+        ensures value { result.value
             ≡ slice_index_or (computed_of (cell_at self.now.cells i)) 0 AnyValue.Undefined }
+        ensures next { result.next ≡ cell_next (cell_at self.now.cells i) }
         ensures steps { steps.new ≡ steps.old + 1 }
     {
         steps.tick();
-        self.table.computed(i, 0)
-    }
-
-    /// The next time of a cell. It takes no memory and counts no visit.
-    #[inline(always)]
-    pub fn next(&self, i: u32) -> Option<Time>
-        requires { i < length self.now.cells }
-        ensures { result ≡ cell_next (cell_at self.now.cells i) }
-    {
-        self.table.next_of(i)
+        Computed {
+            value: self.table.computed(i, 0),
+            next: self.table.next_of(i),
+        }
     }
 
     /// The value of a variable of a cell. It takes no memory.

@@ -140,7 +140,7 @@ fn tells<L: Ledger>(rt: &impl Abort, store: &CellStore, steps: &mut Steps<L>, to
     let cell = store.cell(0, steps);
     let computed = store.computed(0, steps);
     assert_eq!(rt;
-        (cell, computed, store.next(0)),
+        (cell, computed.value, computed.next),
         (*told, told.computed[0], told.next)
     );
 }
@@ -205,7 +205,7 @@ fn gives<L: Ledger>(
 ) -> Result<(), Fail> {
     let values = [Some(digit(b'0')?), None, None, None];
     assert_eq!(rt; store.cells(), 1);
-    let Some(due) = store.next(0) else {
+    let Some(due) = store.computed(0, steps).next else {
         return Err(Fail::new("not due"));
     };
     assert_eq!(rt; store.emit(0, due, steps), Given { values });

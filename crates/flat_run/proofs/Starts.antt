@@ -1,5 +1,5 @@
 -- What holds of a run before its first cycle.
-use Rattle.std.proofs.Common.{◌≡◌, ◌≢◌, ℕ, zero, suc, ◌+◌, ◌<◌, ◌≤◌, Bool, true, false, eqb, eqb-true, eq-eqb, true≢false, Option, Some, None, List, [], ◌∷◌, map, length, replicate, refl, sym, ◌∙◌, ap, subst, arith}
+use Rattle.std.proofs.Common.{◌≡◌, ◌≢◌, ℕ, zero, suc, ◌+◌, ◌<◌, ◌≤◌, Bool, true, false, eqb, eqb-true, eq-eqb, true≢false, Option, Some, None, List, [], ◌∷◌, map, length, refl, sym, ◌∙◌, ap, subst, arith}
 use Rattle.std.specs.Prelude.{slice_get, slice_set, slice_index_or, IsTrue}
 use Rattle.std.proofs.lemmas.List.{length-map, length-set}
 use Rattle.atomic_face.specs.StockView.{Stocked}
@@ -7,10 +7,9 @@ use Rattle.event_list.specs.Events.{Event}
 use Rattle.model_tree.specs.declared.table.Model.{Model}
 use Rattle.model_tree.specs.Tree.{Tree, Leaf, leaves, leaf_count}
 use Rattle.model_tree.specs.Sound.{is_sound_model}
-use Rattle.model_tree.specs.Leaves.{OfTree}
 use Rattle.model_tree.specs.LeafTexts.{in_ports}
 use Rattle.model_tree.proofs.Read.{leaves-length}
-use Rattle.run_model.specs.Cycle.{LeafState, leaf_next, initial_leaf}
+use Rattle.run_model.specs.Cycle.{LeafState, leaf_next}
 use Rattle.run_model.specs.Fitting.{FitsTree, StartFits}
 use Rattle.route_flat.specs.declared.source.TargetPort.{TargetPort}
 use Rattle.route_flat.specs.declared.source.TargetPort.TheVariants as target
@@ -20,7 +19,7 @@ use Rattle.route_flat.specs.Targets.{IsPortOf, port_count, CoversPorts}
 use Rattle.sparse_cycle.specs.Sparse.{leaf_of}
 use Rattle.sparse_cycle.specs.Walk.{waits}
 use Rattle.run_leaves.specs.Seated.{Seated, ports_of, settings_in, settings_at, tree_at}
-use Rattle.run_leaves.specs.Watching.{Watching, IsWatchingOf}
+use Rattle.run_leaves.specs.Watching.{Watching}
 use Rattle.run_leaves.proofs.Places.{some-is, get-set, get-other, get-map, found-at, index-get}
 use Rattle.flat_run.specs.Changes.{StartsFrom, tree_with}
 use Rattle.flat_run.specs.Holds.{AreRoutes, IsFrameOf, GoesOn, ArePartsOf, HoldsRun, ports_in}

@@ -17,3 +17,4 @@ pub mod SoundParts
 pub mod Groups
 pub mod Starting
 pub mod Putting
+pub mod AtStart

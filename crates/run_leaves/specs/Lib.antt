@@ -3,3 +3,4 @@ pub mod Moving
 pub mod Watching
 pub mod Saved
 pub mod Placed
+pub mod Waiting

@@ -16,7 +16,7 @@ ghost use Rattle.run_leaves.specs.Seated.{HasPort};
 ghost use Rattle.run_leaves.specs.Moving.{MovesCell, leaf_stop};
 
 use atomic_face::PortNo;
-use cell_engine::{CellStop, CellStore, Given, Steps};
+use cell_engine::{CellStop, CellStore, Computed, Given, Steps};
 use cycle_steps::halt::{LeafStop, Told};
 use quantity::{Name, OutOfMemory, Time, Value};
 use rule_tree::RuleStop;
@@ -92,22 +92,19 @@ pub(crate) fn move_cell<L: Ledger>(
     ensures steps { steps.new ≤ steps.old + (length store.old.layout.offsets + 2) }
 {
     match store.compute(cell, t, woken, bag, ports, steps) {
-        Ok(()) => {
-            let value = store.computed(cell, steps);
-            Ok(told_of(value, store.next(cell)))
-        }
+        Ok(()) => Ok(told_of(store.computed(cell, steps))),
         Err(why) => Err(stop_of_leaf(why)),
     }
 }
 
 /// What is told of a cell that moved.
-fn told_of(value: Value, next: Option<Time>) -> Told
-    ensures value { result.value ≡ Some value }
-    ensures next { result.next ≡ next }
+fn told_of(computed: Computed) -> Told
+    ensures value { result.value ≡ Some computed.value }
+    ensures next { result.next ≡ computed.next }
 {
     Told {
-        value: Some(value),
-        next,
+        value: Some(computed.value),
+        next: computed.next,
     }
 }
 

@@ -19,6 +19,7 @@ ghost use Rattle.cycle_steps.specs.Moving.{Moves};
 ghost use Rattle.run_leaves.specs.Seated.{is_box, ports_at, visits_at, settings_in, tree_at};
 ghost use Rattle.run_leaves.specs.Saved.{is_cell, words_of};
 ghost use Rattle.run_leaves.specs.Moving.{with_state, StaysAs};
+ghost use Rattle.run_leaves.specs.Waiting.{WaitsAtStart};
 
 use crate::boxes::move_box;
 use crate::cells::{give_of_cell, move_cell};
@@ -108,14 +109,15 @@ impl<M: AtomicModel> FlatLeaves<M> {
         self.model.leaves()
     }
 
-    /// The next time of a leaf. It takes no memory and no visit.
-    pub fn next(&self, leaf: u32) -> Option<Time>
-        requires { leaf < length self.now.states }
+    /// The next time of a leaf at its start. A cell waits for 0 there, so that none is visited.
+    pub fn start_time(&self, leaf: u32) -> Option<Time>
+        requires within { leaf < length self.now.states }
+        requires start { WaitsAtStart (leaf_of self.now.states leaf) }
         ensures { result ≡ leaf_next (leaf_of self.now.states leaf) }
     {
         match self.seats[leaf as usize] {
             LeafAt::Atomic(at) => self.stock.next(at),
-            LeafAt::Cell { group, cell } => self.stores[group as usize].next(cell),
+            LeafAt::Cell { group: _, cell: _ } => Time::new(0),
         }
     }
 

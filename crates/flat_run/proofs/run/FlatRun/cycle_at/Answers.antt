@@ -1,5 +1,5 @@
-use Rattle.std.proofs.Common.{◌≡◌, ◌∙◌, ℕ, ◌+◌, ◌<◌, ◌≤◌, Some, None, Ok, Err, refl, sym, ap, subst}
-use Rattle.run_model.specs.Run.{next_instant, cycles_at}
+use Rattle.std.proofs.Common.{◌≡◌, ◌∙◌, ℕ, ◌+◌, ◌≤◌, Some, None, Ok, Err, refl, sym, ap, subst}
+use Rattle.run_model.specs.Run.{cycles_at}
 use Rattle.flat_run.specs.declared.progress.Progress.TheVariants.{Cycled}
 use Rattle.flat_run.specs.declared.progress.Stop.{Stop}
 use Rattle.flat_run.specs.Standing.{Standing, next_of}

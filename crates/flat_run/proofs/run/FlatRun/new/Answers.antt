@@ -1,6 +1,17 @@
+use Rattle.std.proofs.Common.{List, sym, subst}
+use Rattle.std.specs.List.{All}
 use Rattle.std.specs.Vec.{vec_capacity}
+use Rattle.model_tree.specs.Tree.{leaves}
+use Rattle.run_model.specs.Cycle.{LeafState}
+use Rattle.run_leaves.specs.Waiting.{WaitsAtStart}
+use Rattle.run_leaves.proofs.AtStart.{initial-wait}
+use Rattle.flat_run.specs.Changes.{tree_with}
 use Rattle.flat_run.proofs.Starts.{made-holds}
 use Rattle.flat_run.proofs.run.FlatRun.new.Goals as goal
+
+pub wait_all-requires-clause-start : goal.wait_all-requires-clause-start
+wait_all-requires-clause-start g c =
+    subst (λ (states : List LeafState). All WaitsAtStart states) (sym c.in_ok-parts.ensures.states_are) (initial-wait (leaves (tree_with c.args.model c.args.stock)))
 
 pub invariant_of-result : goal.invariant_of-result
 invariant_of-result g c =
