@@ -18,7 +18,7 @@ use crate::half::first_half;
 use crate::halt::Halt;
 use crate::leaves::Leaves;
 use crate::reach::Routing;
-use crate::room::Room;
+use crate::scratch::Scratch;
 use crate::wake::Watched;
 use crate::walk::walk;
 use leaf_set::LeafSet;
@@ -40,7 +40,7 @@ pub fn cycle_at<C, L: Leaves<C>, W: Watched, R: Routing, S: LeafSet, Q: TimeQueu
     due: &[u32],
     inputs: &[(u16, Value)],
     t: Time,
-    room: &mut Room,
+    scratch: &mut Scratch,
     records: &mut Records,
     moving: &mut Vec<u32>,
     counter: &mut C,
@@ -77,7 +77,7 @@ pub fn cycle_at<C, L: Leaves<C>, W: Watched, R: Routing, S: LeafSet, Q: TimeQueu
         + sum_by (L.most leaves.old) moving.new.items }
 {
     let Ok(()) = first_half(
-        leaves, watched, routes, woken, touched, due, inputs, t, room, records, moving, counter,
+        leaves, watched, routes, woken, touched, due, inputs, t, scratch, records, moving, counter,
     ) else {
         return Err(Halt::Memory);
     };
@@ -88,7 +88,7 @@ pub fn cycle_at<C, L: Leaves<C>, W: Watched, R: Routing, S: LeafSet, Q: TimeQueu
         &records.x,
         moving,
         t,
-        &mut room.bag,
+        &mut scratch.bag,
         &mut records.s,
         counter,
     )

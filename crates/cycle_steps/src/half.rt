@@ -23,7 +23,7 @@ use crate::collect::collect;
 use crate::feed::feed;
 use crate::leaves::Leaves;
 use crate::reach::{Routing, reach};
-use crate::room::Room;
+use crate::scratch::Scratch;
 use crate::wake::{Watched, touch, wake};
 use atomic_face::PortNo;
 use leaf_set::LeafSet;
@@ -43,7 +43,7 @@ pub fn first_half<C, G: Leaves<C>, W: Watched, R: Routing, S: LeafSet>(
     due: &[u32],
     inputs: &[(u16, Value)],
     t: Time,
-    room: &mut Room,
+    scratch: &mut Scratch,
     records: &mut Records,
     moving: &mut Vec<u32>,
     counter: &mut C,
@@ -90,7 +90,7 @@ pub fn first_half<C, G: Leaves<C>, W: Watched, R: Routing, S: LeafSet>(
     sparse_cycle::laws::cells_are_woken_by_givers();
     sparse_cycle::laws::records_show_what_is_given();
     sparse_cycle::laws::events_stand_by_number();
-    room.clear();
+    scratch.clear();
     give_and_wake(
         givers,
         watched,
@@ -98,9 +98,9 @@ pub fn first_half<C, G: Leaves<C>, W: Watched, R: Routing, S: LeafSet>(
         touched,
         due,
         t,
-        &mut room.bag,
-        &mut room.givers,
-        &mut room.near,
+        &mut scratch.bag,
+        &mut scratch.givers,
+        &mut scratch.near,
         &mut records.y,
         &mut records.n,
         counter,
@@ -110,7 +110,7 @@ pub fn first_half<C, G: Leaves<C>, W: Watched, R: Routing, S: LeafSet>(
         t,
         &records.y,
         inputs,
-        &mut room.numbers,
+        &mut scratch.numbers,
         &mut records.x,
         &mut records.out,
     )?;

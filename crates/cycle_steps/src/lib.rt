@@ -9,6 +9,7 @@ pub mod half;
 pub mod halt;
 pub mod leaves;
 pub mod reach;
-pub mod room;
+pub mod scratch;
+pub mod waiting;
 pub mod wake;
 pub mod walk;

@@ -16,16 +16,16 @@ ghost use Rattle.cycle_steps.specs.Stepping.{StepsOne, halt_of};
 use crate::bag::bag_at;
 use crate::halt::{Halt, LeafStop, Told};
 use crate::leaves::Leaves;
+use crate::waiting::set_next;
 use atomic_face::PortNo;
 use leaf_set::LeafSet;
 use quantity::{OutOfMemory, Time, Value};
 use record_text::{SRecord, XRecord};
 use time_queue::TimeQueue;
 
-/// Moves all touched leaves, each by its bag of the X records, which stand by rising leaf, and with
-/// its next time in the
-/// queue: the S records. It takes no more visits than the moves of these leaves, also where one
-/// stops or memory ends.
+/// Moves all touched leaves, each by its bag of the X records, which stand by rising leaf, sets its
+/// next time in the queue, and makes the S records. It takes no more visits than the moves of these
+/// leaves, also where one stops or memory ends.
 pub fn walk<C, Q: TimeQueue, S: LeafSet, M: Leaves<C>>(
     movers: &mut M,
     queue: &mut Q,
@@ -127,17 +127,6 @@ fn note<Q: TimeQueue>(
 {
     set_next(queue, leaf, told.next);
     append_s(t, leaf, told.value, told.next, s)
-}
-
-/// A leaf waits for its next time, or for none.
-fn set_next<Q: TimeQueue>(queue: &mut Q, leaf: u32, next: Option<Time>)
-    requires { leaf < length (Q.waiting queue.old) }
-    ensures { Q.waiting queue.new ≡ slice_set (Q.waiting queue.old) leaf next }
-{
-    match next {
-        Some(at) => queue.set(leaf, at),
-        None => queue.clear(leaf),
-    }
 }
 
 /// Appends an S record.

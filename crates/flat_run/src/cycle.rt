@@ -78,7 +78,7 @@ pub(crate) fn run_cycle<Q: TimeQueue, M: AtomicModel, L: Ledger>(
         &work.due,
         &work.inputs,
         t,
-        &mut work.room,
+        &mut work.scratch,
         records,
         &mut work.moving,
         steps,

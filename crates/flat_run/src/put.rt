@@ -1,12 +1,11 @@
 // The next time of a leaf whose state is put.
-ghost use Rattle.std.specs.Prelude.{◌≡◌, ◌<◌, length, map, slice_set};
+ghost use Rattle.std.specs.Prelude.{◌≡◌, map};
 ghost use Rattle.run_model.specs.CellStep.{first_time, next_of_ports};
 ghost use Rattle.cell_table.specs.Saved.{port_of_saved};
 
 use crate::run::earlier;
 use cell_engine::PortState;
 use quantity::{Time, Value};
-use time_queue::TimeQueue;
 
 /// The least time that waits at these ports.
 pub(crate) fn least_time(ports: &[PortState]) -> Option<Time>
@@ -25,15 +24,4 @@ fn first_of(pairs: &[(Time, Value)]) -> Option<Time>
 {
     let pair = pairs.first()?;
     Some(pair.0)
-}
-
-/// A leaf waits for this time, or for none.
-pub(crate) fn set_next<Q: TimeQueue>(queue: &mut Q, leaf: u32, next: Option<Time>)
-    requires { leaf < length (Q.waiting queue.old) }
-    ensures { Q.waiting queue.new ≡ slice_set (Q.waiting queue.old) leaf next }
-{
-    match next {
-        Some(at) => queue.set(leaf, at),
-        None => queue.clear(leaf),
-    }
 }

@@ -18,12 +18,13 @@ ghost use Rattle.flat_run.specs.Changes.{StartsFrom, CanPut, with_leaf_state, wi
 
 use crate::cycle::{cycles_had, run_cycle, stop_of};
 use crate::parts::Parts;
-use crate::put::{least_time, set_next};
+use crate::put::least_time;
 use crate::start::{routes_are_ready, wait_all};
 use crate::workspace::Workspace;
 use crate::{Progress, Stop};
 use atomic_face::{AtomicModel, RestoreRefusal, Stock};
 use cell_engine::{CellState, Steps};
+use cycle_steps::waiting::set_next;
 use event_list::Events;
 use model_tree::Model as Tree;
 use quantity::{OutOfMemory, Time};

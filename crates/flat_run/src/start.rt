@@ -11,8 +11,8 @@ ghost use Rattle.sparse_cycle.specs.Walk.{waits};
 ghost use Rattle.run_leaves.specs.Waiting.{WaitsAtStart};
 ghost use Rattle.flat_run.specs.Holds.{AreRoutes};
 
-use crate::put::set_next;
 use atomic_face::AtomicModel;
+use cycle_steps::waiting::set_next;
 use run_leaves::FlatLeaves;
 use time_queue::TimeQueue;
 

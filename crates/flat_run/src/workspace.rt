@@ -1,7 +1,7 @@
 // What each cycle uses again.
 ghost use Rattle.std.specs.Prelude.{◌≡◌, false, IfOk, replicate, vec_capacity};
 
-use cycle_steps::room::Room;
+use cycle_steps::scratch::Scratch;
 use leaf_set::BitSet;
 use quantity::{OutOfMemory, Value};
 use std::alloc::Global;
@@ -14,7 +14,7 @@ pub(crate) struct Workspace {
     pub(crate) due: Vec<u32>,
     pub(crate) moving: Vec<u32>,
     pub(crate) inputs: Vec<(u16, Value)>,
-    pub(crate) room: Room,
+    pub(crate) scratch: Scratch,
 }
 
 impl Workspace {
@@ -31,7 +31,7 @@ impl Workspace {
             due: Vec::with_capacity(alloc, leaves as usize)?,
             moving: Vec::with_capacity(alloc, leaves as usize)?,
             inputs: Vec::new(alloc),
-            room: Room::none(alloc),
+            scratch: Scratch::none(alloc),
         })
     }
 }

@@ -8,7 +8,7 @@ use std::alloc::Global;
 /// Lists that each cycle uses again, so that it takes no memory where an earlier one has had as
 /// much.
 #[derive(Drop)]
-pub struct Room {
+pub struct Scratch {
     /// What one leaf gave, or what reaches it.
     pub bag: Vec<(PortNo, Value)>,
     /// The leaves that gave something.
@@ -19,10 +19,10 @@ pub struct Room {
     pub numbers: Vec<u32>,
 }
 
-impl Room {
+impl Scratch {
     /// Empty lists.
-    pub fn none(alloc: Global) -> Room {
-        Room {
+    pub fn none(alloc: Global) -> Scratch {
+        Scratch {
             bag: Vec::new(alloc),
             givers: Vec::new(alloc),
             near: Vec::new(alloc),
