@@ -18,25 +18,25 @@ use Rattle.cell_table.proofs.Laid as laid
 
 module _ (s : Inside) (t : Table) (is : seen_as s ≡ t) (h : Laid s) (i : ℕ) (here : i < length t.cells) where
   -- a part of the ports is written
-  part_written : {A : Type 0} (d : A) (f : PortState → A) (new : List PortState) (xs ys : List A) → length new ≡ s.width → length xs ≡ s.cells * s.width → ys ≡ with_piece (i * s.width) (map f new) xs
-      → (k : ℕ) → k < length new → get_or ys (i * s.width + k) d ≡ f (get_or new k no_port)
+  part_written : {A : Type 0} (d : A) (f : PortState → A) (new : List PortState) (xs ys : List A) → length new ≡ s.port_count → length xs ≡ s.cells * s.port_count → ys ≡ with_piece (i * s.port_count) (map f new) xs
+      → (k : ℕ) → k < length new → get_or ys (i * s.port_count + k) d ≡ f (get_or new k no_port)
   part_written d f new xs ys long all wrote k lt =
-      let first : ℕ = i * s.width in
+      let first : ℕ = i * s.port_count in
       let many = length-map new f in
       ap (λ us. get_or us (first + k) d) wrote ∙ laid.piece_read d xs (map f new) first k (omega (arith, row s t is h i here, all)) (omega (arith, lt, many))
       ∙ get_or-map f new k no_port d lt
 
-  part_elsewhere : {A : Type 0} (d : A) (f : PortState → A) (new : List PortState) (xs ys : List A) → length new ≡ s.width → length xs ≡ s.cells * s.width → ys ≡ with_piece (i * s.width) (map f new) xs
-      → (j m : ℕ) → j ≢ i → j * s.width ≤ m → m < j * s.width + s.width → get_or ys m d ≡ get_or xs m d
+  part_elsewhere : {A : Type 0} (d : A) (f : PortState → A) (new : List PortState) (xs ys : List A) → length new ≡ s.port_count → length xs ≡ s.cells * s.port_count → ys ≡ with_piece (i * s.port_count) (map f new) xs
+      → (j m : ℕ) → j ≢ i → j * s.port_count ≤ m → m < j * s.port_count + s.port_count → get_or ys m d ≡ get_or xs m d
   part_elsewhere d f new xs ys long all wrote j m ne low high =
-      ap (λ us. get_or us m d) wrote ∙ piece_elsewhere d xs (map f new) i j m s.width (length-map new f ∙ long) (omega (arith, row s t is h i here, all)) ne low high
+      ap (λ us. get_or us m d) wrote ∙ piece_elsewhere d xs (map f new) i j m s.port_count (length-map new f ∙ long) (omega (arith, row s t is h i here, all)) ne low high
 
-  pub cell_written : (c : CellState) (es cs vs : List Value) (ls : List (List (ℕ × Value))) → length c.ports ≡ s.width → length c.variables ≡ s.count
-      → es ≡ with_piece (i * s.width) (map (λ (p : PortState). p.emitted) c.ports) s.emitted.items
-      → cs ≡ with_piece (i * s.width) (map (λ (p : PortState). p.computed) c.ports) s.computed.items
-      → ls ≡ with_piece (i * s.width) (map (λ (p : PortState). p.pairs) c.ports) s.delays.lists
-      → vs ≡ with_piece (i * s.count) c.variables s.variables.items
-      → record { width = s.width; variables = s.count; cells = cells_in (port_in es cs ls) (variable_in vs) s.width s.count s.cells } ≡ changed_cell i (λ _. c) t
+  pub cell_written : (c : CellState) (es cs vs : List Value) (ls : List (List (ℕ × Value))) → length c.ports ≡ s.port_count → length c.variables ≡ s.variable_count
+      → es ≡ with_piece (i * s.port_count) (map (λ (p : PortState). p.emitted) c.ports) s.emitted.items
+      → cs ≡ with_piece (i * s.port_count) (map (λ (p : PortState). p.computed) c.ports) s.computed.items
+      → ls ≡ with_piece (i * s.port_count) (map (λ (p : PortState). p.pairs) c.ports) s.delays.lists
+      → vs ≡ with_piece (i * s.variable_count) c.variables s.variables.items
+      → record { width = s.port_count; variables = s.variable_count; cells = cells_in (port_in es cs ls) (variable_in vs) s.port_count s.variable_count s.cells } ≡ changed_cell i (λ _. c) t
   cell_written c es cs vs ls long many ee ec el ev =
       let emitted = λ (p : PortState). p.emitted in
       let computed = λ (p : PortState). p.computed in
@@ -48,16 +48,16 @@ module _ (s : Inside) (t : Table) (is : seen_as s ≡ t) (h : Laid s) (i : ℕ) 
       let d' = part_elsewhere Undefined computed c.ports s.computed.items cs long h.computed ec in
       let l' = part_elsewhere [] pairs c.ports s.delays.lists ls long h.lists el in
       let G = port_in es cs ls in
-      let ports = laid.ports_replaced (ports_of s) G (variables_of s) s.width s.count s.cells i c.ports long
+      let ports = laid.ports_replaced (ports_of s) G (variables_of s) s.port_count s.variable_count s.cells i c.ports long
       (λ k lt. λ x. record { emitted = e k lt x; computed = d k lt x; pairs = l k lt x })
       (λ j m ne low high. λ x. record { emitted = e' j m ne low high x; computed = d' j m ne low high x; pairs = l' j m ne low high x }) in
-      let first : ℕ = i * s.count in
+      let first : ℕ = i * s.variable_count in
       let fits : first ≤ length s.variables.items = omega (arith, variable_row s t is h i here, h.variables) in
-      let variables = laid.variables_changed G (variables_of s) (variable_in vs) s.width s.count s.cells i c.variables many
+      let variables = laid.variables_changed G (variables_of s) (variable_in vs) s.port_count s.variable_count s.cells i c.variables many
       (λ k lt. ap (λ us. get_or us (first + k) Undefined) ev ∙ laid.piece_read Undefined s.variables.items c.variables first k fits lt)
-      (λ j m ne low high. ap (λ us. get_or us m Undefined) ev ∙ piece_elsewhere Undefined s.variables.items c.variables i j m s.count many (omega (arith, variable_row s t is h i here, h.variables)) ne low high) in
-      let cells = variables ∙ ap (changed_at i (λ (b : CellState). record b { variables = c.variables })) ports ∙ changed-twice i (λ (b : CellState). record b { variables = c.variables }) (λ (b : CellState). record b { ports = c.ports }) (cells_in (ports_of s) (variables_of s) s.width s.count s.cells) in
-      (λ k. record { width = s.width; variables = s.count; cells = cells k }) ∙ ap (changed_cell i (λ _. c)) is
+      (λ j m ne low high. ap (λ us. get_or us m Undefined) ev ∙ piece_elsewhere Undefined s.variables.items c.variables i j m s.variable_count many (omega (arith, variable_row s t is h i here, h.variables)) ne low high) in
+      let cells = variables ∙ ap (changed_at i (λ (b : CellState). record b { variables = c.variables })) ports ∙ changed-twice i (λ (b : CellState). record b { variables = c.variables }) (λ (b : CellState). record b { ports = c.ports }) (cells_in (ports_of s) (variables_of s) s.port_count s.variable_count s.cells) in
+      (λ k. record { width = s.port_count; variables = s.variable_count; cells = cells k }) ∙ ap (changed_cell i (λ _. c)) is
 
 mapped : {A B C : Type 0} (f : A → B) (g : B → C) (xs : List A) → map (λ x. g (f x)) xs ≡ map g (map f xs)
 mapped f g [] = refl

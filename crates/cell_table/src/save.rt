@@ -38,7 +38,7 @@ impl CellTable {
         requires port { p < self.now.width }
         ensures { IfOk result (λ port. port_of_saved port ≡ port_at self.now i p) }
     {
-        let port = i * self.width as u32 + p as u32;
+        let port = i * self.port_count as u32 + p as u32;
         let mut pairs = Vec::new(alloc);
         self.delays.pairs(port, &mut pairs)?;
         Ok(PortState {
@@ -61,11 +61,11 @@ impl CellTable {
     {
         let pairs = number_of_pairs(&state.ports)?;
         self.delays.reserve(pairs)?;
-        let first = i as usize * self.width;
+        let first = i as usize * self.port_count;
         write_lists(&mut self.delays, first, &state.ports);
         write_emitted(&mut self.emitted, first, &state.ports);
         write_computed(&mut self.computed, first, &state.ports);
-        let variable = i as usize * self.count;
+        let variable = i as usize * self.variable_count;
         write(&mut self.variables, variable, &state.variables);
         Ok(())
     }

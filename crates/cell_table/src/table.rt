@@ -24,14 +24,14 @@ use std::marker::Model;
 #[derive(Drop)]
 pub struct CellTable {
     // How many ports a cell has, `out` included, and how many variables.
-    pub(crate) width: usize,
-    pub(crate) count: usize,
+    pub(crate) port_count: usize,
+    pub(crate) variable_count: usize,
     cells: u32,
-    // Port p of cell i stands at i * width + p, in these two lists and among the delay lists.
+    // Port p of cell i stands at i * port_count + p, in these two lists and among the delay lists.
     pub(crate) emitted: Vec<Value>,
     pub(crate) computed: Vec<Value>,
     pub(crate) delays: Delays,
-    // Variable k of cell i stands at i * count + k.
+    // Variable k of cell i stands at i * variable_count + k.
     pub(crate) variables: Vec<Value>,
 }
 
@@ -41,14 +41,14 @@ impl Model for CellTable {
     ghost Value = { Table };
 
     ghost view = { λ t. record {
-      width = t.width;
-      variables = t.count;
+      width = t.port_count;
+      variables = t.variable_count;
       cells = cells_in (port_in t.emitted.items t.computed.items t.delays.lists)
-          (variable_in t.variables.items) t.width t.count t.cells;
+          (variable_in t.variables.items) t.port_count t.variable_count t.cells;
     } };
 
-    ghost invariant = { λ t. IsLaid t.cells t.width t.count t.emitted.items t.computed.items
-        t.delays.lists t.variables.items };
+    ghost invariant = { λ t. IsLaid t.cells t.port_count t.variable_count t.emitted.items
+        t.computed.items t.delays.lists t.variables.items };
 }
 
 impl CellTable {
@@ -69,8 +69,8 @@ impl CellTable {
         let emitted = undefined(alloc, computed.len())?;
         let delays = waiting(alloc, &computed)?;
         Ok(CellTable {
-            width: further.len() + 1,
-            count: variables.len(),
+            port_count: further.len() + 1,
+            variable_count: variables.len(),
             cells: outs.len() as u32,
             emitted,
             computed,
@@ -92,7 +92,7 @@ impl CellTable {
         ensures value { result ≡ self.now.width }
         ensures table { IsTable self.now }
     {
-        self.width
+        self.port_count
     }
 
     /// What a port has emitted, and `?` where the cell has no such port.
@@ -101,8 +101,8 @@ impl CellTable {
         ensures { result ≡ slice_index_or (emitted_of
             (cell_at self.now.cells i)) p AnyValue.Undefined }
     {
-        if p < self.width {
-            value_in(&self.emitted, i as usize * self.width + p)
+        if p < self.port_count {
+            value_in(&self.emitted, i as usize * self.port_count + p)
         } else {
             Value::Undefined
         }
@@ -114,8 +114,8 @@ impl CellTable {
         ensures { result ≡ slice_index_or (computed_of
             (cell_at self.now.cells i)) p AnyValue.Undefined }
     {
-        if p < self.width {
-            value_in(&self.computed, i as usize * self.width + p)
+        if p < self.port_count {
+            value_in(&self.computed, i as usize * self.port_count + p)
         } else {
             Value::Undefined
         }
@@ -127,8 +127,8 @@ impl CellTable {
         requires cell { i < length self.now.cells }
         ensures { result ≡ first_time (port_at self.now i p).pairs }
     {
-        if p < self.width {
-            let port = i * self.width as u32 + p as u32;
+        if p < self.port_count {
+            let port = i * self.port_count as u32 + p as u32;
             next_in(&self.delays, port)
         } else {
             None
@@ -151,7 +151,7 @@ impl CellTable {
         ensures values { result.now ≡ emitted_of (cell_at self.now.cells i) }
         ensures width { length result.now ≡ self.now.width }
     {
-        piece(&self.emitted, i as usize * self.width, self.width)
+        piece(&self.emitted, i as usize * self.port_count, self.port_count)
     }
 
     /// The variables of a cell.
@@ -160,7 +160,11 @@ impl CellTable {
         ensures values { result.now ≡ (cell_at self.now.cells i).variables }
         ensures count { length result.now ≡ self.now.variables }
     {
-        piece(&self.variables, i as usize * self.count, self.count)
+        piece(
+            &self.variables,
+            i as usize * self.variable_count,
+            self.variable_count,
+        )
     }
 
     /// A port that is due at this time emits the value of its first pair, which leaves the list.
@@ -170,8 +174,8 @@ impl CellTable {
         ensures given { result ≡ given_by_port t (port_at self.old i p) }
         ensures port { self.new ≡ changed_cell i (changed_port p (port_emitted t)) self.old }
     {
-        if p < self.width {
-            let port = i * self.width as u32 + p as u32;
+        if p < self.port_count {
+            let port = i * self.port_count as u32 + p as u32;
             match first_at(&self.delays, port, t) {
                 Some(pair) => {
                     self.delays.take_first(port);
@@ -288,7 +292,7 @@ impl CellTable {
             ≡ changed_cell i (changed_port p (port_took kind at value)) self.old) }
         ensures err { OnErr result (self.new ≡ self.old) }
     {
-        let port = i * self.width as u32 + p as u32;
+        let port = i * self.port_count as u32 + p as u32;
         if is_same(&value, &value_in(&self.computed, port as usize)) {
             return Ok(());
         }
@@ -380,7 +384,7 @@ impl CellTable {
         if values.is_empty() {
             return;
         }
-        let first = i as usize * self.count;
+        let first = i as usize * self.variable_count;
         write(&mut self.variables, first, values);
     }
 }

@@ -17,7 +17,7 @@ first_at-requires c = omega (arith, row c.self.inside c.args.self.now c.self.vie
 
 pub returns-in-Some-clause-given : goal.returns-in-Some-clause-given
 returns-in-Some-clause-given c =
-    let k : ℕ = c.args.i * c.self.inside.width + c.args.p in
+    let k : ℕ = c.args.i * c.self.inside.port_count + c.args.p in
     given_is c.args.t c.in-Some.pair.0 c.in-Some.pair.1 (get_or c.self.inside.emitted.items k Undefined) (get_or c.self.inside.computed.items k Undefined) (get_or c.self.inside.delays.lists k []) (sym c.in-Some.ensures)
     ∙ sym (ap (given_by_port c.args.t) (port_seen c.self.inside c.args.self.now c.self.view_is c.self.invariant c.args.i c.requires.cell c.args.p c.if-p-self.true))
 
@@ -27,7 +27,7 @@ returns-in-Some-clause-port c =
 
 pub returns-in-None-clause-given : goal.returns-in-None-clause-given
 returns-in-None-clause-given c =
-    let k : ℕ = c.args.i * c.self.inside.width + c.args.p in
+    let k : ℕ = c.args.i * c.self.inside.port_count + c.args.p in
     not_given c.args.t (get_or c.self.inside.emitted.items k Undefined) (get_or c.self.inside.computed.items k Undefined) (get_or c.self.inside.delays.lists k []) (sym c.in-None.ensures)
     ∙ sym (ap (given_by_port c.args.t) (port_seen c.self.inside c.args.self.now c.self.view_is c.self.invariant c.args.i c.requires.cell c.args.p c.if-p-self.true))
 

@@ -8,7 +8,7 @@ value_in-requires c =
     omega (arith, row c.self.inside c.args.self.now c.self.view_is c.self.invariant c.args.i c.requires.cell, c.self.invariant.emitted, ap length c.deref.ensures.value)
 
 pub returns-then-p-self : goal.returns-then-p-self
-returns-then-p-self c = c.value_in.ensures ∙ ap (λ xs. get_or xs (c.args.i * c.self.inside.width + c.args.p) Undefined) c.deref.ensures.value ∙ emitted_read c.self.inside c.args.self.now c.self.view_is c.self.invariant c.args.i c.requires.cell c.args.p c.if-p-self.true
+returns-then-p-self c = c.value_in.ensures ∙ ap (λ xs. get_or xs (c.args.i * c.self.inside.port_count + c.args.p) Undefined) c.deref.ensures.value ∙ emitted_read c.self.inside c.args.self.now c.self.view_is c.self.invariant c.args.i c.requires.cell c.args.p c.if-p-self.true
 
 pub returns-else-p-self : goal.returns-else-p-self
 returns-else-p-self c = emitted_past c.self.inside c.args.self.now c.self.view_is c.self.invariant c.args.i c.requires.cell c.args.p c.if-p-self.false

@@ -6,4 +6,4 @@ pub piece-requires : goal.piece-requires
 piece-requires c = omega (arith, row c.self.inside c.args.self.now c.self.view_is c.self.invariant c.args.i c.requires.cell, c.self.invariant.emitted, c.deref.ensures.len, c.self.inside.emitted.ok.0)
 
 pub returns-clause-values : goal.returns-clause-values
-returns-clause-values c = c.piece.ensures.values ∙ ap (λ xs. take c.self.inside.width (drop (c.args.i * c.self.inside.width) xs)) c.deref.ensures.value ∙ emitted_all c.self.inside c.args.self.now c.self.view_is c.self.invariant c.args.i c.requires.cell
+returns-clause-values c = c.piece.ensures.values ∙ ap (λ xs. take c.self.inside.port_count (drop (c.args.i * c.self.inside.port_count) xs)) c.deref.ensures.value ∙ emitted_all c.self.inside c.args.self.now c.self.view_is c.self.invariant c.args.i c.requires.cell

@@ -15,8 +15,8 @@ pairs-requires c = omega (arith, row c.self.inside c.args.self.now c.self.view_i
 
 pub returns : goal.returns
 returns c =
-    let k : ℕ = c.args.i * c.self.inside.width + c.args.p in
-    let inside : c.args.p < c.self.inside.width = omega (arith, width_seen c.self.inside c.args.self.now c.self.view_is, c.requires.port) in
+    let k : ℕ = c.args.i * c.self.inside.port_count + c.args.p in
+    let inside : c.args.p < c.self.inside.port_count = omega (arith, width_seen c.self.inside c.args.self.now c.self.view_is, c.requires.port) in
     let e = c.value_at.ensures ∙ ap (λ xs. get_or xs k Undefined) c.deref.ensures.value in
     let d = c.value_at-2.ensures ∙ ap (λ xs. get_or xs k Undefined) c.deref-2.ensures.value in
     let l = c.in_ok-pairs.ensures.ok ∙ ap (λ xs. xs ++ list_of c.self.inside.delays k) c.new-pairs.ensures.items in

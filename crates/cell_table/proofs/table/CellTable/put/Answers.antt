@@ -37,7 +37,7 @@ returns-clause-ok c =
     let i = c.args.i in
     let state = c.args.state.now in
     let ports = state.ports.items in
-    let first : ℕ = i * s.width in
+    let first : ℕ = i * s.port_count in
     let long = length-map ports port_of_saved ∙ c.requires.ports ∙ sym (width_seen s c.args.self.now c.self.view_is) in
     let many = c.requires.variables ∙ sym (count_seen s c.args.self.now c.self.view_is) in
     let emitted =
@@ -49,5 +49,5 @@ returns-clause-ok c =
     let lists = part_saved (λ (p : PortState). p.pairs) s.delays.lists c.reserve.new.self.lists c.write_lists.new.delays.lists first ports c.deref-2.result.now c.deref-2.ensures.value c.reserve.ensures.lists c.write_lists.ensures in
     let variables =
     with_items_is s.variables c.write.new.values (omega (arith, c.write.auto.values, s.variables.ok.0)) ∙ c.write.ensures
-    ∙ (λ k. with_piece (i * s.count) (c.deref-5.ensures.value k) (c.deref_mut-3.ensures.value k)) in
+    ∙ (λ k. with_piece (i * s.variable_count) (c.deref-5.ensures.value k) (c.deref_mut-3.ensures.value k)) in
     cell_written s c.args.self.now c.self.view_is c.self.invariant i c.requires.cell (cell_of_saved state) _ _ _ c.write_lists.new.delays.lists long many emitted computed lists variables

@@ -12,7 +12,7 @@ pub returns : goal.returns
 returns c =
     variables_written c.self.inside c.args.self.now c.self.view_is c.self.invariant c.args.i c.requires.cell c.args.values.now _ (c.requires.count ∙ sym (count_seen c.self.inside c.args.self.now c.self.view_is))
     (with_items_is c.self.inside.variables c.write.new.values (omega (arith, c.write.auto.values, c.self.inside.variables.ok.0)) ∙ c.write.ensures
-    ∙ ap (λ xs. take (c.args.i * c.self.inside.count) xs ++ c.args.values.now ++ drop (c.args.i * c.self.inside.count + length c.args.values.now) xs) c.deref_mut.ensures.value)
+    ∙ ap (λ xs. take (c.args.i * c.self.inside.variable_count) xs ++ c.args.values.now ++ drop (c.args.i * c.self.inside.variable_count + length c.args.values.now) xs) c.deref_mut.ensures.value)
 
 pub returns-then-is_empty : goal.returns-then-is_empty
 returns-then-is_empty c =

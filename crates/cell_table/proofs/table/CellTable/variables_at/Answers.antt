@@ -6,4 +6,4 @@ pub piece-requires : goal.piece-requires
 piece-requires c = omega (arith, variable_row c.self.inside c.args.self.now c.self.view_is c.self.invariant c.args.i c.requires.cell, c.self.invariant.variables, c.deref.ensures.len, c.self.inside.variables.ok.0)
 
 pub returns-clause-values : goal.returns-clause-values
-returns-clause-values c = c.piece.ensures.values ∙ ap (λ xs. take c.self.inside.count (drop (c.args.i * c.self.inside.count) xs)) c.deref.ensures.value ∙ variables_all c.self.inside c.args.self.now c.self.view_is c.self.invariant c.args.i c.requires.cell
+returns-clause-values c = c.piece.ensures.values ∙ ap (λ xs. take c.self.inside.variable_count (drop (c.args.i * c.self.inside.variable_count) xs)) c.deref.ensures.value ∙ variables_all c.self.inside c.args.self.now c.self.view_is c.self.invariant c.args.i c.requires.cell
