@@ -1,5 +1,5 @@
 // The ends of links, as they stand in a section.
-ghost use Rattle.std.specs.Prelude.{◌≡◌, ◌∷◌, ◌&&◌, [], IfOk};
+ghost use Rattle.std.specs.Prelude.{◌≡◌, ◌∷◌, ◌&&◌, [], IfOk, IsTrue};
 ghost use Rattle.std.specs.List.{list_any};
 ghost use Rattle.std.specs.Option.{option_map, option_and_then};
 ghost use Rattle.quantity.specs.Bytes.{is_byte, words};
@@ -18,7 +18,7 @@ use model_forms::link::{link_text, two_ends};
 use model_tree::{End, Link};
 use quantity::digits::cut_at;
 use quantity::name::is_name;
-use quantity::{Name, OutOfMemory};
+use quantity::{Name, NameRefusal, OutOfMemory};
 use source_text::NamedTuple;
 use source_text::tuples::{named_tuple, parts};
 use std::alloc::Global;
@@ -178,8 +178,14 @@ fn tuple_of_group<'a>(section: &Section, part: &'a [u8]) -> Option<NamedTuple<'a
     None
 }
 
+/// The name that a text is known to be.
 fn name(alloc: Global, text: &[u8]) -> Result<Name, OutOfMemory>
+    requires { IsTrue (is_name text.now) }
     ensures { IfOk result (λ name. name ≡ text.now) }
 {
-    Name::parse(alloc, text).map_err(|_| OutOfMemory)
+    match Name::parse(alloc, text) {
+        Ok(name) => Ok(name),
+        Err(NameRefusal::Memory) => Err(OutOfMemory),
+        Err(NameRefusal::Bad) => unreachable!(),
+    }
 }

@@ -1,5 +1,7 @@
 // Groups of cells.
 ghost use Rattle.std.specs.Prelude.{◌≡◌, IfOk};
+ghost use Rattle.quantity.specs.declared.value.Value.TheVariants.{Undefined};
+ghost use Rattle.cell_grid.specs.Initial.{filled};
 ghost use Rattle.model_tree.specs.Stands.{group_of};
 ghost use Rattle.model_spaces.specs.Placed.{shown};
 ghost use Rattle.model_rules.specs.Sets.{sets_shown};
@@ -12,10 +14,10 @@ use model_rules::GroupRules;
 use model_spaces::PlacedGroup;
 use model_tree::{CellGroup, Link};
 use quantity::{Name, OutOfMemory, Value};
-use rule_syntax::Names;
 use std::alloc::Global;
 
-/// The next group. There is one for each section of a group.
+/// The next group. There is one for each section of a group, with its rules: `build` requires these
+/// lists, so neither ever ends here.
 pub(crate) fn next_group(alloc: Global, parts: &mut Parts<'_>) -> Result<CellGroup, OutOfMemory>
     ensures { IfOk result (λ group. TakesGroup parts.old group parts.new) }
 {
@@ -40,57 +42,49 @@ fn made_group(
     ensures { IfOk result
         (λ group. group_of group ≡ group_with (shown placed.entry) (sets_shown rules) links.items) }
 {
-    let PlacedGroup {
-        section,
-        grid,
-        kind,
-        default_delay,
-        names,
-        zones,
-        zone_rules: _,
-        port_rules: _,
-        ins,
-        outs,
-        variable_values,
-        port_values,
-    } = placed;
-    let Names {
-        offsets,
-        dims: _,
-        variables,
-        ports,
-    } = names;
-    let GroupRules {
-        rule_sets,
-        zone_rules,
-        port_rules,
-    } = rules;
-    let name = section_name(alloc, section)?;
-    let initial = Initial::filled(alloc, &grid, Value::Undefined)?;
-    Ok(CellGroup {
+    let name = section_name(alloc, placed.section)?;
+    let initial = Initial::filled(alloc, &placed.grid, Value::Undefined)?;
+    Ok(joined_group(name, initial, placed, rules, links))
+}
+
+/// The group of this name with these initial values.
+fn joined_group(
+    name: Name,
+    initial: Initial,
+    placed: PlacedGroup<'_>,
+    rules: GroupRules,
+    links: Vec<Link>,
+) -> CellGroup
+    requires name { name ≡ placed.section.now.name }
+    requires initial { initial ≡ filled placed.grid Undefined }
+    ensures { group_of result ≡ group_with (shown placed.entry) (sets_shown rules) links.items }
+{
+    let names = placed.names;
+    CellGroup {
         name,
-        grid,
-        kind,
-        default_delay,
-        offsets,
+        grid: placed.grid,
+        kind: placed.kind,
+        default_delay: placed.default_delay,
+        offsets: names.offsets,
         initial,
-        zones,
-        zone_rules,
-        rule_sets,
-        port_rules,
-        ins,
-        outs,
+        zones: placed.zones,
+        zone_rules: rules.zone_rules,
+        rule_sets: rules.rule_sets,
+        port_rules: rules.port_rules,
+        ins: placed.ins,
+        outs: placed.outs,
         links,
-        variables,
-        variable_values,
-        ports,
-        port_values,
-    })
+        variables: names.variables,
+        variable_values: placed.variable_values,
+        ports: names.ports,
+        port_values: placed.port_values,
+    }
 }
 
 /// The name of a section.
 pub(crate) fn section_name(alloc: Global, section: &Section) -> Result<Name, OutOfMemory>
     ensures { IfOk result (λ name. name ≡ section.now.name) }
 {
+    // Memory alone can be wanting: the walk met no section whose name is none.
     Name::parse(alloc, section.name.as_bytes()).map_err(|_| OutOfMemory)
 }

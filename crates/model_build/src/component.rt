@@ -19,8 +19,7 @@ use model_walk::walked::section_of;
 use quantity::{Name, OutOfMemory};
 use std::alloc::{AllocError, Global};
 
-/// The component of a section that may have so many levels of sections, itself included. The walk
-/// met no section below the last level.
+/// The component of a section that may have so many levels of sections, itself included.
 #[cycle(building)]
 pub(crate) fn section_component(
     alloc: Global,
@@ -35,6 +34,7 @@ pub(crate) fn section_component(
 {
     components_are_made_item_by_item();
     if levels == 0 {
+        // Never: the walk met no section below the last level.
         return Err(OutOfMemory);
     }
     if is_group(section) {
@@ -89,7 +89,7 @@ fn components(
     Ok(all)
 }
 
-/// The component of an item, which may have so many levels of sections. A bare item has a section.
+/// The component of an item, which may have so many levels of sections.
 #[cycle(building)]
 fn item_component(
     alloc: Global,
@@ -108,6 +108,7 @@ fn item_component(
         return Ok(Component::Atomic(atomic));
     }
     match section_of(sections, item) {
+        // Never: the walk met no bare item without a section.
         None => Err(OutOfMemory),
         Some(section) => {
             let component = section_component(alloc, levels, sections, section, parts)?;
@@ -156,6 +157,7 @@ fn all_names(alloc: Global, words: &[Item<'_>]) -> Result<Vec<Name>, OutOfMemory
 {
     let mut names = Vec::new(alloc);
     for word in words {
+        // Memory alone can be wanting: the phase of keys refuses words that are no names.
         let name = Name::parse(alloc, word.text).map_err(|_| OutOfMemory)?;
         names.push(name).map_err(AllocError::from)?;
     }

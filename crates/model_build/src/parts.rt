@@ -17,7 +17,8 @@ pub(crate) struct Parts<'a> {
     pub(crate) links: IntoIter<Vec<Link>>,
 }
 
-/// The next links. There are some for each section that is met.
+/// The next links. There are some for each section that is met: `build` requires this list, so it
+/// never ends here.
 pub(crate) fn next_links(parts: &mut Parts<'_>) -> Result<Vec<Link>, OutOfMemory>
     ensures { IfOk result (λ links. TakesLinks parts.old links.items parts.new) }
 {
@@ -27,7 +28,8 @@ pub(crate) fn next_links(parts: &mut Parts<'_>) -> Result<Vec<Link>, OutOfMemory
     Ok(links)
 }
 
-/// The next atomic component. There is one for each item that has a class.
+/// The next atomic component. There is one for each item that has a class: `build` requires this
+/// list, so it never ends here.
 pub(crate) fn next_atomic(parts: &mut Parts<'_>) -> Result<Atomic, OutOfMemory>
     ensures { IfOk result (λ atomic. TakesAtomic parts.old atomic parts.new) }
 {
