@@ -22,15 +22,13 @@ use crate::parts::Parts;
 use ma_lines::Sections;
 use model_rules::GroupRules;
 use model_spaces::PlacedGroup;
+use model_text::bounds::MAX_LEVELS;
 use model_text::building::components_are_made_item_by_item;
 use model_tree::{Atomic, Coupled, Link};
 use model_walk::Walked;
 use model_walk::entries::section_named;
 use quantity::OutOfMemory;
 use std::alloc::Global;
-
-/// The most levels of sections, top included.
-const LEVELS: u32 = 17;
 
 /// The component top of sections that pass the phases up to the limit of links. Its groups have `?`
 /// in each cell; they get their values when the files are read. It goes down the sections once
@@ -72,6 +70,6 @@ pub fn build(
     let Some(top) = section_named(sections, b"top") else {
         unreachable!()
     };
-    let built = coupled(alloc, LEVELS, sections, top, &mut parts)?;
+    let built = coupled(alloc, MAX_LEVELS, sections, top, &mut parts)?;
     Ok(built)
 }

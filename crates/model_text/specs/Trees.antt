@@ -15,6 +15,7 @@ use Rattle.quantity.specs.Digits.{whole_number}
 use Rattle.quantity.specs.Literals.{value_in}
 use Rattle.source_text.specs.Lines.{Files}
 use Rattle.ma_lines.specs.Sections.{Section}
+use Rattle.model_text.specs.declared.bounds.TheConstants.{MAX_LEVELS}
 use Rattle.model_text.specs.Keyed.{section_named, value_of, is_value, texts_of, Item}
 use Rattle.model_text.specs.Walk.{top, is_group, children_of, item_name, section_of}
 use Rattle.model_text.specs.Spaces.{space_of, offsets_of, zones_of, rows_of, PortPlace, port_places}
@@ -141,7 +142,7 @@ first_tree (t ∷ ts) = t
 -- the component of a section that is there
 abbrev pub tree_at : Files → List Section → Option Section → Tree
 tree_at files ss None = no_tree
-tree_at files ss (Some s) = first_tree (component_of 17 files ss s)
+tree_at files ss (Some s) = first_tree (component_of MAX_LEVELS files ss s)
 
 -- the component top
 abbrev pub tree_of : Files → List Section → Tree

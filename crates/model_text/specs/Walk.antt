@@ -6,6 +6,7 @@ use Rattle.std.specs.Option.{option_map, option_or, is_some}
 use Rattle.std.specs.Str.{bytes_eq}
 use Rattle.quantity.specs.Bytes.{Bytes, is_byte, is_empty, is_among}
 use Rattle.quantity.specs.Names.{is_name}
+use Rattle.model_text.specs.declared.bounds.TheConstants.{MAX_LEVELS}
 use Rattle.model_text.specs.declared.kind.Kind.{Kind}
 use Rattle.model_text.specs.declared.kind.Kind.TheVariants.{NoTop, MissingKey, BadValue, UnknownComponent, DuplicateComponent, ComponentCycle, TooLarge}
 use Rattle.model_text.specs.Refusals.{Refusal, refusal}
@@ -77,7 +78,7 @@ walk_from (suc n) ss around line s =
 -- from a section that is there
 abbrev pub walk_at : List Section → Option Section → List Step
 walk_at ss None = []
-walk_at ss (Some s) = walk_from 17 ss [] 0 s
+walk_at ss (Some s) = walk_from MAX_LEVELS ss [] 0 s
 
 -- from top
 abbrev pub walk : List Section → List Step
