@@ -1,4 +1,5 @@
 -- Texts that are appended one after another.
+use Rattle.std.specs.Prelude.{Result, Ok, Err, OnErr}
 use Rattle.std.proofs.Common.{◌≡◌, ℕ, zero, suc, ◌+◌, ◌≤◌, List, [], ◌∷◌, ◌++◌, refl, sym, ap, ◌∙◌, arith, length, map, take}
 use Rattle.std.specs.Prelude.{codes, decimal}
 use Rattle.std.specs.List.{range_with_len}
@@ -59,3 +60,8 @@ row_of_parts n row start a b c d e p q r s t =
     let digits_of : Bytes = map (made_digit row) (range_with_len 0 n) in
     t ∙ ap (λ x. x ++ 10 ∷ []) (s ∙ ap (λ x. x ++ digits_of) (r ∙ ap (λ x. x ++ codes " ") (q ∙ ap (λ x. x ++ decimal row) p)))
     ∙ regrouped start (codes "initialrowvalue : ") (decimal row) (codes " ") digits_of (10 ∷ [])
+
+-- what holds in any case holds of an error
+pub on_err : {A E P : Type 0} (r : Result A E) → P → OnErr r P
+on_err (Ok x) p = tt
+on_err (Err e) p = p

@@ -113,14 +113,43 @@ pub(crate) fn read_parts<'a, M: AtomicModel>(
     ensures apart { IfOk result (λ p. IsTrue (are_apart (map (λ a. a.at.0) p.atomics.items))) }
 {
     let Spaces { groups, values } = spaces(alloc, sections, walked)?;
-    let atomics = atomics(alloc, sections, walked, stock)?;
-    let rules = rules(alloc, sections, &groups)?;
+    let (atomics, rules) = atomics_and_rules(alloc, sections, walked, &groups, stock)?;
     Ok(Parts {
         groups,
         values,
         atomics,
         rules,
     })
+}
+
+/// Takes the boxes of atomic components, and then reads the rules of the groups.
+fn atomics_and_rules<M: AtomicModel>(
+    alloc: Global,
+    sections: &Sections,
+    walked: &Walked<'_>,
+    groups: &[PlacedGroup<'_>],
+    stock: &mut Stock<M>,
+) -> Result<(Vec<Atomic>, Vec<GroupRules>), Stop>
+    requires walk { IsWalk sections.now (met_of walked.now) }
+    requires keys { K.keys_refused sections.now ≡ None }
+    requires groups { map shown groups.now ≡ map placed_of (W.groups sections.now) }
+    requires free { IsTrue (list_all (λ s. not s.taken) stock.old) }
+    ensures stock { OnOk result (stock_refused (classes_of stock.old) sections.now ≡ None) }
+    ensures rules { OnOk result (rules_refused sections.now ≡ None) }
+    ensures refused { let ss = sections.now in
+        (why : _) → result ≡ Err (Stop.Refused why) → first_of (stock_refused (classes_of stock.old) ss
+        ∷ rules_refused ss ∷ []) ≡ Some (refusal_of why) }
+    ensures sets { IfOk result (λ p. map sets_shown p.1.items
+        ≡ map (sets_of sections.now) (W.groups sections.now)) }
+    ensures named { IfOk result (λ p. map named p.0.items
+        ≡ map named_item (W.atomics sections.now)) }
+    ensures boxes { IfOk result (λ p. map (λ a. slice_get stock.new a.at.0) p.0.items
+        ≡ map (settled sections.now) (W.atomics sections.now)) }
+    ensures apart { IfOk result (λ p. IsTrue (are_apart (map (λ a. a.at.0) p.0.items))) }
+{
+    let atomics = atomics(alloc, sections, walked, stock)?;
+    let rules = rules(alloc, sections, groups)?;
+    Ok((atomics, rules))
 }
 
 // ---- links and their limit

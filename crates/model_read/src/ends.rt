@@ -71,10 +71,7 @@ pub fn finish<R: Room>(
     let is_there = can_draw(&drawing, &groups);
     let values = initial_values(alloc, room, sections, &groups, values)?;
     if !is_there {
-        return Err(ModelRefusal::Refused {
-            line: 0,
-            kind: Kind::NoSuchPlane,
-        });
+        return Err(no_such_plane());
     }
     lay_values(sections, &mut model, values);
     Ok((model, routes))
@@ -91,6 +88,16 @@ fn routes_of(alloc: Global, model: &Model) -> Result<Routes, ModelRefusal>
             kind: Kind::TooManyRoutes,
         }),
         Err(RouteRefusal::Memory) => Err(ModelRefusal::Memory),
+    }
+}
+
+/// What is answered where there is no plane that could be drawn.
+fn no_such_plane() -> ModelRefusal
+    ensures { result ≡ ModelRefusal.Refused 0 Kind.NoSuchPlane }
+{
+    ModelRefusal::Refused {
+        line: 0,
+        kind: Kind::NoSuchPlane,
     }
 }
 

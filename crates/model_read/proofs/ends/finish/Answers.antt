@@ -46,9 +46,10 @@ returns-then-not-is_there g c = λ stock built boxes.
     let old = g.R.Room.outside c.args.room.now in
     let new = g.R.Room.outside c.initial_values.new.room in
     let few_paths = few ss d c.args.judged.top c.in_ok-model.model c.in_ok-model.ensures c.requires.built.0 c.requires.built.1 c.blanks_are_laid.ensures c.in_ok-routes.ensures.1 in
-    no_plane ss d stock (Vec Initial Global) c.in_ok-values.values old new few_paths c.in_ok-values.ensures.read
+    subst (λ r. Reads (behind_limit ss d) d stock (Err r) old new) (sym c.no_such_plane.ensures)
+    (no_plane ss d stock (Vec Initial Global) c.in_ok-values.values old new few_paths c.in_ok-values.ensures.read
     (off ss d c.args.judged.top c.in_ok-model.model c.in_ok-model.ensures c.requires.passed.0 c.requires.passed.1 c.groups_are_met.ensures c.args.judged.groups.items c.requires.groups
-    (sym (c.can_draw-is_there.ensures ∙ ap (can_draw d) c.deref.ensures.value) ∙ c.if-not-is_there.true))
+    (sym (c.can_draw-is_there.ensures ∙ ap (can_draw d) c.deref.ensures.value) ∙ c.if-not-is_there.true)))
 
 pub lay_values-requires-clause-blank : goal.lay_values-requires-clause-blank
 lay_values-requires-clause-blank g c =
