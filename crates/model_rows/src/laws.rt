@@ -1,4 +1,4 @@
-// Calls that name the rows.
+// Rows of refused models: each kind at its line, and which counts where several refuse.
 ghost use Rattle.model_rows.specs.Kinds.{KindsAreShown};
 ghost use Rattle.model_rows.specs.Phases.{PhasesFollow};
 ghost use Rattle.model_rows.specs.Steps.{StepsFollow};

@@ -8,7 +8,8 @@ ghost use Rattle.model_text.specs.Refusals.{refusal};
 ghost use Rattle.model_text.specs.Stock.{params_of};
 ghost use Rattle.model_text.specs.Walk as W;
 ghost use Rattle.model_walk.specs.Shown.{item_of, refusal_of};
-ghost use Rattle.model_stock.specs.Taken.{HasOnce, Adds, Settles, lacks, component_lacks, off_of_box, kind_of_stock, stop_of_settling};
+ghost use Rattle.model_stock.specs.Taken.{HasOnce, Adds, Settles, lacks, component_lacks};
+ghost use Rattle.model_stock.specs.Taken.{off_of_box, kind_of_stock, stop_of_settling};
 ghost use Rattle.model_stock.specs.Settled.{classes_of};
 
 use crate::params::params_of;
@@ -119,5 +120,6 @@ fn stop_of(why: SettleRefusal) -> Stop
 fn name(alloc: Global, item: &Item<'_>) -> Result<Name, OutOfMemory>
     ensures { IfOk result (λ name. name ≡ W.item_name (item_of item.now)) }
 {
+    // Memory alone can be wanting: the walk met no item whose name is none.
     Name::parse(alloc, name_of(item)).map_err(|_| OutOfMemory)
 }

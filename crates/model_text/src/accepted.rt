@@ -1,6 +1,9 @@
 // Laws of the models that are accepted.
-ghost use Rattle.model_text.specs.Accepted.{FirstPhaseDecides, PassesEachPhase, ComponentsDiffer, AtomicsFit, LinksAreAccepted, PartsAreSound, ReadsSoundModels};
-ghost use Rattle.model_text.specs.GroupLaws.{OffsetsAreRight, ValuesFit, SizesAreRight, NamesAreRight, NumbersAreRight, GroupsAreSound};
+ghost use Rattle.model_text.specs.Accepted.{FirstPhaseDecides, PassesEachPhase, ComponentsDiffer};
+ghost use Rattle.model_text.specs.Accepted.{AtomicsFit, LinksAreAccepted, PartsAreSound};
+ghost use Rattle.model_text.specs.Accepted.{ReadsSoundModels};
+ghost use Rattle.model_text.specs.GroupLaws.{OffsetsAreRight, ValuesFit, SizesAreRight};
+ghost use Rattle.model_text.specs.GroupLaws.{NamesAreRight, NumbersAreRight, GroupsAreSound};
 
 /// The first phase that refuses decides, in the order of the phases.
 pub fn first_phase_decides()

@@ -1,6 +1,8 @@
 // Laws of models before their paths are counted and their files are read: what makes a model, part
 // by part.
-ghost use Rattle.model_text.specs.BuildLaws.{SpacesCanBeHeld, NamesAreFew, ParametersStandOnce, TotalsAreWithinLimits, PathsStay, FilesAreLaid, WalkIsMet, ItemsAreMade, SectionsAreMade};
+ghost use Rattle.model_text.specs.BuildLaws.{SpacesCanBeHeld, NamesAreFew, ParametersStandOnce};
+ghost use Rattle.model_text.specs.BuildLaws.{TotalsAreWithinLimits, PathsStay, FilesAreLaid};
+ghost use Rattle.model_text.specs.BuildLaws.{WalkIsMet, ItemsAreMade, SectionsAreMade};
 
 /// A space of the sizes of each group can be held once the keys and the number of cells pass.
 pub fn spaces_can_be_held()

@@ -1,6 +1,10 @@
-// Calls that name the definitions.
+// What the definitions give for texts of models, read or refused: each call states worked values.
 ghost use Rattle.model_text.specs.Examples.{LineIsRead, TableIsRead, QueueIsRead, LifeIsRead, GroupsAreRead};
-ghost use Rattle.model_text.specs.RefusalExamples.{KindsHaveTexts, LineIsRefused, CellIsRefused, DepthIsBounded, ComponentsAreRefused, TablesAreRefused, GroupsAreRefused, SectionsAreRefused, CutFilesAreRefused, LimitsAreKept};
+ghost use Rattle.model_text.specs.RefusalExamples.{KindsHaveTexts, LineIsRefused, CellIsRefused};
+ghost use Rattle.model_text.specs.RefusalExamples.{DepthIsBounded, ComponentsAreRefused};
+ghost use Rattle.model_text.specs.RefusalExamples.{TablesAreRefused, GroupsAreRefused};
+ghost use Rattle.model_text.specs.RefusalExamples.{SectionsAreRefused, CutFilesAreRefused};
+ghost use Rattle.model_text.specs.RefusalExamples.{LimitsAreKept};
 ghost use Rattle.model_text.specs.FileExamples.{FilesAreLaidOn, FilesAreRefused};
 ghost use Rattle.model_text.specs.LinkExamples.{EndsAreCut};
 
