@@ -98,7 +98,7 @@ fn settle_box<M: AtomicModel>(
     ensures classes { classes_of stock.new ≡ classes_of stock.old }
 {
     let params = params_of(alloc, sections, item)?;
-    match stock.settle(at, alloc, &params) {
+    match stock.settle(alloc, at, &params) {
         Ok(()) => Ok(()),
         Err(why) => Err(stop_of(why)),
     }
