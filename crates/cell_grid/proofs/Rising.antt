@@ -49,6 +49,11 @@ same_tails x xs ys up rises same z =
       | inr apart ↦ rw (ne_eqb x z apart) at (same z)
     ]
 
+-- a list without members is empty
+pub no_members : (xs : List ℕ) → ((z : ℕ) → has xs z ≡ false) → xs ≡ []
+no_members [] none = refl
+no_members (x ∷ xs) none = absurd (true≢false (sym (has_head x xs) ∙ none x))
+
 pub same_rising : (xs ys : List ℕ) → IsStrictlySortedBy nat_cmp xs → IsStrictlySortedBy nat_cmp ys → ((z : ℕ) → has xs z ≡ has ys z) → xs ≡ ys
 same_rising [] [] up rises same = refl
 same_rising [] (y ∷ ys) up rises same = absurd (false≢true (same y ∙ has_head y ys))

@@ -4,7 +4,7 @@ use Rattle.std.specs.Ordering.{nat_cmp}
 use Rattle.std.specs.List.{Any, list_any, dedup, filter_map, cons_option, range_with_len}
 use Rattle.std.specs.Option.{option_to_list}
 use Rattle.std.specs.List.Sorted.{IsPermutation, IsSorted, IsStrictlyIncreasing}
-use Rattle.std.proofs.lemmas.Bool.{cases_lt, eqb-true, eq-eqb, lt-ltb, le-ltb, false_from_ne_true}
+use Rattle.std.proofs.lemmas.Bool.{cases_lt, eqb-true, eq-eqb, lt-ltb, le-ltb, false_from_ne_true, and_left, and_right}
 use Rattle.std.proofs.lemmas.List.{take_more}
 use Rattle.std.proofs.lemmas.List.Elements.{filter_map-append}
 use Rattle.std.proofs.lemmas.List.Folds.{Any-from_list_any, list_any-from_Any}
@@ -14,7 +14,7 @@ use Rattle.std.proofs.lemmas.Map.Keys.{IsStrictlyIncreasing-dedup, sorted_from_s
 use Rattle.quantity.specs.declared.place.Offset.{Offset}
 use Rattle.cell_grid.specs.Space.{Space, cell_count, neighbour, opposite, is_cell, leads_to, watchers}
 use Rattle.cell_grid.proofs.Opposites.{leads_back, leads_on, neighbour-inside}
-use Rattle.cell_grid.proofs.Rising.{has, same_answer, same_rising, has-dedup, has-filter, has-range, range-rises}
+use Rattle.cell_grid.proofs.Rising.{has, same_answer, same_rising, no_members, has-dedup, has-filter, has-range, range-rises}
 
 -- ---- the members of the definition
 
@@ -82,6 +82,21 @@ same_members s offsets cell x cell_here =
       | inr outside ↦ none_outside s offsets cell x cell_here outside
           ∙ sym (has-watchers s offsets cell x ∙ ap (λ b. b && leads_to s offsets cell x) (le-ltb x (cell_count s) outside))
     ]
+
+-- no neighbour is outside, so nothing watches there
+pub no_watchers : (s : Space) (offsets : List Offset) (cell : ℕ) → cell_count s ≤ cell → watchers s offsets cell ≡ []
+no_watchers s offsets cell outside =
+    no_members (watchers s offsets cell) (λ x. has-watchers s offsets cell x ∙ elim (cases_lt x (cell_count s)) [
+      | inl here ↦ and_right (ltb x (cell_count s)) (leads_to s offsets cell x) (none_leads x here)
+      | inr past ↦ and_left (ltb x (cell_count s)) (leads_to s offsets cell x) (le-ltb x (cell_count s) past)
+    ])
+  where
+    none_leads : (x : ℕ) → x < cell_count s → leads_to s offsets cell x ≡ false
+    none_leads x here =
+        false_from_ne_true (leads_to s offsets cell x) (λ is.
+        let found = Any-from_leads_to s offsets cell x is in
+        let inside = neighbour-inside s x cell found.1 here found.4 in
+        absurd (omega (arith, inside)))
 
 -- one offset more
 one_item : (m : Option ℕ) → cons_option m [] ≡ option_to_list m

@@ -1,5 +1,5 @@
 -- What holds of cells, their places, neighbours and watchers in each space.
-use Rattle.std.specs.Prelude.{◌≡◌, ℕ, ◌<◌, ◌↔◌, Some, List}
+use Rattle.std.specs.Prelude.{◌≡◌, ℕ, ◌<◌, ◌≤◌, ◌↔◌, Some, List, []}
 use Rattle.std.specs.List.{Any, Contains}
 use Rattle.std.specs.List.Sorted.{IsStrictlyIncreasing}
 use Rattle.quantity.specs.declared.place.Offset.{Offset}
@@ -40,6 +40,12 @@ WatchersHaveTheCellAsANeighbour =
     (s : Space) (offsets : List Offset) (cell x : ℕ)
     → Contains (watchers s offsets cell) x
     ↔ ((x < cell_count s) × Any (λ o. neighbour s x o ≡ Some cell) offsets)
+
+-- a number that is that of no cell has none
+abbrev pub NoneWatchesOutside : Type 0
+NoneWatchesOutside =
+    (s : Space) (offsets : List Offset) (cell : ℕ)
+    → cell_count s ≤ cell → watchers s offsets cell ≡ []
 
 -- watchers come in rising order, none twice
 abbrev pub WatchersRise : Type 0

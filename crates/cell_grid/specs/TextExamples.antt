@@ -55,6 +55,7 @@ pub record ZonesAreRead : Type 0 where
       ≡ Some (codes "r")
   pub inside : zone_at 0 (codes "r { (0,0)..(0,1) }") ≡ Some (Some 0)
   pub outside : zone_at 2 (codes "r { (0,0)..(0,1) }") ≡ Some None
+  pub no_cell : zone_at 3 (codes "r { (0,0)..(0,2) }") ≡ Some None
   pub touching : range_count (row 3) (codes "r {(0,0)(0,1)..(0,2) (0,1)}") ≡ Some 3
   pub range : cells_held (row 3) (codes "r { (0,0)..(0,1) }") ≡ Some (0 ∷ 1 ∷ [])
   pub one : cells_held (row 3) (codes "r{(0,2)}") ≡ Some (2 ∷ [])

@@ -2,7 +2,7 @@ use Rattle.std.proofs.Common.{ltb, sym, ◌∙◌}
 use Rattle.std.proofs.lemmas.Bool.{and_parts, and_from, ltb-true, lt-ltb}
 use Rattle.cell_grid.specs.Space.{cell_count, leads_to, watchers}
 use Rattle.cell_grid.proofs.Rising.{Contains-from_has, has-from_Contains}
-use Rattle.cell_grid.proofs.Watching.{has-watchers, watchers-rise, Any-from_leads_to, leads_to-from_Any}
+use Rattle.cell_grid.proofs.Watching.{has-watchers, watchers-rise, no_watchers, Any-from_leads_to, leads_to-from_Any}
 use Rattle.cell_grid.proofs.laws.watchers_have_the_cell_as_a_neighbour.Goals as goal
 
 pub returns-clause-cells : goal.returns-clause-cells
@@ -14,6 +14,9 @@ returns-clause-cells c = λ s offsets cell x. (
       let tests = and_from (ltb x (cell_count s)) (leads_to s offsets cell x) (lt-ltb x (cell_count s) at.0) (leads_to-from_Any s offsets cell x at.1) in
       Contains-from_has (watchers s offsets cell) x (has-watchers s offsets cell x ∙ tests),
 )
+
+pub returns-clause-outside : goal.returns-clause-outside
+returns-clause-outside c = no_watchers
 
 pub returns-clause-rising : goal.returns-clause-rising
 returns-clause-rising c = watchers-rise

@@ -5,7 +5,7 @@ use Rattle.std.proofs.lemmas.List.{take_all}
 use Rattle.std.proofs.lemmas.List.Filters.{dedup_is}
 use Rattle.std.specs.List.{filter_map}
 use Rattle.quantity.specs.declared.place.Offset.{Offset}
-use Rattle.cell_grid.proofs.Watching.{watcher, watchers-are, filter_map_more}
+use Rattle.cell_grid.proofs.Watching.{watcher, watchers-are, no_watchers, filter_map_more}
 use Rattle.cell_grid.proofs.grid.Grid.watchers.Goals as goal
 use Rattle.cell_grid.proofs.grid.Grid.watchers.Goals.{in-Some, in_default}
 
@@ -28,9 +28,13 @@ loop-offset-preserved c =
       })
     ]
 
+pub returns-then-cells-cell-clause-ok : goal.returns-then-cells-cell-clause-ok
+returns-then-cells-cell-clause-ok c =
+    c.clear.ensures.items ∙ sym (no_watchers c.args.self.now c.args.offsets.now c.args.cell (omega (arith, c.cells.ensures.value)))
+
 pub returns-clause-ok : goal.returns-clause-ok
 returns-clause-ok c =
     let whole = take_all c.loop-offset.offset-index c.args.offsets.now (omega arith) in
-    watchers-are c.args.self.now c.args.offsets.now c.args.cell _ _ c.dedup.new.self.items c.requires
+    watchers-are c.args.self.now c.args.offsets.now c.args.cell _ _ c.dedup.new.self.items (omega (arith, c.cells.ensures.value))
     (c.loop-offset.invariant.found ∙ ap (filter_map (watcher c.args.self.now c.args.cell)) whole)
     c.sort_unstable.ensures.permutation c.sort_unstable.ensures.sorted (dedup_is eqb _ _ c.dedup.ensures.filtered)
