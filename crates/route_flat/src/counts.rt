@@ -1,17 +1,18 @@
-// The number of sources at each node, kept at 65537 once it is past 65536.
+// The number of sources at each node, kept at `MOST` once it is past `MAX_PATHS`.
 ghost use Rattle.std.specs.Prelude.{◌≡◌, ◌≤◌, ◌+◌, min, IfOk, get_or};
 ghost use Rattle.std.specs.List.{sum_by};
 ghost use Rattle.route_flat.specs.Counts.{count_of, sum_of, AreCounts};
 
+use crate::refusal::MAX_PATHS;
 use port_net::Node;
 use quantity::OutOfMemory;
 use std::alloc::{AllocError, Global};
 
 /// The most that is counted: one more than there may be.
-pub(crate) const MOST: u32 = 65537;
+pub(crate) const MOST: u32 = MAX_PATHS + 1;
 
-/// For each node the number of its sources, or 65537 where there are more than 65536: one pass over
-/// the links, whatever the numbers.
+/// For each node the number of its sources, or `MOST` where there are more than `MAX_PATHS`: one
+/// pass over the links, whatever the numbers.
 pub(crate) fn counts(alloc: Global, nodes: &[Node]) -> Result<Vec<u32>, OutOfMemory>
     ensures { IfOk result (λ counts. AreCounts nodes.now counts.items) }
 {
@@ -33,7 +34,7 @@ fn count_of(node: &Node, before: &[u32]) -> u32
     }
 }
 
-/// The sum of the counts of some nodes, kept at 65537 once it is past 65536.
+/// The sum of the counts of some nodes, kept at `MOST` once it is past `MAX_PATHS`.
 pub(crate) fn sum_of(nodes: &[u32], counts: &[u32]) -> u32
     ensures { result ≡ sum_of nodes.now counts.now }
 {

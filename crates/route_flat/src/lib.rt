@@ -13,6 +13,6 @@ pub mod source;
 mod ways;
 
 pub use port_net::{Net, Node, Source, Span, net_of};
-pub use refusal::RouteRefusal;
+pub use refusal::{MAX_PATHS, RouteRefusal};
 pub use routes::Routes;
 pub use source::{Path, Target, TargetPort, Way};

@@ -6,7 +6,7 @@ ghost use Rattle.route_flat.specs.Nets.{IsParted, flat_of_net, paths_in};
 
 use crate::counts::{counts, sum_of};
 use crate::lists::lists;
-use crate::refusal::RouteRefusal;
+use crate::refusal::{MAX_PATHS, RouteRefusal};
 use atomic_face::PortNo;
 use port_net::{Net, Source, Span};
 use std::alloc::Global;
@@ -43,14 +43,14 @@ impl PortLists {
     pub(crate) fn of_net(alloc: Global, net: Net) -> Result<PortLists, RouteRefusal>
         requires { IsParted net }
         ensures built { IfOk result (λ r. r ≡ flat_of_net net) }
-        ensures few { IfOk result (λ r. paths_in (flat_of_net net) ≤ 65536) }
+        ensures few { IfOk result (λ r. paths_in (flat_of_net net) ≤ MAX_PATHS) }
         ensures many { result ≡ Err RouteRefusal.TooManyRoutes
-            → 65536 < paths_in (flat_of_net net) }
+            → MAX_PATHS < paths_in (flat_of_net net) }
     {
         let counts = counts(alloc, &net.nodes)?;
         let to_ports = sum_of(&net.ports, &counts);
         let to_outputs = sum_of(&net.outputs, &counts);
-        if to_ports + to_outputs > 65536 {
+        if to_ports + to_outputs > MAX_PATHS {
             return Err(RouteRefusal::TooManyRoutes);
         }
         let mut paths = Vec::new(alloc);

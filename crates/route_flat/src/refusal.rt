@@ -3,10 +3,13 @@ ghost use Rattle.std.specs.Prelude.{◌≡◌};
 
 use quantity::OutOfMemory;
 
+/// The most paths along links that a model may have.
+pub const MAX_PATHS: u32 = 65_536;
+
 /// Why there are no routes.
 #[derive(Clone, Copy, Debug)]
 pub enum RouteRefusal {
-    /// There are more than 65536 paths along links.
+    /// There are more than `MAX_PATHS` paths along links.
     TooManyRoutes,
     /// There is no memory.
     Memory,

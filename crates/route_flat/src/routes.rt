@@ -8,7 +8,7 @@ ghost use Rattle.route_flat.specs.Ways.{paths_of, ways_of, targets_among, number
 
 use crate::by_source::BySource;
 use crate::port_lists::PortLists;
-use crate::refusal::RouteRefusal;
+use crate::refusal::{MAX_PATHS, RouteRefusal};
 use crate::source::{Path, Target, Way};
 use crate::ways::{by_source, ways};
 use atomic_face::PortNo;
@@ -44,14 +44,14 @@ impl std::marker::Model for Routes {
 }
 
 impl Routes {
-    /// The routes of a model. TooManyRoutes comes exactly where there are more than 65536 paths,
-    /// from outputs of leaves and inputs of top to inputs of leaves and outputs of top; they are
-    /// counted before any is followed.
+    /// The routes of a model. TooManyRoutes comes exactly where there are more than `MAX_PATHS`
+    /// paths, from outputs of leaves and inputs of top to inputs of leaves and outputs of top; they
+    /// are counted before any is followed.
     pub fn build(alloc: Global, model: &Model) -> Result<Routes, RouteRefusal>
         ensures built { IfOk result (λ r. OfTree model.now (λ t. RoutesOf t r)) }
-        ensures few { IfOk result (λ r. OfTree model.now (λ t. path_count t ≤ 65536)) }
+        ensures few { IfOk result (λ r. OfTree model.now (λ t. path_count t ≤ MAX_PATHS)) }
         ensures many { result ≡ Err RouteRefusal.TooManyRoutes
-            → OfTree model.now (λ t. 65536 < path_count t) }
+            → OfTree model.now (λ t. MAX_PATHS < path_count t) }
     {
         let net = net_of(alloc, model)?;
         Routes::of_net(alloc, net)
@@ -61,9 +61,9 @@ impl Routes {
     pub fn of_net(alloc: Global, net: Net) -> Result<Routes, RouteRefusal>
         requires { IsParted net }
         ensures built { IfOk result (λ r. r ≡ flat_of_net net) }
-        ensures few { IfOk result (λ r. paths_in (flat_of_net net) ≤ 65536) }
+        ensures few { IfOk result (λ r. paths_in (flat_of_net net) ≤ MAX_PATHS) }
         ensures many { result ≡ Err RouteRefusal.TooManyRoutes
-            → 65536 < paths_in (flat_of_net net) }
+            → MAX_PATHS < paths_in (flat_of_net net) }
     {
         let lists = PortLists::of_net(alloc, net)?;
         let ways = ways(alloc, &lists)?;

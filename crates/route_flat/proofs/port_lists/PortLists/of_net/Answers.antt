@@ -7,8 +7,8 @@ use Rattle.route_flat.proofs.Spans.{of-lists, first-parts, last-parts, flat-same
 use Rattle.route_flat.proofs.Totals.{net-paths}
 use Rattle.route_flat.proofs.port_lists.PortLists.of_net.Goals as goal
 
-pub returns-then-to_ports-to_outputs-gt65536-clause-many : goal.returns-then-to_ports-to_outputs-gt65536-clause-many
-returns-then-to_ports-to_outputs-gt65536-clause-many c = λ e.
+pub returns-then-to_ports-to_outputs-gt-MAX_PATHS-clause-many : goal.returns-then-to_ports-to_outputs-gt-MAX_PATHS-clause-many
+returns-then-to_ports-to_outputs-gt-MAX_PATHS-clause-many c = λ e.
     let n = c.args.net in
     let are = of-counts c.deref.result.now n.nodes.items c.in_ok-counts.counts.items c.deref.ensures.value c.in_ok-counts.ensures in
     let ports : c.sum_of-to_ports.result ≡ min (length (flat_map (list_of n.nodes.items) n.ports.items)) 65537 =
@@ -16,7 +16,7 @@ returns-then-to_ports-to_outputs-gt65536-clause-many c = λ e.
     let outputs : c.sum_of-to_outputs.result ≡ min (length (flat_map (list_of n.nodes.items) n.outputs.items)) 65537 =
     c.sum_of-to_outputs.ensures ∙ ap (λ (ks : List ℕ). sum_of ks c.deref-5.result.now) c.deref-4.ensures.value ∙ ap (sum_of n.outputs.items) c.deref-5.ensures.value ∙ kept-sum n.nodes.items c.in_ok-counts.counts.items n.outputs.items are in
     let whole = net-paths n c.requires in
-    omega (arith, ports, outputs, whole, c.if-to_ports-to_outputs-gt65536.true)
+    omega (arith, ports, outputs, whole, c.if-to_ports-to_outputs-gt-MAX_PATHS.true)
 
 pub invariant_of-result : goal.invariant_of-result
 invariant_of-result c =
@@ -49,4 +49,4 @@ returns-clause-few c =
     let outputs : c.sum_of-to_outputs.result ≡ min (length (flat_map (list_of n.nodes.items) n.outputs.items)) 65537 =
     c.sum_of-to_outputs.ensures ∙ ap (λ (ks : List ℕ). sum_of ks c.deref-5.result.now) c.deref-4.ensures.value ∙ ap (sum_of n.outputs.items) c.deref-5.ensures.value ∙ kept-sum n.nodes.items c.in_ok-counts.counts.items n.outputs.items are in
     let whole = net-paths n c.requires in
-    omega (arith, ports, outputs, whole, c.if-to_ports-to_outputs-gt65536.false)
+    omega (arith, ports, outputs, whole, c.if-to_ports-to_outputs-gt-MAX_PATHS.false)
