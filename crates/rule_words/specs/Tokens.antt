@@ -7,6 +7,7 @@ use Rattle.std.specs.Str.{bytes_eq}
 use Rattle.std.specs.Char.{is_ascii_alphabetic, is_ascii_alphanumeric}
 use Rattle.quantity.specs.Bytes.{Bytes, is_byte, is_blank, is_among, open_after, all_there}
 use Rattle.quantity.specs.Literals.{is_unsigned_literal}
+use Rattle.rule_words.specs.declared.tokens.TheConstants.{MAX_TOKENS, MAX_OPEN_PARENTHESES}
 
 -- a word, a number or a mark
 pub data Token : Type 0 where
@@ -116,4 +117,4 @@ deepest n (t ∷ ts) = max n (deepest (parentheses_after n t) ts)
 
 -- more tokens or deeper parentheses than a rule may have
 abbrev pub is_large : List Token → Bool
-is_large ts = nat_lt 4096 (length ts) || nat_lt 64 (deepest 0 ts)
+is_large ts = nat_lt MAX_TOKENS (length ts) || nat_lt MAX_OPEN_PARENTHESES (deepest 0 ts)

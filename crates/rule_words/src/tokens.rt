@@ -145,11 +145,18 @@ fn is_sigil(token: &Token<'_>) -> bool
     matches!(token, Token::Mark(Mark::Dollar | Mark::Tilde))
 }
 
-/// Whether there are more than 4096 tokens, or more than 64 parentheses open at once.
+/// The most tokens that a rule may have.
+pub const MAX_TOKENS: usize = 4096;
+
+/// The most parentheses that may be open at once in a rule, so that reading one never goes deep.
+pub const MAX_OPEN_PARENTHESES: usize = 64;
+
+/// Whether there are more tokens than `MAX_TOKENS`, or more than `MAX_OPEN_PARENTHESES` are open at
+/// once.
 pub fn is_large(tokens: &[Token<'_>]) -> bool
     ensures { result ≡ is_large (tokens_of tokens.now) }
 {
-    tokens.len() > 4096 || most_open(tokens) > 64
+    tokens.len() > MAX_TOKENS || most_open(tokens) > MAX_OPEN_PARENTHESES
 }
 
 /// The most parentheses that are open at once.
