@@ -36,7 +36,7 @@ fn settle<M: AtomicModel>(
 {
     let mut entries = Vec::new(alloc);
     entries.push(param(alloc, 4, course.key, course.value)?)?;
-    stock.settle(no, alloc, &Params { entries })?;
+    stock.settle(alloc, no, &Params { entries })?;
     Ok(())
 }
 

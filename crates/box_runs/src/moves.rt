@@ -66,7 +66,7 @@ fn stands<M: AtomicModel>(
     let mut state = Vec::new(alloc);
     stock.save(no, &mut state)?;
     assert_eq!(rt; state.as_slice(), moves.state);
-    stock.restore(no, alloc, &state)?;
+    stock.restore(alloc, no, &state)?;
     Ok(())
 }
 

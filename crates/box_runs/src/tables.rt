@@ -94,7 +94,7 @@ fn settled<M: AtomicModel>(
     ensures { IfOk result (λ at. at.0 < length stock.new) }
 {
     let no = taken(stock)?;
-    stock.settle(no, alloc, params)?;
+    stock.settle(alloc, no, params)?;
     Ok(no)
 }
 
