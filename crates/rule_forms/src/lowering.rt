@@ -24,14 +24,14 @@ pub(crate) fn form_of(alloc: Global, node: &Node) -> Result<Form, OutOfMemory>
         Node::Now => Ok(Form::Now),
         Node::PortValue => Ok(Form::PortValue),
         Node::Counted(count) => Ok(Form::Counted(*count)),
-        Node::One(operator, a) => {
-            let a = form_of(alloc, a)?;
-            one(alloc, *operator, a)
+        Node::One(operator, operand) => {
+            let operand = form_of(alloc, operand)?;
+            one(alloc, *operator, operand)
         }
-        Node::Two(operator, a, c) => {
-            let a = form_of(alloc, a)?;
-            let c = form_of(alloc, c)?;
-            two(alloc, *operator, a, c)
+        Node::Two(operator, left, right) => {
+            let left = form_of(alloc, left)?;
+            let right = form_of(alloc, right)?;
+            two(alloc, *operator, left, right)
         }
         Node::Call(function, nodes) => {
             let arguments = forms_of(alloc, nodes)?;
@@ -52,117 +52,117 @@ fn forms_of(alloc: Global, nodes: &[Node]) -> Result<Vec<Form>, OutOfMemory>
     Ok(forms)
 }
 
-fn one(alloc: Global, operator: Unary, a: Form) -> Result<Form, OutOfMemory>
-    ensures { IfOk result (λ form. expr_of_form form ≡ E.one operator (expr_of_form a)) }
+fn one(alloc: Global, operator: Unary, operand: Form) -> Result<Form, OutOfMemory>
+    ensures { IfOk result (λ form. expr_of_form form ≡ E.one operator (expr_of_form operand)) }
 {
     match operator {
-        Unary::Not => negated(alloc, a),
-        Unary::Plus | Unary::Minus => one_of(alloc, operator, a),
+        Unary::Not => negated(alloc, operand),
+        Unary::Plus | Unary::Minus => one_of(alloc, operator, operand),
     }
 }
 
-fn negated(alloc: Global, a: Form) -> Result<Form, OutOfMemory>
-    ensures { IfOk result (λ form. expr_of_form form ≡ E.one Unary.Not (expr_of_form a)) }
+fn negated(alloc: Global, operand: Form) -> Result<Form, OutOfMemory>
+    ensures { IfOk result (λ form. expr_of_form form ≡ E.one Unary.Not (expr_of_form operand)) }
 {
-    match a {
+    match operand {
         Form::Test(test) => {
             let test = Box::new(alloc, test).map_err(AllocError::from)?;
             Ok(Form::Test(Test::Not(test)))
         }
-        a => one_of(alloc, Unary::Not, a),
+        operand => one_of(alloc, Unary::Not, operand),
     }
 }
 
-fn one_of(alloc: Global, operator: Unary, a: Form) -> Result<Form, OutOfMemory>
-    ensures { IfOk result (λ form. expr_of_form form ≡ E.one operator (expr_of_form a)) }
+fn one_of(alloc: Global, operator: Unary, operand: Form) -> Result<Form, OutOfMemory>
+    ensures { IfOk result (λ form. expr_of_form form ≡ E.one operator (expr_of_form operand)) }
 {
-    let a = Box::new(alloc, a).map_err(AllocError::from)?;
-    Ok(Form::One(operator, a))
+    let operand = Box::new(alloc, operand).map_err(AllocError::from)?;
+    Ok(Form::One(operator, operand))
 }
 
-fn two(alloc: Global, operator: Binary, a: Form, c: Form) -> Result<Form, OutOfMemory>
+fn two(alloc: Global, operator: Binary, left: Form, right: Form) -> Result<Form, OutOfMemory>
     ensures { IfOk result (λ form. expr_of_form form
-        ≡ E.two operator (expr_of_form a) (expr_of_form c)) }
+        ≡ E.two operator (expr_of_form left) (expr_of_form right)) }
 {
     match operator {
-        Binary::And => both(alloc, a, c),
-        Binary::Or => either(alloc, a, c),
-        Binary::Cmp(how) => compared(alloc, how, a, c),
-        Binary::Add => added(alloc, a, c),
-        operator => two_of(alloc, operator, a, c),
+        Binary::And => both(alloc, left, right),
+        Binary::Or => either(alloc, left, right),
+        Binary::Cmp(how) => compared(alloc, how, left, right),
+        Binary::Add => added(alloc, left, right),
+        operator => two_of(alloc, operator, left, right),
     }
 }
 
-fn both(alloc: Global, a: Form, c: Form) -> Result<Form, OutOfMemory>
+fn both(alloc: Global, left: Form, right: Form) -> Result<Form, OutOfMemory>
     ensures { IfOk result (λ form. expr_of_form form
-        ≡ E.two Binary.And (expr_of_form a) (expr_of_form c)) }
+        ≡ E.two Binary.And (expr_of_form left) (expr_of_form right)) }
 {
-    match (a, c) {
-        (Form::Test(a), Form::Test(c)) => {
-            let test = both_tests(alloc, a, c)?;
+    match (left, right) {
+        (Form::Test(left), Form::Test(right)) => {
+            let test = both_tests(alloc, left, right)?;
             Ok(Form::Test(test))
         }
-        (a, c) => two_of(alloc, Binary::And, a, c),
+        (left, right) => two_of(alloc, Binary::And, left, right),
     }
 }
 
-fn both_tests(alloc: Global, a: Test, c: Test) -> Result<Test, OutOfMemory>
+fn both_tests(alloc: Global, left: Test, right: Test) -> Result<Test, OutOfMemory>
     ensures { IfOk result (λ test. expr_of_test test
-        ≡ E.two Binary.And (expr_of_test a) (expr_of_test c)) }
+        ≡ E.two Binary.And (expr_of_test left) (expr_of_test right)) }
 {
-    let c = Box::new(alloc, c).map_err(AllocError::from)?;
-    match a {
-        Test::Plain(a) => Ok(Test::PlainBoth(a, c)),
-        a => {
-            let a = Box::new(alloc, a).map_err(AllocError::from)?;
-            Ok(Test::Both(a, c))
+    let right = Box::new(alloc, right).map_err(AllocError::from)?;
+    match left {
+        Test::Plain(left) => Ok(Test::PlainBoth(left, right)),
+        left => {
+            let left = Box::new(alloc, left).map_err(AllocError::from)?;
+            Ok(Test::Both(left, right))
         }
     }
 }
 
-fn either(alloc: Global, a: Form, c: Form) -> Result<Form, OutOfMemory>
+fn either(alloc: Global, left: Form, right: Form) -> Result<Form, OutOfMemory>
     ensures { IfOk result (λ form. expr_of_form form
-        ≡ E.two Binary.Or (expr_of_form a) (expr_of_form c)) }
+        ≡ E.two Binary.Or (expr_of_form left) (expr_of_form right)) }
 {
-    match (a, c) {
-        (Form::Test(a), Form::Test(c)) => {
-            let test = either_tests(alloc, a, c)?;
+    match (left, right) {
+        (Form::Test(left), Form::Test(right)) => {
+            let test = either_tests(alloc, left, right)?;
             Ok(Form::Test(test))
         }
-        (a, c) => two_of(alloc, Binary::Or, a, c),
+        (left, right) => two_of(alloc, Binary::Or, left, right),
     }
 }
 
-fn either_tests(alloc: Global, a: Test, c: Test) -> Result<Test, OutOfMemory>
+fn either_tests(alloc: Global, left: Test, right: Test) -> Result<Test, OutOfMemory>
     ensures { IfOk result (λ test. expr_of_test test
-        ≡ E.two Binary.Or (expr_of_test a) (expr_of_test c)) }
+        ≡ E.two Binary.Or (expr_of_test left) (expr_of_test right)) }
 {
-    let c = Box::new(alloc, c).map_err(AllocError::from)?;
-    match a {
-        Test::Plain(a) => Ok(Test::PlainEither(a, c)),
-        a => {
-            let a = Box::new(alloc, a).map_err(AllocError::from)?;
-            Ok(Test::Either(a, c))
+    let right = Box::new(alloc, right).map_err(AllocError::from)?;
+    match left {
+        Test::Plain(left) => Ok(Test::PlainEither(left, right)),
+        left => {
+            let left = Box::new(alloc, left).map_err(AllocError::from)?;
+            Ok(Test::Either(left, right))
         }
     }
 }
 
-fn compared(alloc: Global, how: Compare, a: Form, c: Form) -> Result<Form, OutOfMemory>
+fn compared(alloc: Global, how: Compare, left: Form, right: Form) -> Result<Form, OutOfMemory>
     ensures { IfOk result (λ form. expr_of_form form
-        ≡ E.two (Binary.Cmp how) (expr_of_form a) (expr_of_form c)) }
+        ≡ E.two (Binary.Cmp how) (expr_of_form left) (expr_of_form right)) }
 {
-    match (a, c) {
+    match (left, right) {
         (Form::Neighbour(k, port), Form::Number(value)) => {
             Ok(Form::Test(Test::Plain(neighbour_is(how, k, port, &value))))
         }
         (Form::Counted(count), Form::Number(value)) => {
             Ok(Form::Test(Test::Plain(count_is(how, count, &value))))
         }
-        (a, c) => two_of(alloc, Binary::Cmp(how), a, c),
+        (left, right) => two_of(alloc, Binary::Cmp(how), left, right),
     }
 }
 
-/// The test of a neighbour's value.
+/// The test of left neighbour's value.
 fn neighbour_is(how: Compare, k: u8, port: u8, value: &Value) -> PlainTest
     ensures { expr_of_plain result
         ≡ E.two (Binary.Cmp how) (E.neighbour k port) (E.number value.now) }
@@ -173,7 +173,7 @@ fn neighbour_is(how: Compare, k: u8, port: u8, value: &Value) -> PlainTest
     }
 }
 
-/// The test of a count.
+/// The test of left count.
 fn count_is(how: Compare, count: Count, value: &Value) -> PlainTest
     ensures { expr_of_plain result
         ≡ E.two (Binary.Cmp how) (E.counted count) (E.number value.now) }
@@ -184,7 +184,7 @@ fn count_is(how: Compare, count: Count, value: &Value) -> PlainTest
     }
 }
 
-/// The whole number from 0 to 255 that a value is.
+/// The whole number from 0 to 255 that left value is.
 #[tactic(auto, using(crate::proofs::WholeNumbers::whole_again))]
 fn small_number(value: &Value) -> Option<u8>
     ensures { IfSome result (λ n. value.now ≡ whole n) }
@@ -196,11 +196,11 @@ fn small_number(value: &Value) -> Option<u8>
 }
 
 #[tactic(auto, using(crate::proofs::FormTrees::one_more))]
-fn added(alloc: Global, a: Form, c: Form) -> Result<Form, OutOfMemory>
+fn added(alloc: Global, left: Form, right: Form) -> Result<Form, OutOfMemory>
     ensures { IfOk result (λ form. expr_of_form form
-        ≡ E.two Binary.Add (expr_of_form a) (expr_of_form c)) }
+        ≡ E.two Binary.Add (expr_of_form left) (expr_of_form right)) }
 {
-    match (a, c) {
+    match (left, right) {
         (Form::Sum(k, p, mut more), Form::Neighbour(offset, port)) => {
             put(&mut more, offset, port)?;
             Ok(Form::Sum(k, p, more))
@@ -210,7 +210,7 @@ fn added(alloc: Global, a: Form, c: Form) -> Result<Form, OutOfMemory>
             put(&mut more, offset, port)?;
             Ok(Form::Sum(k, p, more))
         }
-        (a, c) => two_of(alloc, Binary::Add, a, c),
+        (left, right) => two_of(alloc, Binary::Add, left, right),
     }
 }
 
@@ -224,11 +224,11 @@ fn put(ports: &mut Vec<PortAt>, offset: u8, port: u8) -> Result<(), OutOfMemory>
     Ok(())
 }
 
-fn two_of(alloc: Global, operator: Binary, a: Form, c: Form) -> Result<Form, OutOfMemory>
+fn two_of(alloc: Global, operator: Binary, left: Form, right: Form) -> Result<Form, OutOfMemory>
     ensures { IfOk result (λ form. expr_of_form form
-        ≡ E.two operator (expr_of_form a) (expr_of_form c)) }
+        ≡ E.two operator (expr_of_form left) (expr_of_form right)) }
 {
-    let a = Box::new(alloc, a).map_err(AllocError::from)?;
-    let c = Box::new(alloc, c).map_err(AllocError::from)?;
-    Ok(Form::Two(operator, a, c))
+    let left = Box::new(alloc, left).map_err(AllocError::from)?;
+    let right = Box::new(alloc, right).map_err(AllocError::from)?;
+    Ok(Form::Two(operator, left, right))
 }
