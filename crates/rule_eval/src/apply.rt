@@ -3,11 +3,11 @@ ghost use Rattle.std.specs.Prelude.{◌≡◌, List, Some, [], ◌∷◌};
 ghost use Rattle.std.specs.Result.{result_ok};
 ghost use Rattle.quantity.specs.declared.value.Value.{Value as AnyValue};
 ghost use Rattle.quantity.specs.Arithmetic.{test_of, is_even, is_odd, is_whole};
-ghost use Rattle.quantity.specs.Truth.{tri_of};
 ghost use Rattle.rule_tree.specs.Meaning.{Sight, number_answered, truth_in, as_answer, one_meaning};
 ghost use Rattle.rule_tree.specs.Meaning.{two_meaning, by_truth, is_undefined, call_meaning};
 ghost use Rattle.rule_eval.specs.Seen.{IsView, seen};
 
+use crate::outs::decided;
 use crate::seen::{cell_position, state_count};
 use crate::view::View;
 use quantity::{Overflow, Tri, Value};
@@ -147,18 +147,12 @@ fn by_truth(truth: Tri, a: &Answer, b: &Answer, u: &Answer) -> Value
     }
 }
 
-fn tri(holds: bool) -> Tri
-    ensures { result ≡ tri_of holds }
-{
-    if holds { Tri::True } else { Tri::False }
-}
-
 fn is_even(value: Value) -> Tri
     ensures { result ≡ test_of is_even value }
 {
     match value {
         Value::Undefined => Tri::Undef,
-        Value::Num(raw) => tri((raw.get() % 200_000).unsigned_abs() == 0),
+        Value::Num(raw) => decided((raw.get() % 200_000).unsigned_abs() == 0),
     }
 }
 
@@ -167,7 +161,7 @@ fn is_odd(value: Value) -> Tri
 {
     match value {
         Value::Undefined => Tri::Undef,
-        Value::Num(raw) => tri((raw.get() % 200_000).unsigned_abs() == 100_000),
+        Value::Num(raw) => decided((raw.get() % 200_000).unsigned_abs() == 100_000),
     }
 }
 
@@ -176,7 +170,7 @@ fn is_whole(value: Value) -> Tri
 {
     match value {
         Value::Undefined => Tri::Undef,
-        Value::Num(raw) => tri((raw.get() % 100_000).unsigned_abs() == 0),
+        Value::Num(raw) => decided((raw.get() % 100_000).unsigned_abs() == 0),
     }
 }
 
