@@ -10,3 +10,4 @@ mod Steps
 mod Unnumbered
 mod Plain
 mod Rising
+mod Opened

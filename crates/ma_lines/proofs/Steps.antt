@@ -8,6 +8,7 @@ use Rattle.std.specs.Option.{option_map, unwrap_or, ForSome}
 use Rattle.quantity.specs.Bytes.{Bytes, is_blank, is_byte, is_empty, begins_with, trimmed, without_blanks_before, open_after}
 use Rattle.source_text.specs.Lines.{Line, text_of_line, without_first, without_return, without_comment}
 use Rattle.ma_lines.specs.declared.open_entry.OpenEntry.{OpenEntry}
+use Rattle.ma_lines.specs.declared.section.LineRefusal.TheVariants.{BadLine}
 use Rattle.ma_lines.specs.Entries.{is_heading, braces_after, key_in}
 use Rattle.ma_lines.specs.Sections.{Section, is_allowed, section_name}
 use Rattle.ma_lines.specs.Reading.{Opened, Reading, names, whole, with_entry, opened_by, joined, settled, begun_by, next, next_with, braces_in, refused_in}
@@ -112,6 +113,9 @@ empty_changes_nothing ss (Some x) number text s e =
 pub empty_text : (text : Bytes) → length text ≡ 0 → text ≡ []
 empty_text [] e = refl
 empty_text (c ∷ cs) e = absurd (omega arith)
+
+pub not_allowed : (r : Reading) (number : ℕ) (text : Bytes) → list_all is_allowed text ≡ false → refused_in r (line_of number text) ≡ Some (BadLine number)
+not_allowed r number text allowed = rw allowed refl
 
 pub joined_allowed : (ss : List Section) (x : Opened) (number : ℕ) (text : Bytes) → IsOpen (Some x) → list_all is_allowed text ≡ true
     → refused_in (record { sections = ss; open_entry = Some x }) (line_of number text) ≡ None

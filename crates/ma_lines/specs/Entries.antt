@@ -1,25 +1,26 @@
 -- Entries, and the lines that continue them: an entry goes on as long as its braces are open.
 use Rattle.std.specs.Prelude.{ℕ, zero, suc, Bool, List, [], ◌∷◌, ◌++◌, if◌then◌else◌, codes}
 use Rattle.std.specs.List.{fold, before_first, after_first}
+use Rattle.quantity.specs.ByteNames.{closing_brace, colon, opening_brace, opening_bracket}
 use Rattle.quantity.specs.Bytes.{Bytes, is_byte, begins_with, trimmed, is_among, open_after}
 use Rattle.source_text.specs.Lines.{Line, folded}
 use Rattle.ma_lines.specs.declared.section.Entry.{Entry}
 
 -- a line that begins a section
 abbrev pub is_heading : Line → Bool
-is_heading l = begins_with 91 l.text
+is_heading l = begins_with opening_bracket l.text
 
 -- ---- braces
 
 -- the braces open after a text, when so many are open before it
 abbrev pub braces_after : ℕ → Bytes → ℕ
-braces_after n text = fold (open_after (is_byte 123) (is_byte 125)) n text
+braces_after n text = fold (open_after (is_byte opening_brace) (is_byte closing_brace)) n text
 
 -- the braces open after a line: where none are open before it, an entry's are counted from the left
 -- of its value
 abbrev pub braces_after_line : ℕ → Line → ℕ
 braces_after_line zero l =
-    if is_heading l then 0 else braces_after 0 (after_first (is_byte 58) l.text)
+    if is_heading l then 0 else braces_after 0 (after_first (is_byte colon) l.text)
 braces_after_line (suc n) l = braces_after (suc n) l.text
 
 -- a line with the number of braces open before it: where some are, it continues the entry before it
@@ -57,11 +58,11 @@ keeps_letters key = is_among (codes "initialcellsvalue" ∷ codes "initialmapval
 
 -- the key, in small letters
 abbrev pub key_in : Bytes → Bytes
-key_in text = folded (trimmed (before_first (is_byte 58) text))
+key_in text = folded (trimmed (before_first (is_byte colon) text))
 
 -- the value behind the colon
 abbrev pub value_after : Bytes → Bytes
-value_after text = trimmed (after_first (is_byte 58) text)
+value_after text = trimmed (after_first (is_byte colon) text)
 
 -- the entry that a line begins, with the text that continues it
 abbrev pub entry_of : Line → Bytes → Entry

@@ -4,6 +4,7 @@ use Rattle.std.specs.Prelude.{◌≡◌, ℕ, ◌<◌, true, false, List, [], �
 use Rattle.std.specs.List.{list_any, list_all}
 use Rattle.std.specs.declared.result.Result.{Result}
 use Rattle.std.specs.declared.result.Result.TheVariants.{Ok, Err}
+use Rattle.quantity.specs.ByteNames.{carriage_return, percent_sign}
 use Rattle.quantity.specs.Bytes.{Bytes, is_blank, is_byte}
 use Rattle.source_text.specs.Lines.{folded, lines_of, text_of_line, without_return, without_comment}
 use Rattle.ma_lines.specs.declared.section.Entry.{Entry}
@@ -17,13 +18,13 @@ StandsOnLines = (a b : Bytes) → lines_of a ≡ lines_of b → sections_of a �
 
 -- a carriage return behind a line is dropped
 abbrev pub DropsReturns : Type 0
-DropsReturns = (line : Bytes) → without_return (line ++ 13 ∷ []) ≡ line
+DropsReturns = (line : Bytes) → without_return (line ++ carriage_return ∷ []) ≡ line
 
 -- what stands behind the first % is dropped, whatever it is
 abbrev pub DropsComments : Type 0
 DropsComments =
-    (line more : Bytes) → list_any (is_byte 37) line ≡ false
-    → without_comment (line ++ 37 ∷ more) ≡ line
+    (line more : Bytes) → list_any (is_byte percent_sign) line ≡ false
+    → without_comment (line ++ percent_sign ∷ more) ≡ line
 
 -- ---- but for the numbers of lines
 

@@ -4,6 +4,7 @@ use Rattle.std.specs.declared.result.Result.{Result}
 use Rattle.std.specs.declared.result.Result.TheVariants.{Ok, Err}
 use Rattle.std.specs.List.{list_any, list_all}
 use Rattle.std.specs.Option.{option_or, option_map, option_to_list, unwrap_or}
+use Rattle.quantity.specs.ByteNames.{closing_bracket, colon, opening_bracket}
 use Rattle.quantity.specs.Bytes.{Bytes, is_empty, is_byte, trimmed, inside, is_among}
 use Rattle.quantity.specs.Digits.{is_between}
 use Rattle.source_text.specs.Lines.{Line, lines_of, folded}
@@ -27,7 +28,7 @@ section_of s = record { line = s.line; name = s.name; entries = s.entries.items 
 
 -- a bracket stands in the text
 abbrev pub has_brackets : Bytes → Bool
-has_brackets text = list_any (λ c. (c == 91) || (c == 93)) text
+has_brackets text = list_any (λ c. (c == opening_bracket) || (c == closing_bracket)) text
 
 -- the name between brackets, or none where there is no name
 abbrev pub name_in : Option Bytes → Option Bytes
@@ -37,7 +38,7 @@ name_in (Some text) =
 
 -- the name in a heading
 abbrev pub section_name : Line → Option Bytes
-section_name l = name_in (inside 91 93 l.text)
+section_name l = name_in (inside opening_bracket closing_bracket l.text)
 
 -- ---- pieces: a heading or an entry
 
@@ -79,7 +80,7 @@ is_allowed c = (c == 9) || is_between 32 126 c
 
 -- a key before a colon
 abbrev pub is_entry : Line → Bool
-is_entry l = list_any (is_byte 58) l.text && not (is_empty (key_in l.text))
+is_entry l = list_any (is_byte colon) l.text && not (is_empty (key_in l.text))
 
 -- the name of the section that a line begins
 abbrev pub begun : Braced → List Bytes

@@ -1,4 +1,4 @@
-// Calls that name the definitions.
+// What holds of sections, entries and lines, in general and in examples.
 ghost use Rattle.ma_lines.specs.Laws.{StandsOnLines, StandsOnTexts, DropsReturns, DropsComments, DropsOuterBlanks, FoldsLetters, SkipsEmptyLines, ReadsPlainTexts, NumbersRise};
 ghost use Rattle.ma_lines.specs.Examples.{SectionsAreRead, LinesAreRefused};
 

@@ -1,5 +1,6 @@
 // An entry whose braces may be open.
 ghost use Rattle.std.specs.Prelude.{◌≡◌, ◌≢◌, ◌+◌, ◌<◌, ◌^◌, false, [], length, OnOk, IfOk};
+ghost use Rattle.quantity.specs.ByteNames.{opening_bracket};
 ghost use Rattle.quantity.specs.Bytes.{begins_with};
 ghost use Rattle.ma_lines.specs.Reading.{whole, joined, opened_by};
 ghost use Rattle.ma_lines.specs.Reader.{opened_of, line_of};
@@ -23,7 +24,7 @@ pub(crate) struct OpenEntry {
 impl OpenEntry {
     /// The entry that begins in a line.
     pub(crate) fn begin(alloc: Global, line: u32, text: &[u8]) -> Result<OpenEntry, OutOfMemory>
-        requires { begins_with 91 text.now ≡ false }
+        requires { begins_with opening_bracket text.now ≡ false }
         ensures { IfOk result (λ entry. opened_of entry ≡ opened_by (line_of line text.now)) }
     {
         let (_key, value) = cut_at(b':', text);

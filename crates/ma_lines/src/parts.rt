@@ -2,6 +2,8 @@
 ghost use Rattle.std.specs.Prelude.{◌≡◌, ◌+◌, ◌<◌, ◌≤◌, ◌^◌, ◌&&◌, not, length, IfOk};
 ghost use Rattle.std.specs.List.{list_any, list_all, before_first};
 ghost use Rattle.std.specs.Option.{option_map, option_copied};
+ghost use Rattle.quantity.specs.ByteNames.{closing_brace, closing_bracket, colon};
+ghost use Rattle.quantity.specs.ByteNames.{opening_brace, opening_bracket};
 ghost use Rattle.quantity.specs.Bytes.{is_empty, is_byte, begins_with, trimmed, inside, open_after};
 ghost use Rattle.source_text.specs.Lines.{folded};
 ghost use Rattle.ma_lines.specs.Entries.{braces_after, keeps_letters, key_in};
@@ -26,7 +28,7 @@ fn is_allowed(byte: u8) -> bool
 
 /// Whether a section begins in this line.
 pub(crate) fn is_heading(text: &[u8]) -> bool
-    ensures { result ≡ begins_with 91 text.now }
+    ensures { result ≡ begins_with opening_bracket text.now }
 {
     match text {
         [b'[', ..] => true,
@@ -37,7 +39,7 @@ pub(crate) fn is_heading(text: &[u8]) -> bool
 /// The name of the section that a line begins: none where no name stands between brackets.
 pub(crate) fn section_name(alloc: Global, text: &[u8]) -> Result<Option<Vec<u8>>, AllocError>
     ensures { IfOk result (λ name. option_map (λ v. v.items) name
-        ≡ name_in (inside 91 93 text.now)) }
+        ≡ name_in (inside opening_bracket closing_bracket text.now)) }
 {
     let Some(inner) = in_brackets(text) else {
         return Ok(None);
@@ -50,7 +52,7 @@ pub(crate) fn section_name(alloc: Global, text: &[u8]) -> Result<Option<Vec<u8>>
 }
 
 fn in_brackets(text: &[u8]) -> Option<&[u8]>
-    ensures { option_copied result ≡ inside 91 93 text.now }
+    ensures { option_copied result ≡ inside opening_bracket closing_bracket text.now }
 {
     let (first, rest) = text.split_first()?;
     let (last, inner) = rest.split_last()?;
@@ -69,20 +71,21 @@ fn has_brackets(text: &[u8]) -> bool
 
 /// Whether a key stands before a colon.
 pub(crate) fn is_entry(text: &[u8]) -> bool
-    ensures { result ≡ (list_any (is_byte 58) text.now && not (is_empty (key_in text.now))) }
+    ensures { result
+        ≡ (list_any (is_byte colon) text.now && not (is_empty (key_in text.now))) }
 {
     has_colon(text) && !key_text(text).is_empty()
 }
 
 fn has_colon(text: &[u8]) -> bool
-    ensures { result ≡ list_any (is_byte 58) text.now }
+    ensures { result ≡ list_any (is_byte colon) text.now }
 {
     text.iter().any(|c| b':' == *c)
 }
 
 /// The text before the first colon, without outer blanks.
 fn key_text(text: &[u8]) -> &[u8]
-    ensures { result.now ≡ trimmed (before_first (is_byte 58) text.now) }
+    ensures { result.now ≡ trimmed (before_first (is_byte colon) text.now) }
 {
     let (before, _value) = cut_at(b':', text);
     trimmed(before)
@@ -124,7 +127,8 @@ pub(crate) fn braces_after(before: u64, text: &[u8]) -> u64
 
 fn braces_behind(before: u64, byte: u8) -> u64
     requires { before + 1 < 2 ^ 64 }
-    ensures value { result ≡ open_after (is_byte 123) (is_byte 125) before byte }
+    ensures value { result
+        ≡ open_after (is_byte opening_brace) (is_byte closing_brace) before byte }
     ensures bound { result ≤ before + 1 }
 {
     match byte {

@@ -2,6 +2,7 @@
 ghost use Rattle.std.specs.Prelude.{◌≡◌, ◌≢◌, ◌+◌, ◌<◌, ◌^◌, true, [], ◌∷◌, ◌++◌, length, OnOk, IfErr};
 ghost use Rattle.std.specs.List.{list_all};
 ghost use Rattle.std.specs.Option.{unwrap_or, ForSome};
+ghost use Rattle.quantity.specs.ByteNames.{closing_bracket, opening_bracket};
 ghost use Rattle.quantity.specs.Bytes.{inside};
 ghost use Rattle.source_text.specs.Lines.{text_of_line};
 ghost use Rattle.ma_lines.specs.Sections.{is_allowed, name_in, heading_refused};
@@ -107,17 +108,18 @@ impl Reader {
 
     fn begin_section(&mut self, alloc: Global, line: u32, text: &[u8]) -> Result<(), LineRefusal>
         ensures new_name { OnOk result (heading_refused (names self.old.sections) line
-            (name_in (inside 91 93 text.now)) ≡ None) }
+            (name_in (inside opening_bracket closing_bracket text.now)) ≡ None) }
         ensures begun { OnOk result (self.new.sections
             ≡ self.old.sections ++ record {
               line = line;
-              name = unwrap_or (name_in (inside 91 93 text.now)) [];
+              name = unwrap_or
+                  (name_in (inside opening_bracket closing_bracket text.now)) [];
               entries = [];
             } ∷ []) }
         ensures between { OnOk result (self.new.open_entry ≡ self.old.open_entry) }
         ensures refused { IfErr result (λ why. why ≢ LineRefusal.Memory
-            → heading_refused (names self.old.sections) line (name_in (inside 91 93 text.now))
-            ≡ Some why) }
+            → heading_refused (names self.old.sections) line
+            (name_in (inside opening_bracket closing_bracket text.now)) ≡ Some why) }
     {
         let Some(name) = section_name(alloc, text)? else {
             return Err(LineRefusal::BadLine(line));
