@@ -1,3 +1,4 @@
 pub mod Cuts
 pub mod FirstWords
 pub mod TupleParts
+mod Casts
