@@ -40,6 +40,8 @@ pub fn number(raw: i64) -> Value
     }
 }
 
+/// The number that stands for a value: of a number its hundred-thousandths, and one of its own for
+/// `?`.
 pub fn value_word(value: Value) -> i64
     ensures value { result ≡ word_of value }
     ensures bounded { unsigned_abs result ≤ 10 ^ 16 }
@@ -63,6 +65,7 @@ pub fn value_of(word: i64) -> Option<Value>
     }
 }
 
+/// The number that stands for a time, in milliseconds; `NONE` where there is none.
 pub fn time_word(time: Option<Time>) -> i64
     ensures { result ≡ word_or_none time }
 {
@@ -72,6 +75,7 @@ pub fn time_word(time: Option<Time>) -> i64
     }
 }
 
+/// The number that stands for a count; `NONE` where there is none.
 pub fn number_word(number: Option<u32>) -> i64
     ensures { result ≡ word_or_none number }
 {

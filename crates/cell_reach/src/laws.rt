@@ -1,4 +1,4 @@
-// Calls that name the definitions.
+// What holds of neighbours that stand equally far on.
 ghost use Rattle.cell_reach.specs.NeighbourhoodLaws.{NeighboursInsideAreEquallyFar};
 ghost use Rattle.cell_reach.specs.NeighbourhoodLaws.{RisingWatchersAreWatchers};
 

@@ -1,4 +1,4 @@
-// Calls that name the definitions.
+// Events files that are read and refused, by examples.
 ghost use Rattle.event_list.specs.Examples.{EventsAreRead, EventsAreRefused};
 
 /// Events are read, and put in order, as these examples say.

@@ -106,6 +106,7 @@ impl Lacks {
 }
 
 impl Term {
+    /// A number, or `?`.
     pub fn value(value: Value) -> Term
         ensures { (names : _) → Stands names result (P.value value) }
     {
@@ -116,6 +117,7 @@ impl Term {
         }
     }
 
+    /// A truth value.
     pub fn truth(truth: Tri) -> Term
         ensures { (names : _) → Stands names result (P.truth truth) }
     {
@@ -126,6 +128,7 @@ impl Term {
         }
     }
 
+    /// The time at which the rule is evaluated.
     pub fn now() -> Term
         ensures { (names : _) → Stands names result P.now }
     {
@@ -136,6 +139,7 @@ impl Term {
         }
     }
 
+    /// The value that came at the input port.
     pub fn port_value() -> Term
         ensures { (names : _) → Stands names result P.port_value }
     {
@@ -146,6 +150,7 @@ impl Term {
         }
     }
 
+    /// How many neighbours gave the value that is counted: 1, 0 or `?`.
     pub fn counted(count: Count) -> Term
         ensures { (names : _) → Stands names result (P.counted count) }
     {
