@@ -6,6 +6,7 @@ use Rattle.std.specs.Option.{option_and_then}
 use Rattle.std.specs.Bool.{then_some}
 use Rattle.quantity.specs.declared.value.Value.{Value}
 use Rattle.cell_grid.specs.Space.{Space, cell_count, dims_of}
+use Rattle.quantity.specs.ByteNames.{equals_sign}
 use Rattle.quantity.specs.Bytes.{Bytes, is_byte, words, trimmed, all_there}
 use Rattle.quantity.specs.Digits.{whole_number}
 use Rattle.quantity.specs.Literals.{value_in}
@@ -70,8 +71,8 @@ cell_value cell v = None
 -- tuple = value
 abbrev pub cell_line : Space → Bytes → Option (ℕ × Value)
 cell_line space text =
-    cell_value (option_and_then (cell_in space) (tuple (trimmed (before_first (is_byte 61) text))))
-    (value_in (trimmed (after_first (is_byte 61) text)))
+    cell_value (option_and_then (cell_in space) (tuple (trimmed (before_first (is_byte equals_sign) text))))
+    (value_in (trimmed (after_first (is_byte equals_sign) text)))
 
 -- the cells and values of a file, a cell a line
 abbrev pub cells_file : Space → Bytes → Option (List (ℕ × Value))

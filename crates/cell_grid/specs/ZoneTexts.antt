@@ -4,6 +4,7 @@ use Rattle.std.specs.List.{before_first, starts_with}
 use Rattle.std.specs.Option.{option_map, option_and_then}
 use Rattle.std.specs.Bool.{then_some}
 use Rattle.quantity.specs.declared.place.Place.{Place}
+use Rattle.quantity.specs.ByteNames.{closing_brace, opening_brace}
 use Rattle.quantity.specs.Bytes.{Bytes, is_byte, is_empty, inside, trimmed, all_there}
 use Rattle.quantity.specs.Names.{is_name}
 use Rattle.source_text.specs.Tuples.{named_tuple, parts_of}
@@ -62,11 +63,13 @@ ranges_in space text =
 
 -- the name before the braces
 abbrev pub zone_name : Bytes → Bytes
-zone_name text = trimmed (before_first (is_byte 123) text)
+zone_name text = trimmed (before_first (is_byte opening_brace) text)
 
 -- what stands between the braces
 abbrev pub zone_items : Bytes → Option Bytes
-zone_items text = inside 123 125 (drop (length (before_first (is_byte 123) text)) text)
+zone_items text =
+    inside opening_brace closing_brace
+    (drop (length (before_first (is_byte opening_brace) text)) text)
 
 -- the zone that a text gives
 abbrev pub zone_in : Space → Bytes → Option Region

@@ -61,10 +61,6 @@ colon = 58
 abbrev pub equals_sign : ℕ
 equals_sign = 61
 
--- @
-abbrev pub at_sign : ℕ
-at_sign = 64
-
 -- [
 abbrev pub opening_bracket : ℕ
 opening_bracket = 91
