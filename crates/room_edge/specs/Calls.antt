@@ -86,7 +86,7 @@ pub record Appends (result : Result ℕ WriteError) (name bytes : List ℕ)
   pub faults : old.write_faults ≤ new.write_faults
   pub only : OnlyMade old new
 
--- a call that adds the front of a piece to the first stream
+-- a call that adds the front of a piece to standard output
 pub record Shows (result : Result ℕ WriteError) (bytes : List ℕ) (old new : Outside) : Type 0 where
   pub takes : Takes result bytes
   pub shown : IfOk result (λ n. new.shown ≡ streams old.shown (take n bytes))
@@ -95,7 +95,7 @@ pub record Shows (result : Result ℕ WriteError) (bytes : List ℕ) (old new : 
   pub faults : old.write_faults ≤ new.write_faults
   pub only : OnlyShown old new
 
--- a call that adds the front of a piece to the second stream: a fault of it is one of writing too
+-- a call that adds the front of a piece to standard error: a fault of it is one of writing too
 pub record Complains (result : Result ℕ WriteError) (bytes : List ℕ)
     (old new : Outside) : Type 0 where
   pub takes : Takes result bytes

@@ -1,6 +1,6 @@
 -- What whole reads and writes give.
-use Rattle.std.specs.Prelude.{◌≡◌, ℕ, ◌+◌, ◌≤◌, IfSome, List, [], ◌∷◌, ◌++◌, ◌⊎◌, length, drop}
-use Rattle.std.specs.Prelude.{Option, Some, None, Result, Ok, Err, Vec, IsTrue, ⊤}
+use Rattle.std.specs.Prelude.{◌≡◌, ℕ, ◌+◌, ◌≤◌, List, [], ◌∷◌, ◌++◌, ◌⊎◌, length, drop}
+use Rattle.std.specs.Prelude.{IfSome, Option, Some, None, Result, Ok, Err, Vec, IsTrue, ⊤}
 use Rattle.std.specs.declared.alloc.Global.{Global}
 use Rattle.room_edge.specs.Outside.{Outside, Files, OnlyRest}
 use Rattle.room_edge.specs.Faults.{Rose}

@@ -10,11 +10,11 @@ use std::fs::Files;
 use std::io::{ErrorKind, Read, Write};
 use std::{fs, io};
 
-/// The real folder and both standard streams, behind a runtime. It tells its counts and its names,
+/// The real folder, standard output and standard error, behind a runtime. It tells its counts and its names,
 /// and none of the bytes.
 ///
 /// A made file stays open between two appends. A write that takes nothing of a piece that isn't
-/// empty is a fault of writing. The second stream takes text alone, so bytes that are no text are
+/// empty is a fault of writing. Standard error takes text alone, so bytes that are no text are
 /// a fault of complaining.
 #[derive(Drop)]
 pub struct FolderRoom<R: Files + Print + Eprint + AllocGlobal + Drop> {
@@ -46,7 +46,7 @@ fn write_to<F: Write + Drop>(
 }
 
 impl<R: Files + Print + Eprint + AllocGlobal + Drop> FolderRoom<R> {
-    /// The folder that the program runs in, and its two streams.
+    /// The folder that the program runs in, and its standard output and standard error.
     pub fn new(rt: R) -> Self
         ensures { ⟦<FolderRoom<R> as Room>⟧.outside result ≡ nothing_told }
     {
@@ -103,7 +103,7 @@ impl<R: Files + Print + Eprint + AllocGlobal + Drop> Room for FolderRoom<R> {
     }
 
     fn complain(&mut self, bytes: &[u8]) -> Result<usize, WriteError> {
-        // A runtime takes text alone on its second stream.
+        // A runtime takes text alone on standard error.
         let answer = match str::from_utf8(bytes) {
             Ok(text) => Some(self.rt.eprint(text)),
             Err(_) => None,

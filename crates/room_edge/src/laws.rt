@@ -51,14 +51,14 @@ pub fn sure_write(room: &mut SureRoom, name: &str, bytes: &[u8]) -> Result<(), W
     write_all(room, name, bytes)
 }
 
-/// Over such a room the first stream takes all bytes, or memory ran out.
+/// Over such a room standard output takes all bytes, or memory ran out.
 pub fn sure_show(room: &mut SureRoom, bytes: &[u8]) -> Result<(), WriteAll>
     ensures { (n : ℕ) → ¬ IsErrOf result (WriteAll.WriteFault n) }
 {
     show_all(room, bytes)
 }
 
-/// Over such a room the second stream takes all bytes, or memory ran out.
+/// Over such a room standard error takes all bytes, or memory ran out.
 pub fn sure_complain(room: &mut SureRoom, bytes: &[u8]) -> Result<(), WriteAll>
     ensures { (n : ℕ) → ¬ IsErrOf result (WriteAll.WriteFault n) }
 {

@@ -166,14 +166,14 @@ impl MemoryRoom {
         self.sure.made(name)
     }
 
-    /// The bytes on the first stream.
+    /// The bytes on standard output.
     pub fn shown(&self) -> &[u8]
         ensures { (memory_outside self.now).shown ≡ Some result.now }
     {
         self.sure.shown()
     }
 
-    /// The bytes on the second stream.
+    /// The bytes on standard error.
     pub fn complained(&self) -> &[u8]
         ensures { (memory_outside self.now).complained ≡ Some result.now }
     {

@@ -33,8 +33,8 @@ pub enum WriteError {
     Memory,
 }
 
-/// The outside of a program: a folder to read from, files that the program makes, and its two
-/// streams.
+/// The outside of a program: a folder to read from, files that the program makes, standard output
+/// and standard error.
 ///
 /// A room may tell what it holds, or not: its files, those made with their bytes, the bytes on
 /// the streams and what is left of the input. Every room tells its counts of faults and misses,
@@ -65,12 +65,12 @@ pub trait Room {
         requires { Contains (outside self.old).created name.now }
         ensures { Appends result name.now bytes.now (outside self.old) (outside self.new) };
 
-    /// Adds the front of a piece to the first stream, and says how many bytes.
+    /// Adds the front of a piece to standard output, and says how many bytes.
     fn show(&mut self, bytes: &[u8]) -> Result<usize, WriteError>
         ensures { Shows result bytes.now (outside self.old) (outside self.new) };
 
-    /// Adds the front of a piece to the second stream, and says how many bytes. A fault here
-    /// counts as one of complaining and as one of writing.
+    /// Adds the front of a piece to standard error, and says how many bytes. A fault here counts
+    /// as one of complaining and as one of writing.
     fn complain(&mut self, bytes: &[u8]) -> Result<usize, WriteError>
         ensures { Complains result bytes.now (outside self.old) (outside self.new) };
 }

@@ -138,14 +138,14 @@ impl SureRoom {
         }
     }
 
-    /// The bytes on the first stream.
+    /// The bytes on standard output.
     pub fn shown(&self) -> &[u8]
         ensures { (sure_outside self.now).shown ≡ Some result.now }
     {
         &self.shown
     }
 
-    /// The bytes on the second stream.
+    /// The bytes on standard error.
     pub fn complained(&self) -> &[u8]
         ensures { (sure_outside self.now).complained ≡ Some result.now }
     {

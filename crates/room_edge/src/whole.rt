@@ -171,7 +171,7 @@ pub fn write_all<R: Room>(room: &mut R, name: &str, bytes: &[u8]) -> Result<(), 
     Ok(())
 }
 
-/// Adds all the bytes to the first stream.
+/// Adds all the bytes to standard output.
 ///
 /// # Errors
 ///
@@ -200,7 +200,7 @@ pub fn show_all<R: Room>(room: &mut R, bytes: &[u8]) -> Result<(), WriteAll>
     Ok(())
 }
 
-/// Adds all the bytes to the second stream. A fault counts as one of complaining too.
+/// Adds all the bytes to standard error. A fault counts as one of complaining too.
 ///
 /// # Errors
 ///
