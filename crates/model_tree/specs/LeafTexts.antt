@@ -1,5 +1,6 @@
 -- How leaves and their ports are called.
-use Rattle.std.specs.Prelude.{ℕ, List, [], ◌∷◌, ◌++◌, None, Some, take, map, slice_get, codes, decimal, unwrap_or}
+use Rattle.std.specs.Prelude.{ℕ, List, [], ◌∷◌, ◌++◌, None, Some, take, map}
+use Rattle.std.specs.Prelude.{slice_get, codes, decimal, unwrap_or}
 use Rattle.std.specs.List.{join_with_byte}
 use Rattle.quantity.specs.Bytes.{Bytes}
 use Rattle.rule_tree.specs.Meaning.{coordinates}

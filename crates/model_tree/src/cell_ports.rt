@@ -6,7 +6,7 @@ ghost use Rattle.model_tree.specs.Pull.{cell_ports, port_of_cell};
 ghost use Rattle.model_tree.specs.Stands.{group_of};
 ghost use Rattle.model_tree.specs.CellPorts.{with_name, with_port, ports_of_cells, none_each, with_end};
 
-use crate::copies::put_name;
+use crate::copies::put_copy;
 use crate::faces::is_among;
 use crate::group::CellGroup;
 use crate::link::{End, Link};
@@ -21,7 +21,7 @@ impl CellGroup {
     {
         let mut names = Vec::new(alloc);
         for link in &self.links {
-            add_port(alloc, link, cell, &mut names)?;
+            add_port(link, cell, &mut names)?;
         }
         Ok(names)
     }
@@ -33,7 +33,7 @@ impl CellGroup {
     {
         let mut all = no_names(alloc, self.grid.cells())?;
         for link in &self.links {
-            add_to_end(alloc, &link.to, &mut all)?;
+            add_to_end(&link.to, &mut all)?;
         }
         Ok(all)
     }
@@ -51,23 +51,18 @@ fn no_names(alloc: Global, cells: u32) -> Result<Vec<Vec<Name>>, OutOfMemory>
 }
 
 /// Appends the port at an end of a link to the names of its cell, unless it is there.
-fn add_to_end(alloc: Global, end: &End, all: &mut [Vec<Name>]) -> Result<(), OutOfMemory>
+fn add_to_end(end: &End, all: &mut [Vec<Name>]) -> Result<(), OutOfMemory>
     ensures { OnOk result (map (λ v. v.items) all.new
         ≡ with_end end.now (map (λ v. v.items) all.old)) }
 {
     match end {
         End::Own(_) | End::Child(_, _) => Ok(()),
-        End::Cell(port, cell) => add_to_cell(alloc, port, *cell, all),
+        End::Cell(port, cell) => add_to_cell(port, *cell, all),
     }
 }
 
 /// Appends a name to those of a cell, unless it is there or there is no such cell.
-fn add_to_cell(
-    alloc: Global,
-    port: &Name,
-    cell: u32,
-    all: &mut [Vec<Name>],
-) -> Result<(), OutOfMemory>
+fn add_to_cell(port: &Name, cell: u32, all: &mut [Vec<Name>]) -> Result<(), OutOfMemory>
     ensures { let old = map (λ v. v.items) all.old in
         OnOk result
         (map (λ v. v.items) all.new
@@ -75,27 +70,27 @@ fn add_to_cell(
 {
     let at = cell as usize;
     if at < all.len() {
-        add_name(alloc, port, &mut all[at])?;
+        add_name(port, &mut all[at])?;
     }
     Ok(())
 }
 
 /// Appends the port of a cell that a link leads to, unless its name is there.
-fn add_port(alloc: Global, link: &Link, cell: u32, names: &mut Vec<Name>) -> Result<(), OutOfMemory>
+fn add_port(link: &Link, cell: u32, names: &mut Vec<Name>) -> Result<(), OutOfMemory>
     ensures { OnOk result (names.new.items
         ≡ with_port names.old.items (port_of_cell cell link.now)) }
 {
     match &link.to {
-        End::Cell(port, at) if *at == cell => add_name(alloc, port, names),
+        End::Cell(port, at) if *at == cell => add_name(port, names),
         _ => Ok(()),
     }
 }
 
-fn add_name(alloc: Global, name: &Name, names: &mut Vec<Name>) -> Result<(), OutOfMemory>
+fn add_name(name: &Name, names: &mut Vec<Name>) -> Result<(), OutOfMemory>
     ensures { OnOk result (names.new.items ≡ with_name names.old.items name.now) }
 {
     if is_among(names, name) {
         return Ok(());
     }
-    put_name(alloc, name.as_bytes(), names)
+    put_copy(name, names)
 }

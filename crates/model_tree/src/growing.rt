@@ -3,7 +3,7 @@ ghost use Rattle.std.specs.Prelude.{◌≡◌, ◌+◌, ◌<◌, ◌^◌, [], �
 ghost use Rattle.model_tree.specs.Table.{seat_at};
 ghost use Rattle.model_tree.specs.Growing.{AtPart, IsPartOf, box_seat_of, cell_seats, part_seats};
 
-use crate::copies::{all_copied, put_copies, written};
+use crate::copies::{all_copied, put_copies};
 use crate::group::{Atomic, CellGroup};
 use crate::input_names::inputs_of_class;
 use crate::table::{Part, PartAt, Row};
@@ -36,13 +36,7 @@ impl Growing {
     }
 
     /// One more leaf, of a part that stands already.
-    fn seat(
-        &mut self,
-        alloc: Global,
-        part: u32,
-        cell: u32,
-        names: &[Name],
-    ) -> Result<(), OutOfMemory>
+    fn seat(&mut self, part: u32, cell: u32, names: &[Name]) -> Result<(), OutOfMemory>
         ensures ok { OnOk result
             (AtPart self.old.parts.items part
             (λ p. Grows self.old self.new (seat_at p.at p.name cell names.now ∷ []))) }
@@ -51,7 +45,7 @@ impl Growing {
     {
         let first_port = counted(self.ports.len())?;
         let ports = counted(names.len())?;
-        put_copies(alloc, names, &mut self.ports)?;
+        put_copies(names, &mut self.ports)?;
         let row = Row {
             part,
             cell,
@@ -79,11 +73,11 @@ impl Growing {
         ensures ok { OnOk result (Grows self.old self.new (box_seat_of atomic.now ∷ [])) }
         ensures groups { OnOk result (self.new.groups ≡ self.old.groups) }
     {
-        let name = written(alloc, atomic.name.as_bytes())?;
+        let name = atomic.name.clone()?;
         let at = PartAt::Atomic(atomic.at);
         let part = self.part(Part { name, at })?;
         let names = inputs_of_class(alloc, atomic.class)?;
-        self.seat(alloc, part, 0, &names)
+        self.seat(part, 0, &names)
     }
 
     /// The leaves of a group.
@@ -108,7 +102,7 @@ impl Growing {
         let all = group.ports_of_cells(alloc)?;
         for cell in 0..group.grid.cells() {
             let names = &all[cell as usize];
-            self.seat(alloc, part, cell, names)?;
+            self.seat(part, cell, names)?;
         }
         Ok(())
     }
@@ -118,7 +112,7 @@ impl Growing {
 fn group_part(alloc: Global, group: &CellGroup, number: u32) -> Result<Part, OutOfMemory>
     ensures { IfOk result (IsPartOf group.now number) }
 {
-    let name = written(alloc, group.name.as_bytes())?;
+    let name = group.name.clone()?;
     let ports = all_copied(alloc, &group.ports)?;
     let at = PartAt::Cells(number, group.grid, ports);
     Ok(Part { name, at })

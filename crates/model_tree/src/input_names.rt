@@ -1,11 +1,10 @@
 // The names of the input ports of a class.
-ghost use Rattle.std.specs.Prelude.{◌≡◌, map, IfOk};
+ghost use Rattle.std.specs.Prelude.{◌≡◌, ◌∷◌, ◌++◌, [], map, IfOk, OnOk};
 ghost use Rattle.model_tree.specs.Pull.{class_ports};
 
-use crate::copies::put_name;
 use atomic_face::Class;
 use quantity::{Name, OutOfMemory};
-use std::alloc::Global;
+use std::alloc::{AllocError, Global};
 
 /// The names of the input ports of a class, in the order of their numbers.
 pub fn inputs_of_class(alloc: Global, class: Class) -> Result<Vec<Name>, OutOfMemory>
@@ -23,4 +22,13 @@ fn names_of(alloc: Global, texts: &[&[u8]]) -> Result<Vec<Name>, OutOfMemory>
         put_name(alloc, text, &mut names)?;
     }
     Ok(names)
+}
+
+/// Appends the name that is written so. Each port of a class has a name, so only memory can lack.
+fn put_name(alloc: Global, text: &[u8], into: &mut Vec<Name>) -> Result<(), OutOfMemory>
+    ensures { OnOk result (into.new.items ≡ into.old.items ++ text.now ∷ []) }
+{
+    let name = Name::parse(alloc, text).map_err(|_| OutOfMemory)?;
+    into.push(name).map_err(AllocError::from)?;
+    Ok(())
 }
