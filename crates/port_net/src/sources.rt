@@ -216,6 +216,7 @@ fn named_node(
     match children.place(child) {
         None => join(nodes, Vec::new(alloc)),
         Some(place) => match out_at(outs, place) {
+            // Never: each child has its outputs.
             None => Err(OutOfMemory),
             Some(out) => out_node(alloc, &children.list[place], out, port, nodes),
         },

@@ -5,7 +5,7 @@ use Rattle.std.specs.Option.{option_map, is_some}
 use Rattle.std.specs.Str.{bytes_eq}
 use Rattle.quantity.specs.Bytes.{Bytes}
 use Rattle.atomic_face.specs.declared.params.Param.{Param}
-use Rattle.atomic_face.specs.TableSettings.{HoldWords, hold_in, is_new_hold, line_unless, number_of_name, take_in, with_key}
+use Rattle.atomic_face.specs.TableSettings.{HoldWords, hold_in, is_new_hold, line_unless, number_of_name, with_key}
 use Rattle.state_tables.specs.declared.settings.Hold.{Hold}
 use Rattle.state_tables.specs.Settings.{shown_word}
 
@@ -21,10 +21,6 @@ least_of (Some a) (Some b) = Some (min a b)
 abbrev pub is_initial_off : List Bytes → Param → Bool
 is_initial_off names e =
     bytes_eq e.key (codes "initial") && not (is_some (number_of_name names e.value))
-
--- a take off its form
-abbrev pub is_take_off : List Bytes → Param → Bool
-is_take_off names e = bytes_eq e.key (codes "take") && not (is_some (take_in names e))
 
 -- the line of a hold that is off its form, or whose state has one already
 abbrev pub hold_lines : List Bytes → List HoldWords → Param → List ℕ
