@@ -188,7 +188,7 @@ impl<M: AtomicModel> FlatLeaves<M> {
         ensures err { OnErr result (self.new ≡ self.old) }
     {
         match self.seats[leaf as usize] {
-            LeafAt::Atomic(at) => self.stock.restore(at, alloc, words),
+            LeafAt::Atomic(at) => self.stock.restore(alloc, at, words),
             LeafAt::Cell { group: _, cell: _ } => unreachable!(),
         }
     }
