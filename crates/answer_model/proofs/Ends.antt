@@ -184,7 +184,7 @@ not_none o x e f = let one_is_none : ◌≡◌ {A = ℕ} 1 0 = sym (ap is_given 
 pub cut_causes : CdppCauses (words asks) before (cut 199) 5
 cut_causes =
     record {
-      known = (4, omega arith, refl);
+      known = (6, omega arith, refl);
       missing = λ e. absurd (omega arith);
       read_fault = λ e. absurd (omega arith);
       write_fault = λ e. omega arith;

@@ -1,21 +1,16 @@
--- The statuses that the program ends with, and the causes of each, also where nothing is told.
+-- The statuses that the program ends with once the words are taken, and the causes of each, also
+-- where nothing is told.
 use Rattle.std.specs.Prelude.{◌≡◌, ℕ, List, ◌∷◌, Contains}
 use Rattle.room_edge.specs.Faults.{MissCounted, ReadFaultCounted, WriteFaultCounted}
 use Rattle.room_edge.specs.Outside.{Outside}
 use Rattle.answer_model.specs.Headline.{WritesNothing}
 use Rattle.run_loop.specs.Answers.{run_statuses}
 
--- once the words are taken: a file missing, a read fault, the model refused, the events refused, or
--- those of a run
+-- a file missing, a read fault, the model refused, the events refused, or those of a run
 abbrev pub read_statuses : List ℕ
 read_statuses = 3 ∷ 4 ∷ 6 ∷ 7 ∷ run_statuses
 
--- those of the program: words refused, or those behind
-abbrev pub statuses : List ℕ
-statuses = 2 ∷ read_statuses
-
--- how the program ends once the words are taken: each status has its cause, and on a read fault
--- nothing is written
+-- each status has its cause, and on a read fault nothing is written
 pub record EndsBy (old new : Outside) (status : ℕ) : Type 0 where
   pub known : Contains read_statuses status
   pub missing : status ≡ 3 → MissCounted old new

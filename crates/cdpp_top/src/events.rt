@@ -65,7 +65,8 @@ fn run_with_file<R: Room, M: AtomicModel, L: Ledger>(
 ) -> u8
     requires { MayStart asked.now start.stock start.model start.routes }
     ensures ends { IfSome (R.outside room.old).files (λ files. (inputs : List Word) → EndsWith
-        (answer_by_file (asked_of asked.now) (tree_on start.model start.stock) name.now inputs (files name.now))
+        (answer_by_file (asked_of asked.now) (tree_on start.model start.stock) name.now inputs
+        (files name.now))
         (looked_for inputs) (R.outside room.old) (R.outside room.new) result) }
     ensures causes { EndsBy (R.outside room.old) (R.outside room.new) result }
     ensures visits { IfSome (R.outside room.old).files (λ files. steps.new ≤ steps.old
@@ -103,8 +104,9 @@ fn run_with_bytes<R: Room, M: AtomicModel, L: Ledger>(
         (events_of bytes.now (ins_of (tree_on start.model start.stock))))
         (looked_for inputs) (R.outside room.old) (R.outside room.new) result }
     ensures causes { EndsBy (R.outside room.old) (R.outside room.new) result }
-    ensures visits { steps.new ≤ steps.old + visits_by_events (asked_of asked.now)
-        (tree_on start.model start.stock) (events_of bytes.now (ins_of (tree_on start.model start.stock))) }
+    ensures visits { let tree = tree_on start.model start.stock in
+        steps.new ≤ steps.old
+        + visits_by_events (asked_of asked.now) tree (events_of bytes.now (ins_of tree)) }
 {
     accepted_events_are_at_ports();
     let read = Events::read(alloc, bytes, &start.model.top().ins);

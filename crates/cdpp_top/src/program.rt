@@ -1,15 +1,14 @@
 // The program.
 ghost use Rattle.std.specs.Prelude.{◌≡◌, ◌+◌, ◌<◌, ◌≤◌, ◌^◌, [], length, map, IfSome};
 ghost use Rattle.std.specs.String.{string_bytes};
-ghost use Rattle.answer_model.specs.Asked.{asked as asked_by_words};
 ghost use Rattle.answer_model.specs.Cdpp.{answer_to};
 ghost use Rattle.answer_model.specs.Endings.{looked_for, EndsWith};
 ghost use Rattle.answer_model.specs.Headline.{WritesNothing};
-ghost use Rattle.answer_model.specs.Outcome.{Causes};
-ghost use Rattle.answer_model.specs.Programs.{CdppEnds};
+ghost use Rattle.answer_model.specs.Programs.{CdppEnds, CdppCauses};
 ghost use Rattle.asked_words.specs.Shown.{asked_of, IsInBounds};
+ghost use Rattle.told_lines.specs.declared.status.TheConstants.{READ_FAULT};
 ghost use Rattle.cdpp_top.specs.Starting.{classes_by};
-ghost use Rattle.cdpp_top.specs.Statuses.{statuses, EndsBy};
+ghost use Rattle.cdpp_top.specs.Statuses.{EndsBy};
 ghost use Rattle.cdpp_top.specs.Visits.{visits_for, visits_to};
 
 use crate::reading::read_asked;
@@ -42,9 +41,10 @@ pub fn cdpp<R: Room, L: Ledger>(
         (R.outside room.old) (R.outside room.new) result }
     // Over every room: each status only where its cause was counted, and 2 just where the words
     // are refused and the complaint didn't fail.
-    ensures causes { Causes statuses (asked_by_words (map string_bytes words.now))
+    ensures causes { CdppCauses (map string_bytes words.now)
         (R.outside room.old) (R.outside room.new) result }
-    ensures nothing { result ≡ 4 → WritesNothing (R.outside room.old) (R.outside room.new) }
+    ensures nothing { result ≡ READ_FAULT
+        → WritesNothing (R.outside room.old) (R.outside room.new) }
     // At most the visits that the reference run of what is asked for may cost: each leaf once, and
     // then in each cycle only for the values given and for the leaves that move.
     ensures visits { IfSome (R.outside room.old).files (λ files. steps.new ≤ steps.old
@@ -65,9 +65,10 @@ pub fn cdpp_over<R: Room, M: AtomicModel, L: Ledger>(
     requires few { length boxes.items < 2 ^ 32 }
     ensures ends { CdppEnds (map string_bytes words.now) (classes_by (λ m. M.held m) boxes.items)
         (R.outside room.old) (R.outside room.new) result }
-    ensures causes { Causes statuses (asked_by_words (map string_bytes words.now))
+    ensures causes { CdppCauses (map string_bytes words.now)
         (R.outside room.old) (R.outside room.new) result }
-    ensures nothing { result ≡ 4 → WritesNothing (R.outside room.old) (R.outside room.new) }
+    ensures nothing { result ≡ READ_FAULT
+        → WritesNothing (R.outside room.old) (R.outside room.new) }
     ensures visits { IfSome (R.outside room.old).files (λ files. steps.new ≤ steps.old
         + visits_for (map string_bytes words.now) files (classes_by (λ m. M.held m) boxes.items)) }
 {

@@ -4,6 +4,7 @@ ghost use Rattle.std.specs.String.{string_bytes};
 ghost use Rattle.room_edge.specs.Sure.{sure_outside};
 ghost use Rattle.answer_model.specs.Cdpp.{answer};
 ghost use Rattle.answer_model.specs.Headline.{Writes};
+ghost use Rattle.told_lines.specs.declared.status.TheConstants.{NO_MEMORY};
 ghost use Rattle.cdpp_top.specs.Starting.{classes_by};
 
 use crate::program::cdpp;
@@ -22,7 +23,7 @@ pub fn cdpp_surely<L: Ledger>(
     steps: &mut Steps<L>,
 ) -> u8
     requires few { length boxes.items < 2 ^ 32 }
-    ensures { IfSome (sure_outside room.old).files (λ files. (result ≡ 12) ⊎ Writes
+    ensures { IfSome (sure_outside room.old).files (λ files. (result ≡ NO_MEMORY) ⊎ Writes
         (answer (map string_bytes words.now) files
         (classes_by (λ b. (AtomicModel-box b).held b.value) boxes.items))
         (sure_outside room.old) (sure_outside room.new) result) }

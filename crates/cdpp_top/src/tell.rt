@@ -3,6 +3,7 @@ ghost use Rattle.std.specs.Prelude.{◌++◌, codes};
 ghost use Rattle.text_forms.specs.Lines.{ended};
 ghost use Rattle.answer_model.specs.Answer.{refused_text};
 ghost use Rattle.answer_model.specs.Endings.{Says};
+ghost use Rattle.told_lines.specs.declared.status.TheConstants.{EVENTS_REFUSED};
 ghost use Rattle.cdpp_top.specs.Reading.{TellsModel, TellsEvents};
 
 use crate::lines::refused_line;
@@ -50,7 +51,7 @@ pub(crate) fn tell_events<R: Room>(alloc: Global, room: &mut R, why: EventRefusa
 
 /// Tells at which line the events are refused, and why.
 fn refuse_events<R: Room>(alloc: Global, room: &mut R, line: u32, why: &[u8]) -> u8
-    ensures { Says (ended (refused_text (codes "events") line why.now)) 7
+    ensures { Says (ended (refused_text (codes "events") line why.now)) EVENTS_REFUSED
         (R.outside room.old) (R.outside room.new) result }
 {
     tell_refused(alloc, room, b"events", line, why, EVENTS_REFUSED)

@@ -6,6 +6,7 @@ ghost use Rattle.frame_draw.specs.Drawing.{CanDraw};
 ghost use Rattle.answer_model.specs.Drawlog.{drawn_answer};
 ghost use Rattle.answer_model.specs.Endings.{looked_for, EndsWith};
 ghost use Rattle.asked_words.specs.Shown.{drawing_of};
+ghost use Rattle.told_lines.specs.declared.status.TheConstants.{WRITE_FAULT};
 ghost use Rattle.drawlog_top.specs.Ends.{drawn_statuses};
 
 use crate::refuse::refuse;
@@ -23,7 +24,8 @@ pub(crate) fn draw<R: Room>(alloc: Global, room: &mut R, asked: &AskedDrawing<'_
     ensures ends { EndsWith (drawn_answer (drawing_of asked.now) log.now (asked.now.log.now ∷ []))
         (looked_for (asked.now.log.now ∷ [])) (R.outside room.old) (R.outside room.new) result }
     ensures known { Contains drawn_statuses result }
-    ensures write_fault { result ≡ 5 → WriteFaultCounted (R.outside room.old) (R.outside room.new) }
+    ensures write_fault { result ≡ WRITE_FAULT
+        → WriteFaultCounted (R.outside room.old) (R.outside room.new) }
 {
     match draw_log(
         alloc,

@@ -5,8 +5,10 @@ ghost use Rattle.room_edge.specs.Faults.{MissCounted, ReadFaultCounted, WriteFau
 ghost use Rattle.frame_draw.specs.Drawing.{CanDraw};
 ghost use Rattle.answer_model.specs.Endings.{looked_for, EndsWith};
 ghost use Rattle.answer_model.specs.Headline.{WritesNothing};
+ghost use Rattle.answer_model.specs.Programs.{DrawlogEnds, DrawlogCauses};
 ghost use Rattle.asked_words.specs.Shown.{drawing_of};
-ghost use Rattle.drawlog_top.specs.Ends.{answer_to_file, DrawingEnds, DrawingCauses, read_statuses};
+ghost use Rattle.told_lines.specs.declared.status.TheConstants.{MISSING, READ_FAULT, WRITE_FAULT};
+ghost use Rattle.drawlog_top.specs.Ends.{answer_to_file, read_statuses};
 
 use crate::draw::draw;
 use crate::refuse::refuse;
@@ -27,10 +29,13 @@ fn draw_asked<R: Room>(alloc: Global, room: &mut R, asked: &AskedDrawing<'_>) ->
         (λ files. EndsWith (answer_to_file (drawing_of asked.now) (files asked.now.log.now))
         (looked_for []) (R.outside room.old) (R.outside room.new) result) }
     ensures known { Contains read_statuses result }
-    ensures missing { result ≡ 3 → MissCounted (R.outside room.old) (R.outside room.new) }
-    ensures read_fault { result ≡ 4 → ReadFaultCounted (R.outside room.old) (R.outside room.new) }
-    ensures write_fault { result ≡ 5 → WriteFaultCounted (R.outside room.old) (R.outside room.new) }
-    ensures nothing { result ≡ 4 → WritesNothing (R.outside room.old) (R.outside room.new) }
+    ensures missing { result ≡ MISSING → MissCounted (R.outside room.old) (R.outside room.new) }
+    ensures read_fault { result ≡ READ_FAULT
+        → ReadFaultCounted (R.outside room.old) (R.outside room.new) }
+    ensures write_fault { result ≡ WRITE_FAULT
+        → WriteFaultCounted (R.outside room.old) (R.outside room.new) }
+    ensures nothing { result ≡ READ_FAULT
+        → WritesNothing (R.outside room.old) (R.outside room.new) }
 {
     match read_whole(alloc, room, asked.log, MOST_BYTES) {
         Ok(log) => draw(alloc, room, asked, &log),
@@ -50,13 +55,14 @@ fn draw_asked<R: Room>(alloc: Global, room: &mut R, asked: &AskedDrawing<'_>) ->
 pub fn drawlog<R: Room>(alloc: Global, words: &[String], room: &mut R) -> u8
     // Where the files are told: the answer whole, or what a fault or want of memory leaves of it,
     // with the line of that fault.
-    ensures ends { DrawingEnds (map string_bytes words.now) (R.outside room.old)
+    ensures ends { DrawlogEnds (map string_bytes words.now) (R.outside room.old)
         (R.outside room.new) result }
     // Over every room: each status only where its cause was counted, and 2 just where the words
     // are refused and the complaint didn't fail.
-    ensures causes { DrawingCauses (map string_bytes words.now) (R.outside room.old)
+    ensures causes { DrawlogCauses (map string_bytes words.now) (R.outside room.old)
         (R.outside room.new) result }
-    ensures nothing { result ≡ 4 → WritesNothing (R.outside room.old) (R.outside room.new) }
+    ensures nothing { result ≡ READ_FAULT
+        → WritesNothing (R.outside room.old) (R.outside room.new) }
 {
     match read_drawing_words(alloc, words) {
         Ok(Some(asked)) => draw_asked(alloc, room, &asked),

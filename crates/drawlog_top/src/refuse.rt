@@ -3,6 +3,7 @@ ghost use Rattle.std.specs.Prelude.{◌≡◌, IfOk};
 ghost use Rattle.text_forms.specs.Lines.{ended};
 ghost use Rattle.answer_model.specs.Drawlog.{log_refused};
 ghost use Rattle.answer_model.specs.Endings.{Says};
+ghost use Rattle.told_lines.specs.declared.status.TheConstants.{LOG_REFUSED};
 
 use quantity::OutOfMemory;
 use room_edge::Room;
@@ -22,7 +23,8 @@ fn refused_line(alloc: Global, line: u32) -> Result<Vec<u8>, OutOfMemory>
 
 /// Tells that the log is refused at a line.
 pub(crate) fn refuse<R: Room>(alloc: Global, room: &mut R, line: u32) -> u8
-    ensures { Says (ended (log_refused line)) 13 (R.outside room.old) (R.outside room.new) result }
+    ensures { Says (ended (log_refused line)) LOG_REFUSED
+        (R.outside room.old) (R.outside room.new) result }
 {
     let Ok(text) = refused_line(alloc, line) else {
         return NO_MEMORY;

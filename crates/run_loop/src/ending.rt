@@ -6,6 +6,7 @@ ghost use Rattle.run_model.specs.Run.{Cycle, Verdict};
 ghost use Rattle.text_forms.specs.Lines.{ended};
 ghost use Rattle.answer_model.specs.Endings.{Says, ShowsEnd};
 ghost use Rattle.answer_model.specs.RunEnd.{many_line, stopped_at};
+ghost use Rattle.told_lines.specs.declared.status.TheConstants.{BAD_DELAY, DONE, TOO_MANY_CYCLES};
 ghost use Rattle.run_loop.specs.declared.ending.Ending.TheVariants.{Stopped};
 ghost use Rattle.run_loop.specs.Ends.{IsVerdict, TellsEnd, HasCounted, done_text};
 
@@ -57,7 +58,7 @@ fn show_done<R: Room>(
 ) -> u8
     ensures { OfTree model.now (λ tree. (cycles : List Cycle)
         → HasCounted outputs.now tree cycles going.now
-        → ShowsEnd (ended (done_text outputs.now.made outputs.now.end tree cycles)) 0
+        → ShowsEnd (ended (done_text outputs.now.made outputs.now.end tree cycles)) DONE
         (R.outside room.old) (R.outside room.new) result) }
 {
     let Ok(line) = done_line(alloc, outputs, model, going) else {
@@ -80,6 +81,7 @@ fn done_line(
     let Some(size) = outputs.made else {
         return end_line(alloc, outputs.end, going.cycles);
     };
+    // A run of a made model counts from its start on, so there is always something to tell.
     let Some(counted) = &going.counted else {
         return Err(OutOfMemory);
     };
@@ -141,8 +143,8 @@ fn complain_delay<R: Room>(
     delay: Value,
 ) -> u8
     ensures { OfTree model.now (λ tree.
-        Says (ended (stopped_at (codes "bad delay") tree leaf t ++ codes ": " ++ text5 delay)) 10
-        (R.outside room.old) (R.outside room.new) result) }
+        Says (ended (stopped_at (codes "bad delay") tree leaf t ++ codes ": " ++ text5 delay))
+        BAD_DELAY (R.outside room.old) (R.outside room.new) result) }
 {
     let Ok(line) = delay_line(alloc, model, leaf, t, delay) else {
         return NO_MEMORY;
@@ -152,7 +154,8 @@ fn complain_delay<R: Room>(
 
 /// Tells of an instant with too many cycles.
 fn complain_many<R: Room>(alloc: Global, room: &mut R, limit: u32, t: Time) -> u8
-    ensures { Says (ended (many_line limit t)) 11 (R.outside room.old) (R.outside room.new) result }
+    ensures { Says (ended (many_line limit t)) TOO_MANY_CYCLES
+        (R.outside room.old) (R.outside room.new) result }
 {
     let Ok(line) = many_cycles_line(alloc, limit, t) else {
         return NO_MEMORY;

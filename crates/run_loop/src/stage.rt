@@ -12,6 +12,7 @@ ghost use Rattle.flat_run.specs.Standing.{tree_in};
 ghost use Rattle.run_files.specs.AskedFiles.{names_of};
 ghost use Rattle.run_files.specs.Texts.{no_texts, files, AreApart, AreCreated};
 ghost use Rattle.run_files.specs.Showing.{left_texts};
+ghost use Rattle.told_lines.specs.declared.status.TheConstants.{WRITE_FAULT};
 ghost use Rattle.run_loop.specs.Asks.{AreOutputsOf};
 ghost use Rattle.run_loop.specs.Answers.{MayRun, answer_to, run_statuses};
 ghost use Rattle.run_loop.specs.Begins.{BeginsWith};
@@ -49,7 +50,8 @@ pub fn run_and_tell<R: Room, Q: TimeQueue, M: AtomicModel, L: Ledger>(
         EndsWith (answer_to a run.old inputs) (looked_for inputs) (R.outside room.old)
         (R.outside room.new) result }
     ensures known { Contains run_statuses result }
-    ensures write_fault { result ≡ 5 → WriteFaultCounted (R.outside room.old) (R.outside room.new) }
+    ensures write_fault { result ≡ WRITE_FAULT
+        → WriteFaultCounted (R.outside room.old) (R.outside room.new) }
     // The visits that the reference run may cost.
     ensures visits { let r = run_of (most outputs.now.end outputs.now.limit) run.old in
         steps.new ≤ steps.old + visits (tree_in run.old) r }
@@ -92,7 +94,8 @@ fn run_created<R: Room, Q: TimeQueue, M: AtomicModel, L: Ledger>(
         EndsWith a (made_after inputs (files (names_of named.now) no_texts)) (R.outside room.old)
         (R.outside room.new) result }
     ensures known { Contains run_statuses result }
-    ensures write_fault { result ≡ 5 → WriteFaultCounted (R.outside room.old) (R.outside room.new) }
+    ensures write_fault { result ≡ WRITE_FAULT
+        → WriteFaultCounted (R.outside room.old) (R.outside room.new) }
     // The visits that the reference run may cost.
     ensures visits { let r = run_of (most outputs.now.end outputs.now.limit) run.old in
         steps.new ≤ steps.old + visits (tree_in run.old) r }

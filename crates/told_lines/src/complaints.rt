@@ -3,6 +3,7 @@ ghost use Rattle.std.specs.Prelude.{◌++◌};
 ghost use Rattle.text_forms.specs.Lines.{ended};
 ghost use Rattle.answer_model.specs.Answer.{write_fault_line};
 ghost use Rattle.answer_model.specs.Endings.{Says};
+ghost use Rattle.told_lines.specs.declared.status.TheConstants.{WRITE_FAULT};
 
 use crate::lines::named_line;
 use crate::status::{NO_MEMORY, WRITE_FAULT};
@@ -48,7 +49,8 @@ pub fn complain_named<R: Room>(
 
 /// Tells of a write that failed, as far as it can.
 pub fn write_fault<R: Room>(alloc: Global, room: &mut R, name: &str) -> u8
-    ensures { Says (write_fault_line name.now) 5 (R.outside room.old) (R.outside room.new) result }
+    ensures { Says (write_fault_line name.now) WRITE_FAULT
+        (R.outside room.old) (R.outside room.new) result }
 {
     complain_named(alloc, room, b"write fault: ", name, WRITE_FAULT)
 }

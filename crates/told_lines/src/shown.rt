@@ -1,5 +1,6 @@
 // What is shown at the end.
 ghost use Rattle.answer_model.specs.Endings.{ShowsEnd};
+ghost use Rattle.told_lines.specs.declared.status.TheConstants.{DONE};
 
 use crate::complaints::write_fault;
 use crate::status::{DONE, NO_MEMORY};
@@ -9,7 +10,7 @@ use std::alloc::Global;
 /// Shows all of some bytes, with which the program ends: done; or the status of a write fault, of
 /// which a line tells; or that of want of memory.
 pub fn show<R: Room>(alloc: Global, room: &mut R, bytes: &[u8]) -> u8
-    ensures { ShowsEnd bytes.now 0 (R.outside room.old) (R.outside room.new) result }
+    ensures { ShowsEnd bytes.now DONE (R.outside room.old) (R.outside room.new) result }
 {
     match show_all(room, bytes) {
         Ok(()) => DONE,

@@ -7,6 +7,7 @@ use Rattle.answer_model.specs.Answer.{Answer, only_complains}
 use Rattle.answer_model.specs.Asked.{Asked, asked, usage}
 use Rattle.answer_model.specs.Cdpp.{answer_to, answer}
 use Rattle.answer_model.specs.Outcome.{Outcome}
+use Rattle.answer_model.specs.Programs.{cdpp_statuses}
 use Rattle.answer_model.specs.Endings.{looked_for, Says, EndsWith}
 use Rattle.answer_model.proofs.Outcomes.{none_begun}
 use Rattle.answer_model.proofs.Endings.{endings_follow}
@@ -15,7 +16,7 @@ use Rattle.answer_model.proofs.Stages.{at_start, rose_by_said}
 use Rattle.asked_words.specs.Shown.{asked_of}
 use Rattle.cdpp_top.specs.Starting.{classes_by}
 use Rattle.cdpp_top.specs.Visits.{visits_to, visits_if, visits_for}
-use Rattle.cdpp_top.specs.Statuses.{read_statuses, statuses}
+use Rattle.cdpp_top.specs.Statuses.{read_statuses}
 use Rattle.cdpp_top.proofs.Reached.{if_some_all}
 use Rattle.cdpp_top.proofs.Words.{asked_answer, refused_answer, usage_is, not_usage, only_refused}
 use Rattle.cdpp_top.proofs.program.cdpp_over.Goals as goal
@@ -72,7 +73,7 @@ returns-in-Ok-None-clause-causes g c =
     let says = c.complain.ensures in
     let refused = said_among (2 ∷ 5 ∷ 12 ∷ []) _ 2 old new c.complain.result (0, lit< tt, refl) (1, lit< tt, refl) (2, lit< tt, refl) says in
     record {
-      known = said_among statuses _ 2 old new c.complain.result (0, lit< tt, refl) (6, lit< tt, refl) (11, lit< tt, refl) says;
+      known = said_among cdpp_statuses _ 2 old new c.complain.result (0, lit< tt, refl) (6, lit< tt, refl) (11, lit< tt, refl) says;
       missing = λ e. absurd (only_refused c.complain.result refused (omega (arith, e)) (omega (arith, e)));
       read_fault = λ e. absurd (only_refused c.complain.result refused (omega (arith, e)) (omega (arith, e)));
       write_fault = rose_by_said _ 2 old old new c.complain.result (omega arith) (λ e. absurd (omega (arith, e))) says;

@@ -6,13 +6,14 @@ use Rattle.answer_model.specs.Answer.{Answer, if_asked}
 use Rattle.answer_model.specs.AskedDrawing.{asked_drawing, drawing_usage}
 use Rattle.answer_model.specs.Drawlog.{drawing_answer}
 use Rattle.answer_model.specs.Outcome.{Outcome}
+use Rattle.answer_model.specs.Programs.{drawlog_statuses}
 use Rattle.answer_model.specs.Endings.{looked_for}
 use Rattle.answer_model.proofs.Outcomes.{none_begun}
 use Rattle.answer_model.proofs.Endings.{endings_follow}
 use Rattle.answer_model.proofs.Said.{said_among}
 use Rattle.answer_model.proofs.Stages.{at_start, rose_by_said}
 use Rattle.asked_words.specs.Shown.{drawing_of}
-use Rattle.drawlog_top.specs.Ends.{answer_to_file, read_statuses, statuses}
+use Rattle.drawlog_top.specs.Ends.{answer_to_file, read_statuses}
 use Rattle.drawlog_top.proofs.AskedPictures.{asked_drawable}
 use Rattle.drawlog_top.proofs.DrawnAnswers.{if_some_all, not_usage, only_refused}
 use Rattle.drawlog_top.proofs.program.drawlog.Goals as goal
@@ -71,7 +72,7 @@ returns-in-Ok-None-clause-causes g c =
     let says = c.complain.ensures in
     let refused = said_among (2 ∷ 5 ∷ 12 ∷ []) _ 2 old new c.complain.result (0, lit< tt, refl) (1, lit< tt, refl) (2, lit< tt, refl) says in
     record {
-      known = said_among statuses _ 2 old new c.complain.result (0, lit< tt, refl) (4, lit< tt, refl) (5, lit< tt, refl) says;
+      known = said_among drawlog_statuses _ 2 old new c.complain.result (0, lit< tt, refl) (4, lit< tt, refl) (5, lit< tt, refl) says;
       missing = λ e. absurd (only_refused c.complain.result 3 refused e (inl refl));
       read_fault = λ e. absurd (only_refused c.complain.result 4 refused e (inr refl));
       write_fault = rose_by_said _ 2 old old new c.complain.result (omega arith) (λ e. absurd (omega arith)) says;
