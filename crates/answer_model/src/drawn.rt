@@ -1,5 +1,8 @@
 // Laws of the runs of accepted models.
-ghost use Rattle.answer_model.specs.AcceptedRuns.{DrawingsHaveGroups, EventsAreAtPorts, EventsAreBounded, FilesAreDrawn, FramesAreDrawn, GroupsAreNamed, ModelsAreBounded, ModelsAreNamed, RunsAreDrawn};
+ghost use Rattle.answer_model.specs.AcceptedRuns.{DrawingsHaveGroups, EventsAreAtPorts};
+ghost use Rattle.answer_model.specs.AcceptedRuns.{EventsAreBounded, FilesAreDrawn, FramesAreDrawn};
+ghost use Rattle.answer_model.specs.AcceptedRuns.{GroupsAreNamed, ModelsAreBounded, ModelsAreNamed};
+ghost use Rattle.answer_model.specs.AcceptedRuns.{RunsAreDrawn};
 
 use crate::laws::drawn_agrees;
 use model_text::accepted::{accepted_models_are_sound, accepted_models_pass_each_phase};

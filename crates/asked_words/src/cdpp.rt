@@ -6,7 +6,8 @@ ghost use Rattle.std.specs.String.{string_bytes};
 ghost use Rattle.clap.specs.Words.{rows_of, found_of, first_of};
 ghost use Rattle.answer_model.specs.Asked as A;
 ghost use Rattle.answer_model.specs.Asked.{built_letters};
-ghost use Rattle.asked_words.specs.Shown.{text_of_name, source_of, frames_of, asked_of, IsOfSize, CanBeShown, IsInBounds, given_names};
+ghost use Rattle.asked_words.specs.Shown.{text_of_name, source_of, frames_of, asked_of};
+ghost use Rattle.asked_words.specs.Shown.{IsOfSize, CanBeShown, IsInBounds, given_names};
 ghost use Rattle.asked_words.specs.Running.{run_of, run_asked, IsRun};
 
 use crate::asked::{Asked, FramesFile, Source};
@@ -75,7 +76,7 @@ fn frames_in<'a>(
     }
 }
 
-/// The files that are named, in the order in which they are compared.
+/// Whether the names that are given to files differ: no file is read or made under two options.
 fn names_differ(
     model: Option<&str>,
     events: Option<&str>,

@@ -6,6 +6,7 @@ ghost use Rattle.asked_words.specs.Looking.{looks_of, looks_asked};
 
 use crate::values::number_or;
 use clap::ArgMatches;
+use quantity::MAX_CELLS;
 
 /// The width of a cell, its decimals, and the plane that is drawn.
 #[derive(Clone, Copy)]
@@ -26,7 +27,7 @@ pub(crate) fn looks_in(matches: &ArgMatches<'_>) -> Option<Looks>
 {
     let width = number_or(3, 1, 20, matches.get_str("w"))?;
     let decimals = number_or(0, 0, 5, matches.get_str("p"))?;
-    let plane = number_or(0, 0, 1_048_575, matches.get_str("f"))?;
+    let plane = number_or(0, 0, MAX_CELLS - 1, matches.get_str("f"))?;
     Some(Looks {
         width,
         decimals,

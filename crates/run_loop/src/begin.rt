@@ -72,7 +72,8 @@ fn frames_named<'a>(outputs: &Outputs<'a>, has_frames: bool) -> Option<&'a str>
     if has_frames { Some(asked.name) } else { None }
 }
 
-/// No instant up to the end has more cycles than the limit.
+/// The most cycles that a run up to this end may have: as many as the limit at each instant, and
+/// there is an instant each millisecond from 0 on.
 pub(crate) fn most_cycles(end: Time, limit: u32) -> u64
     ensures value { result ≡ most end limit }
     ensures bounded { result < 2 ^ 63 }

@@ -1,4 +1,4 @@
-// Calls that name the definitions.
+// What is known of the cycles of every run.
 ghost use Rattle.run_loop.specs.Known.{RunsAreFit};
 
 use run_model::laws::{
