@@ -37,6 +37,9 @@ returns-in-Ok-clause-ends g c = λ inputs.
     let is = sym (ap (events_of bytes) ports) ∙ c.in-Ok.ensures.ok in
     subst (λ (r : Result (List Event) EventRefusal). EndsWith (answer_by_events a tree inputs r) (looked_for inputs) old new c.run_from.result) (sym is) (c.run_from.ensures.ends inputs)
 
+pub returns-in-Ok-clause-causes : goal.returns-in-Ok-clause-causes
+returns-in-Ok-clause-causes g c = c.run_from.ensures.causes
+
 pub returns-in-Err-clause-ends : goal.returns-in-Err-clause-ends
 returns-in-Err-clause-ends g c = λ inputs.
     let a = asked_of c.args.asked.now in

@@ -29,6 +29,9 @@ returns-in-Some-clause-ends g c =
     IfSome_then old.files {P = λ files. (inputs : List Word) → EndsWith (answer_by_file (asked_of a) tree name inputs (files name)) (looked_for inputs) old new given} c.run_with_file.ensures.ends
     (λ files ends inputs. some_events a files tree inputs name old new given (ap text_of_name c.in-Some.is) (ends inputs))
 
+pub returns-in-Some-clause-causes : goal.returns-in-Some-clause-causes
+returns-in-Some-clause-causes g c = c.run_with_file.ensures.causes
+
 pub returns-in-None-clause-visits : goal.returns-in-None-clause-visits
 returns-in-None-clause-visits g c =
     let old = g.R.Room.outside c.args.room.now in

@@ -1,0 +1,13 @@
+use Rattle.cdpp_top.proofs.program.cdpp.Goals as goal
+
+pub returns-clause-ends : goal.returns-clause-ends
+returns-clause-ends g c = c.cdpp_over.ensures.ends
+
+pub returns-clause-causes : goal.returns-clause-causes
+returns-clause-causes g c = c.cdpp_over.ensures.causes
+
+pub returns-clause-nothing : goal.returns-clause-nothing
+returns-clause-nothing g c = c.cdpp_over.ensures.nothing
+
+pub returns-clause-visits : goal.returns-clause-visits
+returns-clause-visits g c = c.cdpp_over.ensures.visits
