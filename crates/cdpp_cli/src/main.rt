@@ -4,6 +4,7 @@
 
 ghost use Rattle.std.specs.Prelude.{◌≡◌, ◌<◌, ◌^◌, length};
 
+use asked_words::given_words;
 use atomic_face::{AtomicModel, Class};
 use atomic_kinds::{CounterModel, CpuModel, GeneratorModel, QueueModel};
 use cdpp_top::cdpp;
@@ -12,8 +13,7 @@ use quantity::OutOfMemory;
 use room_edge::FolderRoom;
 use state_tables::TableModel;
 use std::alloc::{AllocError, Global};
-use std::env::{self, Env};
-use std::io::ErrorKind;
+use std::env;
 use std::marker::Brand;
 use std::process::ExitCode;
 use std::sync::ledger::{Blank, Ledger};
@@ -37,26 +37,6 @@ fn counted<L: Ledger>(
 {
     let mut steps: Steps<L> = Steps::new(blank);
     cdpp(alloc, words, boxes, room, &mut steps)
-}
-
-/// The words of the command line. Where one of them is no text, the name of the program stands
-/// alone, so that the program refuses them as all others that it doesn't take.
-fn words_of(rt: &(impl AllocGlobal + Env)) -> Result<Vec<String>, OutOfMemory> {
-    let mut words: Vec<String> = Vec::new(rt.alloc());
-    match env::args(rt) {
-        Ok(args) => {
-            for word in args {
-                words.push(word).map_err(AllocError::from)?;
-            }
-        }
-        Err(error) => match error.kind() {
-            ErrorKind::OutOfMemory => return Err(OutOfMemory),
-            _ => words
-                .push(String::from_str(rt.alloc(), "cdpp")?)
-                .map_err(AllocError::from)?,
-        },
-    }
-    Ok(words)
 }
 
 /// Runs the program with all boxes.
@@ -84,7 +64,7 @@ fn run_with_boxes(
 
 fn main(rt: HostRuntime) -> ExitCode {
     let alloc = rt.alloc();
-    let Ok(words) = words_of(&rt) else {
+    let Ok(words) = given_words(alloc, env::args(&rt), "cdpp") else {
         return ExitCode::from(NO_MEMORY);
     };
     let mut room = FolderRoom::new(rt);
