@@ -1,6 +1,6 @@
 -- How the two programs end: where the files are told, by the outcome of the answer; and by the
--- causes of each status, also where nothing is told. The contracts of `cdpp` and `drawlog` cite
--- just these.
+-- causes of each status, also where nothing is told. Cited by the clauses `ends` and `causes` of
+-- `cdpp` and `drawlog`.
 use Rattle.std.specs.Prelude.{ℕ, List, [], ◌∷◌, IfSome}
 use Rattle.atomic_face.specs.declared.class.Class.{Class}
 use Rattle.model_tree.specs.Tree.{Word}
