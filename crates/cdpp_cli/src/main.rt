@@ -13,10 +13,11 @@ use quantity::OutOfMemory;
 use room_edge::FolderRoom;
 use state_tables::TableModel;
 use std::alloc::{AllocError, Global};
-use std::env;
+use std::fs::{self, Files};
 use std::marker::Brand;
 use std::process::ExitCode;
 use std::sync::ledger::{Blank, Ledger};
+use std::{env, io};
 use told_lines::status::NO_MEMORY;
 
 /// How many boxes there are of each class.
@@ -37,6 +38,12 @@ fn counted<L: Ledger>(
 {
     let mut steps: Steps<L> = Steps::new(blank);
     cdpp(alloc, words, boxes, room, &mut steps)
+}
+
+/// Three open files, each of which stands in for a standard stream that is closed, if there is one: a
+/// made file that took its number would be shown and complained into. Writing to them fails.
+fn stand_ins<R: Files>(rt: &R) -> [io::Result<R::File>; 3] {
+    [fs::open(rt, "/"), fs::open(rt, "/"), fs::open(rt, "/")]
 }
 
 /// Runs the program with all boxes.
@@ -67,7 +74,9 @@ fn main(rt: HostRuntime) -> ExitCode {
     let Ok(words) = given_words(alloc, env::args(&rt), "cdpp") else {
         return ExitCode::from(NO_MEMORY);
     };
+    let stand_ins = stand_ins(&rt);
     let mut room = FolderRoom::new(rt);
     let status = run_with_boxes(alloc, &words, &mut room).unwrap_or(NO_MEMORY);
+    drop(stand_ins);
     ExitCode::from(status)
 }
