@@ -116,8 +116,8 @@ impl Pool {
         self.nodes[key as usize].set_next(Link::to(next));
     }
 
-    // Makes room for `n` nodes more, where there is less. A slab may take more room than it is asked
-    // for, so a copy grows, and takes the place of the nodes only if its numbers have 32 bits.
+    // Makes room for `n` nodes more, where there is less. A slab may take more than it is asked for,
+    // so a copy grows, and takes the place of the nodes only if its numbers have 32 bits.
     #[cold]
     fn grow(&mut self, n: usize) -> Result<(), OutOfMemory>
         requires { self.old.spare < n }
