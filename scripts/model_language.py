@@ -1,4 +1,7 @@
-"""The language of models as tables: the keys of each section, the words of rules, and the kinds of refusal. For the scripts beside it."""
+"""The language of models as tables: the keys of each section, the words of rules, and the kinds of refusal.
+
+For the scripts beside it.
+"""
 from __future__ import annotations
 
 from typing import Dict, List, NamedTuple, Tuple
@@ -31,7 +34,9 @@ GROUP: Dict[str, Key] = {
     "height": COUNT,
     "width": COUNT,
     "border": Key("wrapped or nowrapped"),
-    "neighbors": Key("offsets as g(0,-1), the group's name or none before each, as many coordinates as dim, from -64 to 64", True),
+    "neighbors": Key(
+        "offsets as g(0,-1), the group's name or none before each, as many coordinates as dim, from -64 to 64", True
+    ),
     "delay": Key("transport or inertial"),
     "defaultdelaytime": Key("whole milliseconds, 0 to 359999999"),
     "localtransition": Key("the name of a rules section"),
@@ -84,12 +89,54 @@ INSTEAD: Dict[str, str] = {
 
 # The functions with their numbers of arguments, and the other words of rules.
 FUNCTIONS: Dict[str, int] = {
-    "abs": 1, "sign": 1, "sqrt": 1, "trunc": 1, "fractional": 1, "round": 1, "even": 1, "odd": 1, "isint": 1,
-    "isundefined": 1, "statecount": 1, "cellpos": 1, "min": 2, "max": 2, "remainder": 2, "if": 3, "ifu": 4,
+    "abs": 1,
+    "sign": 1,
+    "sqrt": 1,
+    "trunc": 1,
+    "fractional": 1,
+    "round": 1,
+    "even": 1,
+    "odd": 1,
+    "isint": 1,
+    "isundefined": 1,
+    "statecount": 1,
+    "cellpos": 1,
+    "min": 2,
+    "max": 2,
+    "remainder": 2,
+    "if": 3,
+    "ifu": 4,
 }
 TRUTH_FUNCTIONS = ("even", "odd", "isint", "isundefined")
-WORDS = ("imp", "eqv", "or", "xor", "and", "not", "t", "f", "time", "truecount", "falsecount", "undefcount", "portvalue", "thisport")
-RANDOM = ("random", "randint", "randsign", "uniform", "normal", "exponential", "poisson", "binomial", "beta", "gamma", "chi")
+WORDS = (
+    "imp",
+    "eqv",
+    "or",
+    "xor",
+    "and",
+    "not",
+    "t",
+    "f",
+    "time",
+    "truecount",
+    "falsecount",
+    "undefcount",
+    "portvalue",
+    "thisport",
+)
+RANDOM = (
+    "random",
+    "randint",
+    "randsign",
+    "uniform",
+    "normal",
+    "exponential",
+    "poisson",
+    "binomial",
+    "beta",
+    "gamma",
+    "chi",
+)
 
 # Words that modellers write, and what stands for them.
 WORDS_INSTEAD: Dict[str, str] = {
@@ -155,7 +202,7 @@ SIGNS: Tuple[Tuple[str, str], ...] = (
     ("[", "parentheses are round"),
     ("]", "parentheses are round"),
     (":", "a set or a give is written with :="),
-    ("\"", "no text stands in a rule"),
+    ('"', "no text stands in a rule"),
     ("'", "no text stands in a rule"),
     ("#", "there are no macros: write the text itself"),
     ("@", "a port of a neighbour is written (0,1)~port"),

@@ -1,4 +1,7 @@
-"""Model files as sections and entries, read as generously as can be: what is refused is up to `cdpp`. For the scripts beside it."""
+"""Model files as sections and entries, read as generously as can be: what is refused is up to `cdpp`.
+
+For the scripts beside it.
+"""
 from __future__ import annotations
 
 import re

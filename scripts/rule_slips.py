@@ -45,7 +45,7 @@ def why_no_token(piece: str) -> str:
 def pieces_of(piece: str, at: int) -> List[Token]:
     """The tokens of a piece: a word, a number, or a word and a number that begins with a point."""
     word = WORD.match(piece)
-    rest = piece[word.end():] if word else piece
+    rest = piece[word.end() :] if word else piece
     if rest and (not NUMBER.fullmatch(rest) or word and not rest.startswith(".")):
         raise Slip(why_no_token(piece), at)
     tokens = [Token("word", word[0], at)] if word else []
@@ -58,7 +58,9 @@ def tokens_of(text: str) -> List[Token]:
     for found in TOKEN.finditer(text.rstrip()):
         if found["other"]:
             instead = dict(SIGNS).get(found["other"], "")
-            raise Slip(f"no rule has the sign {found['other']}" + (f": {instead}" if instead else ""), found.start("other"))
+            raise Slip(
+                f"no rule has the sign {found['other']}" + (f": {instead}" if instead else ""), found.start("other")
+            )
         if found["mark"]:
             tokens.append(Token("mark", found["mark"], found.start("mark")))
         else:
@@ -126,12 +128,12 @@ class Reading:
 
     def sees_set(self) -> bool:
         """Whether the brace that stands next begins sets: `{ $x :=`, or the same with a slip in its sign."""
-        texts = [token.text for token in self.tokens[self.at + 1:self.at + 4]]
+        texts = [token.text for token in self.tokens[self.at + 1 : self.at + 4]]
         return texts[:1] == ["$"] and texts[2:3] != ["}"] and texts[2:3] in ([":="], ["="])
 
     def value(self) -> None:
         """value = '{' expr '}' | [ sign ] number | '?' | cell | gives"""
-        texts = [token.text for token in self.tokens[self.at:self.at + 2]]
+        texts = [token.text for token in self.tokens[self.at : self.at + 2]]
         if texts == ["{", "~"]:
             self.assigns("~")
         elif self.is_next("("):
@@ -222,7 +224,7 @@ class Reading:
 
     def is_cell(self) -> bool:
         """Whether the parenthesis that stands next begins a cell: whole numbers with commas between them."""
-        text = " ".join(token.text for token in self.tokens[self.at:self.at + 9])
+        text = " ".join(token.text for token in self.tokens[self.at : self.at + 9])
         return bool(re.match(r"\( (?:[+-] )?\d+ ,", text))
 
     def cell(self) -> None:
@@ -245,7 +247,7 @@ class Reading:
 
 def is_pair(tokens: List[Token], at: int, *pair: str) -> bool:
     """Whether these two marks stand side by side, before or at a place."""
-    return any(tuple(token.text for token in tokens[k:k + 2]) == pair for k in (at - 1, at) if k >= 0)
+    return any(tuple(token.text for token in tokens[k : k + 2]) == pair for k in (at - 1, at) if k >= 0)
 
 
 PAIRS: Tuple[Tuple[Tuple[str, str], str], ...] = (
@@ -280,7 +282,9 @@ def likely_parenthesis(tokens: List[Token]) -> str:
     opening, closing = (sum(token.text == mark for token in tokens) for mark in ("(", ")"))
     if opening == closing:
         return ""
-    return f"a {')' if opening > closing else '('} is lost: there are {opening} opening and {closing} closing parentheses"
+    return (
+        f"a {')' if opening > closing else '('} is lost: there are {opening} opening and {closing} closing parentheses"
+    )
 
 
 def likely_part(tokens: List[Token], slip: Slip, part: str, found: str) -> str:
@@ -295,7 +299,11 @@ def likely_part(tokens: List[Token], slip: Slip, part: str, found: str) -> str:
         return "coordinates and arguments are parted by commas"
     if part == "rule":
         return "sets stand before the delay" if found == "{" else "a rule ends with the brace of its condition"
-    if part == "condition" and "{ before" in slip.why and [token.text for token in tokens[slip.at - 2:slip.at - 1]] in (["+"], ["-"]):
+    if (
+        part == "condition"
+        and "{ before" in slip.why
+        and [token.text for token in tokens[slip.at - 2 : slip.at - 1]] in (["+"], ["-"])
+    ):
         return "a value that is more than one number or cell stands in braces"
     if part == "condition" and "{ before" in slip.why:
         return "the condition stands in braces"

@@ -49,7 +49,7 @@ def time_text(time: int) -> str:
 
 def values_in(row: str, width: int, number: int) -> Tuple[str, ...]:
     """The values of a row of a frame, each in so many places; the number of its line says where it doesn't part so."""
-    values = tuple(row[at:at + width].lstrip() for at in range(0, len(row), width))
+    values = tuple(row[at : at + width].lstrip() for at in range(0, len(row), width))
     if len(row) % width or not all(map(VALUE.fullmatch, values)):
         raise Unreadable(f"line {number}: the row doesn't part into values of {width} places: give the -w of the run")
     return values
@@ -72,7 +72,7 @@ def frames_in(lines: Iterable[str], width: int) -> Iterator[Frame]:
 
 
 def given_in(lines: Iterable[str]) -> Iterator[Given]:
-    """The values given in a log, at the port `out` (letter Y) and at further ports (letter N); other letters are passed over."""
+    """The values given in a log, at the port `out` (letter Y) and at further ports (letter N)."""
     for number, line in enumerate(lines, 1):
         parts = line.rstrip("\n").split(" / ")
         if len(parts) != 5 or parts[0] not in ("Y", "N", "X", "S"):
@@ -99,7 +99,7 @@ def place_in(who: str, group: str) -> Optional[Tuple[int, int, int]]:
 
 
 def drawn(given: Iterable[Given], group: str, port: str, plane: int) -> List[Frame]:
-    """The frames of a plane of a group at one of its ports, one for each time at which a cell there gave a value at that port."""
+    """The frames of a plane of a group at one of its ports, one for each time at which a value was given there."""
     times: Dict[int, Dict[Tuple[int, int], str]] = {}
     for it in given:
         place = place_in(it.who, group) if it.port == port else None
