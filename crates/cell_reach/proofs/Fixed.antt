@@ -1,18 +1,18 @@
 -- Steps from places at which no step leads past an edge.
-use Rattle.std.proofs.Common.{◌≡◌, ℕ, ◌+◌, ◌<◌, ◌≤◌, Option, Some, None, List, [], ◌∷◌, ◌++◌, map, length, ℤ, pos, ◌+ℤ◌, ◌≤ℤ◌, ◌<ℤ◌, refl, sym, ap, subst, ◌∙◌, arith}
+use Rattle.std.proofs.Common.{◌≡◌, ℕ, ◌+◌, ◌<◌, ◌≤◌, Option, Some, None, List, [], ◌∷◌, ◌++◌, map, length, ℤ, pos, ◌+ℤ◌, ◌≤ℤ◌, ◌<ℤ◌, refl, sym, ap, subst, ◌∙◌, ◌↔◌, arith}
 use Rattle.std.specs.Int.RustNames.{unsigned_abs}
 use Rattle.std.specs.List.{All, filter_map, cons_option}
 use Rattle.std.proofs.lemmas.Int.{ints}
 use Rattle.std.proofs.lemmas.List.{map-append, length-map}
-use Rattle.std.proofs.lemmas.List.Elements.{All-push, All-cons}
+use Rattle.std.proofs.lemmas.List.Elements.{All-push, All-pop, All-same, All-cons}
 use Rattle.quantity.specs.declared.place.Place.{Place}
 use Rattle.quantity.specs.declared.place.Offset.{Offset}
 use Rattle.cell_grid.specs.declared.step.Step.{Step}
 use Rattle.cell_reach.specs.declared.inner.Inner.{Inner}
 use Rattle.cell_grid.specs.Space.{Space, IsInside, cell_count, place_of, number_of, neighbour, neighbour_at, opposite}
-use Rattle.cell_reach.specs.Neighbourhoods.{Neighbourhood, neighbours, StaysInside, difference, AreWatchers, further, LeadsInside, AreDifferences}
+use Rattle.cell_reach.specs.Neighbourhoods.{Neighbourhood, neighbours, StaysInside, StandsInside, difference, AreWatchers, further, LeadsInside, AreDifferences}
 use Rattle.cell_grid.specs.Steps.{offset_of_step}
-use Rattle.cell_reach.specs.FixedSteps.{AreFixed, AreFixedAt, IsInner}
+use Rattle.cell_reach.specs.FixedSteps.{AreFixed, AreFixedAt, AreInner, IsInner, stepped}
 use Rattle.cell_grid.proofs.Places.{number-of_place, number-inside}
 use Rattle.cell_grid.proofs.Opposites.{neighbour-inside}
 use Rattle.cell_grid.proofs.Rising.{has}
@@ -46,7 +46,7 @@ one_fixed s p step d few inside stays near =
     lies from to n z there is = (omega (arith, ints), omega (arith, ints))
 
 -- one step more
-pub one_more : (s : Space) (p : Place) (step : Step) (d : ℤ) (steps : List Step) (ds : List ℤ) → cell_count s ≤ 1048576 → IsInside s p → StaysInside s p (offset_of_step step)
+one_more : (s : Space) (p : Place) (step : Step) (d : ℤ) (steps : List Step) (ds : List ℤ) → cell_count s ≤ 1048576 → IsInside s p → StaysInside s p (offset_of_step step)
     → (unsigned_abs (difference s (offset_of_step step)) ≤ 1048576 → d ≡ difference s (offset_of_step step))
     → AreFixedAt s p steps ds → AreFixedAt s p (steps ++ step ∷ []) (ds ++ d ∷ [])
 one_more s p step d steps ds few inside stays near fixed =
@@ -60,7 +60,7 @@ one_more s p step d steps ds few inside stays near fixed =
     }
 
 -- the same steps and differences in other lists
-pub same_fixed : (s : Space) (inner : Inner) (steps other : List Step) (ds further_ds : List ℤ) → other ≡ steps → further_ds ≡ ds
+same_fixed : (s : Space) (inner : Inner) (steps other : List Step) (ds further_ds : List ℤ) → other ≡ steps → further_ds ≡ ds
     → ((p : Place) → IsInner inner p → IsInside s p × AreFixedAt s p steps ds) → (p : Place) → IsInner inner p → IsInside s p × AreFixedAt s p other further_ds
 same_fixed s inner steps other ds further_ds same equal holds p inside =
     let at = holds p inside in
@@ -69,7 +69,7 @@ same_fixed s inner steps other ds further_ds same equal holds p inside =
     (at.0, subst Fixed (sym equal) (subst Steps (sym same) at.1))
 
 -- a step and its difference behind the others, where the places are fewer
-pub one_pushed : (s : Space) (old new : Inner) (step : Step) (d : ℤ) (steps : List Step) (ds : List ℤ) → cell_count s ≤ 1048576
+one_pushed : (s : Space) (old new : Inner) (step : Step) (d : ℤ) (steps : List Step) (ds : List ℤ) → cell_count s ≤ 1048576
     → (unsigned_abs (difference s (offset_of_step step)) ≤ 1048576 → d ≡ difference s (offset_of_step step))
     → ((p : Place) → IsInner old p → IsInside s p × AreFixedAt s p steps ds)
     → ((p : Place) → IsInner new p → IsInner old p) → ((p : Place) → IsInner new p → StaysInside s p (offset_of_step step))
@@ -79,6 +79,42 @@ one_pushed s old new step d steps ds few near holds within stays other further_d
     same_fixed s new (steps ++ step ∷ []) other (ds ++ d ∷ []) further_ds same equal (λ p inner.
     let before = holds p (within p inner) in
     (before.0, one_more s p step d steps ds few before.0 (stays p inner) near before.1))
+
+-- the places of other lists with the same steps and differences
+pub same_inner : (s : Space) (inner : Inner) (steps other : List Step) (ds further_ds : List ℤ) → other ≡ steps → further_ds ≡ ds → AreInner s inner steps ds → AreInner s inner other further_ds
+same_inner s inner steps other ds further_ds same equal holds =
+    record {
+      fixed = same_fixed s inner steps other ds further_ds same equal holds.fixed;
+      exact = λ p. subst (λ (ts : List Step). IsInner inner p ↔ StandsInside (stepped s ts) p) (sym same) (holds.exact p);
+    }
+
+-- those from which one more step leads past no edge
+pub pushed_inner : (s : Space) (old new : Inner) (step : Step) (d : ℤ) (steps : List Step) (ds : List ℤ) → cell_count s ≤ 1048576
+    → (unsigned_abs (difference s (offset_of_step step)) ≤ 1048576 → d ≡ difference s (offset_of_step step)) → AreInner s old steps ds
+    → ((p : Place) → IsInner new p → IsInner old p) → ((p : Place) → IsInner new p → StaysInside s p (offset_of_step step))
+    → ((p : Place) → IsInner old p → IsInside s p → StaysInside s p (offset_of_step step) → IsInner new p)
+    → (other : List Step) (further_ds : List ℤ) → other ≡ steps ++ step ∷ [] → further_ds ≡ ds ++ d ∷ [] → AreInner s new other further_ds
+pushed_inner s old new step d steps ds few near holds within stays all other further_ds same equal =
+    record {
+      fixed = one_pushed s old new step d steps ds few near holds.fixed within stays other further_ds same equal;
+      exact = λ p. subst (λ (ts : List Step). IsInner new p ↔ StandsInside (stepped s ts) p) (sym same) (there p, back p);
+    }
+  where
+    split : map offset_of_step (steps ++ step ∷ []) ≡ map offset_of_step steps ++ offset_of_step step ∷ []
+    split = map-append offset_of_step steps (step ∷ [])
+
+    there : (p : Place) → IsInner new p → StandsInside (stepped s (steps ++ step ∷ [])) p
+    there p inner =
+        let before = (holds.exact p).0 (within p inner) in
+        record {
+          inside = before.inside;
+          stays = All-same (StaysInside s p) _ _ split (All-push (StaysInside s p) (map offset_of_step steps) (offset_of_step step) before.stays (stays p inner));
+        }
+
+    back : (p : Place) → StandsInside (stepped s (steps ++ step ∷ [])) p → IsInner new p
+    back p stands =
+        let parts = All-pop (StaysInside s p) (map offset_of_step (steps ++ step ∷ [])) (map offset_of_step steps) (Some (offset_of_step step)) split stands.stays in
+        all p ((holds.exact p).1 (record { inside = stands.inside; stays = parts.0 })) stands.inside parts.1
 
 -- ---- what steps give is what offsets give
 

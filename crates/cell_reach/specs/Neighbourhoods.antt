@@ -3,7 +3,7 @@ use Rattle.std.specs.Prelude.{◌≡◌, ℕ, ◌==◌, Bool, ◌&&◌, nat_lt, 
 use Rattle.std.specs.List.{All, list_any}
 use Rattle.quantity.specs.declared.place.Offset.{Offset}
 use Rattle.quantity.specs.declared.place.Place.{Place}
-use Rattle.cell_grid.specs.Space.{Space, plane_count, cell_count, neighbour, leads_to}
+use Rattle.cell_grid.specs.Space.{Space, IsInside, plane_count, cell_count, neighbour, leads_to}
 
 -- a space, and the offsets by which each cell has neighbours
 pub record Neighbourhood : Type 0 where
@@ -39,6 +39,11 @@ abbrev pub StaysInside : Space → Place → Offset → Type 0
 StaysInside s p o =
     Stays s.rows p.row o.row × Stays s.columns p.column o.column
     × Stays (plane_count s) p.plane o.plane
+
+-- a place of the space from which no offset leads past an edge
+pub record StandsInside (n : Neighbourhood) (p : Place) : Type 0 where
+  pub inside : IsInside n.space p
+  pub stays : All (StaysInside n.space p) n.offsets
 
 -- how far on a neighbour's number is, where its offset leads past no edge
 abbrev pub difference : Space → Offset → ℤ

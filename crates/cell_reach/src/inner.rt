@@ -1,5 +1,5 @@
 // Places from which no step leads past an edge.
-ghost use Rattle.std.specs.Prelude.{◌≡◌, ℕ, ◌+◌, ◌<◌, ◌≤◌, IsTrue};
+ghost use Rattle.std.specs.Prelude.{◌≡◌, ℕ, ◌+◌, ◌<◌, ◌≤◌, ◌↔◌, IsTrue};
 ghost use Rattle.quantity.specs.declared.bounds.TheConstants.{MAX_CELLS};
 
 use cell_grid::Grid;
@@ -30,7 +30,8 @@ impl Span {
     /// The numbers below a size.
     fn below(size: u32) -> Span
         requires { size ≤ MAX_CELLS }
-        ensures { (n : ℕ) → IsIn result n → n < size }
+        ensures within { (n : ℕ) → IsIn result n → n < size }
+        ensures all { (n : ℕ) → n < size → IsIn result n }
     {
         Span {
             first: 0,
@@ -40,7 +41,8 @@ impl Span {
 
     /// Whether it has a number. One comparison tells: less the first, a number before it is large.
     fn has(self, number: u32) -> bool
-        ensures { IsTrue result → IsIn self number }
+        ensures has { IsTrue result → IsIn self number }
+        ensures all { IsIn self number → IsTrue result }
     {
         number.wrapping_sub(self.first) < self.count
     }
@@ -49,6 +51,7 @@ impl Span {
     fn narrowed(self, size: u32, step: i16) -> Span
         ensures within { (n : ℕ) → IsIn result n → IsIn self n }
         ensures stay { (n : ℕ) → IsIn result n → Stays size n step }
+        ensures all { (n : ℕ) → IsIn self n → n < size → Stays size n step → IsIn result n }
     {
         let back = u32::from(step.min(0).unsigned_abs());
         let ahead = u32::from(step.max(0).unsigned_abs());
@@ -70,7 +73,8 @@ impl Inner {
 
     /// All places of a space.
     pub fn whole(grid: Grid) -> Inner
-        ensures { (p : AnyPlace) → IsInner result p → IsInside grid p }
+        ensures within { (p : AnyPlace) → IsInner result p → IsInside grid p }
+        ensures all { (p : AnyPlace) → IsInside grid p → IsInner result p }
     {
         Inner {
             rows: Span::below(grid.rows()),
@@ -79,18 +83,20 @@ impl Inner {
         }
     }
 
-    /// Whether a place is one of them.
+    /// Whether a place is one of them: false exactly where it isn't.
     pub fn has(&self, place: Place) -> bool
-        ensures { IsTrue result → IsInner self.now place }
+        ensures { IsTrue result ↔ IsInner self.now place }
     {
         self.rows.has(place.row) && self.columns.has(place.column) && self.planes.has(place.plane)
     }
 
-    /// Those of its places from which the step leads past no edge.
+    /// Those of its places from which the step leads past no edge, and no others.
     pub fn narrowed(self, grid: Grid, step: Step) -> Inner
         ensures within { (p : AnyPlace) → IsInner result p → IsInner self p }
         ensures stay { (p : AnyPlace) → IsInner result p
             → StaysInside grid p (offset_of_step step) }
+        ensures all { (p : AnyPlace) → IsInner self p → IsInside grid p
+            → StaysInside grid p (offset_of_step step) → IsInner result p }
     {
         Inner {
             rows: self.rows.narrowed(grid.rows(), step.rows),

@@ -1,10 +1,10 @@
 // The neighbours and the watchers of all cells of a space.
-ghost use Rattle.std.specs.Prelude.{◌≡◌, ℕ, ◌<◌, ◌≤◌, length, IfOk, IfSome};
+ghost use Rattle.std.specs.Prelude.{◌≡◌, ℕ, ◌<◌, ◌≤◌, ◌↔◌, length, IfOk, IfSome, IsSome};
 ghost use Rattle.std.specs.List.{All};
 ghost use Rattle.std.specs.Vec.{vec_capacity};
 ghost use Rattle.cell_grid.specs.Space.{cell_count, place_of};
 ghost use Rattle.cell_reach.specs.Neighbourhoods.{Neighbourhood, neighbours};
-ghost use Rattle.cell_reach.specs.Neighbourhoods.{AreDifferences, AreWatchers};
+ghost use Rattle.cell_reach.specs.Neighbourhoods.{StandsInside, AreDifferences, AreWatchers};
 
 use crate::strides::Strides;
 use cell_grid::Grid;
@@ -50,9 +50,11 @@ impl Reach {
 
     /// How far each neighbour's number is from the cell's, in the order of the offsets, where the
     /// cell at this place stands so far from the edges that no offset leads past one. The
-    /// differences are the same for all such cells. Nothing is divided, so a cell's place is worked
+    /// differences are the same for all such cells. None exactly where an offset leads past an edge
+    /// from there, or the place is outside the space. Nothing is divided, so a cell's place is worked
     /// out once, for all that it is needed for.
     pub fn differences_at(&self, place: Place) -> Option<&[i32]>
+        ensures some { IsSome result ↔ StandsInside self.now place }
         ensures all { IfSome result (λ ds. length ds.now ≡ length self.now.offsets) }
         ensures far { (cell : ℕ) → place ≡ place_of self.now.space cell
             → IfSome result (λ ds. AreDifferences self.now cell ds.now) }

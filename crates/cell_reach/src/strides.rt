@@ -1,13 +1,13 @@
 // Strides from the cells of a space: at the edges as each coordinate moves, elsewhere by fixed
 // differences.
-ghost use Rattle.std.specs.Prelude.{◌≡◌, ℕ, [], ◌∷◌, ◌++◌, ◌+◌, ◌<◌, ◌≤◌, Some, length, map, pos};
-ghost use Rattle.std.specs.Prelude.{◌*◌, ◌^◌, ◌+ℤ◌, ◌*ℤ◌, ◌≤ℤ◌, ◌<ℤ◌, unsigned_abs, OnOk, IfSome};
+ghost use Rattle.std.specs.Prelude.{◌≡◌, ℕ, [], ◌∷◌, ◌++◌, ◌+◌, ◌<◌, ◌≤◌, ◌↔◌, Some, length, map, pos};
+ghost use Rattle.std.specs.Prelude.{◌*◌, ◌^◌, ◌+ℤ◌, ◌*ℤ◌, ◌≤ℤ◌, ◌<ℤ◌, unsigned_abs, OnOk, OnErr, IfSome, IsSome};
 ghost use Rattle.std.specs.List.{All, filter_map};
 ghost use Rattle.std.specs.Vec.{vec_capacity};
 ghost use Rattle.quantity.specs.declared.bounds.TheConstants.{MAX_CELLS};
 ghost use Rattle.cell_grid.specs.Space.{IsInside, cell_count, place_of, neighbour, neighbour_at};
 ghost use Rattle.cell_reach.specs.Neighbourhoods.{Neighbourhood, neighbours, difference};
-ghost use Rattle.cell_reach.specs.Neighbourhoods.{further, LeadsInside, AreDifferences};
+ghost use Rattle.cell_reach.specs.Neighbourhoods.{StandsInside, further, LeadsInside, AreDifferences};
 ghost use Rattle.cell_grid.specs.Steps.{offset_of_step};
 
 use crate::inner::Inner;
@@ -30,18 +30,15 @@ pub struct Strides {
 
 impl Model for Strides {
     ghost use Rattle.std.specs.Prelude.{map};
-    ghost use Rattle.quantity.specs.declared.place.Place.{Place as AnyPlace};
-    ghost use Rattle.cell_grid.specs.Space.{IsInside};
     ghost use Rattle.cell_reach.specs.Neighbourhoods.{Neighbourhood};
     ghost use Rattle.cell_grid.specs.Steps.{offset_of_step};
-    ghost use Rattle.cell_reach.specs.FixedSteps.{AreFixedAt, IsInner};
+    ghost use Rattle.cell_reach.specs.FixedSteps.{AreInner};
 
     ghost Value = { Neighbourhood };
 
     ghost view = { λ s. record { space = s.grid; offsets = map offset_of_step s.steps.items } };
 
-    ghost invariant = { λ s. (p : AnyPlace) → IsInner s.inner p
-        → IsInside s.grid p × AreFixedAt s.grid p s.steps.items s.differences.items };
+    ghost invariant = { λ s. AreInner s.grid s.inner s.steps.items s.differences.items };
 }
 
 impl Strides {
@@ -57,12 +54,13 @@ impl Strides {
         }
     }
 
-    /// Adds a step behind the others.
+    /// Adds a step behind the others. Where memory is refused, nothing changes.
     pub fn push(&mut self, step: Step) -> Result<(), OutOfMemory>
-        ensures { OnOk result (self.new ≡ record {
+        ensures ok { OnOk result (self.new ≡ record {
           space = self.old.space;
           offsets = self.old.offsets ++ offset_of_step step ∷ [];
         }) }
+        ensures err { OnErr result (self.new ≡ self.old) }
     {
         self.steps.reserve(1)?;
         self.differences.reserve(1)?;
@@ -82,8 +80,10 @@ impl Strides {
         self.differences_at(self.grid.position(cell))
     }
 
-    /// The same of the cell at a place: nothing is divided.
+    /// The same of the cell at a place: nothing is divided. None exactly where a step leads past an
+    /// edge from there, or the place is outside the space.
     pub fn differences_at(&self, place: Place) -> Option<&[i32]>
+        ensures some { IsSome result ↔ StandsInside self.now place }
         ensures all { IfSome result (λ ds. length ds.now ≡ length self.now.offsets) }
         ensures far { (cell : ℕ) → place ≡ place_of self.now.space cell
             → IfSome result (λ ds. AreDifferences self.now cell ds.now) }

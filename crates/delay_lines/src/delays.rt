@@ -4,6 +4,7 @@ ghost use Rattle.quantity.specs.Delay.{delayed};
 ghost use Rattle.quantity.specs.declared.delay.DelayKind.TheVariants.{Transport, Inertial};
 ghost use Rattle.delay_lines.specs.Lists.{list_of, first_pair, ChangesList, IsRising, KeepsPlaces};
 
+use crate::link::Link;
 use crate::nodes::{Node, Spot, append_from, last_left, last_with, place_of};
 use crate::pool::Pool;
 use quantity::{OutOfMemory, Time, Value};
@@ -17,10 +18,10 @@ use std::marker::Model;
 pub struct Delays {
     // All lists share these nodes, so a pair that leaves one list makes room in every other.
     nodes: Pool,
-    // The number of the first node of each cell's list.
-    firsts: Vec<Option<u32>>,
-    // The number of the last node of each cell's list.
-    lasts: Vec<Option<u32>>,
+    // The link to the first node of each cell's list.
+    firsts: Vec<Link>,
+    // The link to the last node of each cell's list.
+    lasts: Vec<Link>,
 }
 
 impl Model for Delays {
@@ -48,17 +49,17 @@ impl Delays {
     {
         Ok(Delays {
             nodes: Pool::new(alloc),
-            firsts: vec![in alloc; None; cells as usize]?,
-            lasts: vec![in alloc; None; cells as usize]?,
+            firsts: vec![in alloc; Link::none(); cells as usize]?,
+            lasts: vec![in alloc; Link::none(); cells as usize]?,
         })
     }
 
-    /// Makes room for `n` pairs more. Where memory is refused, nothing changes, and no room is
-    /// lost.
+    /// Makes room for `n` pairs more. Where memory is refused, nothing changes.
     pub fn reserve(&mut self, n: usize) -> Result<(), OutOfMemory>
         ensures room { OnOk result (n ≤ self.new.spare) }
         ensures lists { self.new.lists ≡ self.old.lists }
         ensures spare { self.old.spare ≤ self.new.spare }
+        ensures err { OnErr result (self.new ≡ self.old) }
     {
         self.nodes.reserve(n)?;
         Ok(())
@@ -71,8 +72,8 @@ impl Delays {
         ensures pair { result ≡ first_pair (list_of self.now cell) }
         ensures rising { IsRising (list_of self.now cell) }
     {
-        let key = self.firsts[cell as usize]?;
-        Some(self.nodes[key].pair)
+        let key = self.firsts[cell as usize].key()?;
+        Some(self.nodes[key].pair())
     }
 
     /// The first pair of a cell's list leaves it, if there is one, and makes room for another. It
@@ -83,7 +84,7 @@ impl Delays {
         ensures places { KeepsPlaces self.old self.new cell }
         ensures spare { self.old.spare ≤ self.new.spare }
     {
-        if let Some(key) = self.firsts[cell as usize] {
+        if let Some(key) = self.firsts[cell as usize].key() {
             let next = self.nodes.remove(key);
             self.firsts[cell as usize] = next;
             let last = self.lasts[cell as usize];
@@ -93,7 +94,7 @@ impl Delays {
 
     /// Puts a value into a cell's list at its time, in the place of a pair of that time. It visits
     /// the nodes of that list alone, and only the last one where that is earlier. It takes memory
-    /// only where nothing is spare; where that is refused, nothing changes, and no room is lost.
+    /// only where nothing is spare; where that is refused, nothing changes.
     pub fn transport(&mut self, cell: u32, at: Time, value: Value) -> Result<(), OutOfMemory>
         requires { cell < length self.old.lists }
         ensures ok { OnOk result (ChangesList self.old self.new cell
@@ -101,6 +102,7 @@ impl Delays {
         ensures rising { IsRising (list_of self.new cell) }
         ensures succeeds { 1 ≤ self.old.spare → IsOk result }
         ensures err { OnErr result (self.new.lists ≡ self.old.lists) }
+        ensures kept { OnErr result (self.new ≡ self.old) }
 
         // A pair takes the place of one that is spare, and only a refusal and a replaced pair take
         // none.
@@ -117,9 +119,9 @@ impl Delays {
                     return Err(OutOfMemory);
                 };
                 self.lasts[cell as usize] = last_with(next, key, last);
-                match before {
+                match before.key() {
                     Some(before) => self.nodes.set_next(before, key),
-                    None => self.firsts[cell as usize] = Some(key),
+                    None => self.firsts[cell as usize] = Link::to(key),
                 }
             }
         }
@@ -159,10 +161,10 @@ impl Delays {
         ensures list { ChangesList self.old self.new cell ((at, value) ∷ []) }
         ensures spare { self.new.spare + 1 ≡ self.old.spare }
     {
-        let Ok(key) = self.nodes.insert(Node::new(at, value, None)) else {
+        let Ok(key) = self.nodes.insert(Node::new(at, value, Link::none())) else {
             unreachable!()
         };
-        self.firsts[cell as usize] = Some(key);
-        self.lasts[cell as usize] = Some(key);
+        self.firsts[cell as usize] = Link::to(key);
+        self.lasts[cell as usize] = Link::to(key);
     }
 }

@@ -1,31 +1,32 @@
 // Nodes under numbers of 32 bits.
-ghost use Rattle.std.specs.Prelude.{◌≡◌, ◌+◌, ◌<◌, ◌≤◌, ◌++◌, ◌∷◌, [], None, Some, vec_capacity, vec_len, IfOk, IfSome, IsOk, IsSome, OnErr, OnOk};
+ghost use Rattle.std.specs.Prelude.{◌≡◌, ◌+◌, ◌<◌, ◌≤◌, None, Some, IfOk, IfSome, IsOk, IsSome, OnErr, OnOk};
+ghost use Rattle.slab.specs.Slab.{get, slab_len, HasRoomFor, Updates};
 ghost use Rattle.delay_lines.specs.Nodes.{node_of};
 ghost use Rattle.delay_lines.specs.Places.{look_in, Rewrites, Writes};
 
+use crate::link::Link;
 use crate::nodes::Node;
 use quantity::{OutOfMemory, Time, Value};
-use std::alloc::{AllocError, Global};
+use slab::Slab;
+use std::alloc::Global;
 use std::marker::Model;
 use std::ops::Index;
 
-/// How many nodes have a number of 32 bits.
-const MOST: usize = 4_294_967_296;
+/// How many nodes have a number that is less than that of no node.
+const MOST: usize = 4_294_967_295;
 
-/// Nodes, each under a number that the pool picks: of 32 bits, so that links are short. It is seen
-/// as the nodes, the numbers of the vacant ones, and how many more can be added with no memory
-/// taken.
+/// Nodes, each under a number that the slab picks: of 32 bits, so that links are short. It is seen
+/// as the node or nothing at each number, and how many more can be added with no memory taken.
 #[derive(Drop)]
 pub struct Pool {
-    nodes: Vec<Node>,
-    // The number of the first node that is vacant. Each leads to the next, and the last to none.
-    vacant: Option<u32>,
-    // How many nodes are vacant.
-    count: usize,
+    // It never has room for more nodes than there are numbers of 32 bits: a slab picks each of its
+    // numbers below its capacity.
+    nodes: Slab<Node>,
 }
 
 impl Model for Pool {
-    ghost use Rattle.std.specs.Prelude.{length, vec_capacity};
+    ghost use Rattle.std.specs.Prelude.{◌-◌, ◌≤◌};
+    ghost use Rattle.slab.specs.Slab.{slab_len};
     ghost use Rattle.delay_lines.specs.Places.{Places};
 
     ghost Value = { Places };
@@ -35,79 +36,63 @@ impl Model for Pool {
 
     ghost coded = { Prim.hlevel (codes, node.the_row.coded) };
 
-    ghost use Rattle.delay_lines.specs.Places.{AreVacant, keys_from, spare_in};
-
     ghost view = { λ p. record {
-      nodes = p.nodes.items;
-      vacant = keys_from p.count p.nodes.items p.vacant;
-      spare = spare_in p.count (length p.nodes.items) (vec_capacity p.nodes);
+      slots = p.nodes.slots;
+      spare = p.nodes.capacity - slab_len p.nodes;
     } };
 
-    ghost invariant = { λ p.
-        AreVacant p.nodes.items p.vacant p.count (keys_from p.count p.nodes.items p.vacant) };
+    ghost invariant = { λ p. p.nodes.capacity ≤ 4294967295 };
 }
 
 impl Pool {
     /// A pool with no nodes.
     pub fn new(alloc: Global) -> Pool {
         Pool {
-            nodes: Vec::new(alloc),
-            vacant: None,
-            count: 0,
+            nodes: Slab::new(alloc),
         }
     }
 
-    /// Makes room for `n` nodes more. A refusal leaves the nodes, and no room is lost.
+    /// Makes room for `n` nodes more. A refusal changes nothing.
+    #[inline(always)]
     pub fn reserve(&mut self, n: usize) -> Result<(), OutOfMemory>
         ensures room { OnOk result (n ≤ self.new.spare) }
         ensures look { look_in self.new ≡ look_in self.old }
         ensures spare { self.old.spare ≤ self.new.spare }
+        ensures had_room { n ≤ self.old.spare → IsOk result × (self.new ≡ self.old) }
+        ensures err { OnErr result (self.new ≡ self.old) }
     {
-        let more = n.saturating_sub(self.count);
-        if more > MOST - self.nodes.len() {
-            return Err(OutOfMemory);
+        if self.nodes.capacity() - self.nodes.len() < n {
+            return self.grow(n);
         }
-        self.nodes.reserve(more)?;
         Ok(())
     }
 
-    /// Stores a node where none is. It takes memory only where nothing is spare.
+    /// Stores a node where none is. It takes memory only where nothing is spare; a refusal changes
+    /// nothing.
     #[inline(always)]
     pub fn insert(&mut self, node: Node) -> Result<u32, OutOfMemory>
+        ensures below { IfOk result (λ key. key < 4294967295) }
         ensures was_vacant { IfOk result (λ key. look_in self.old key ≡ None) }
         ensures updates { IfOk result
             (λ key. Writes (look_in self.old) (look_in self.new) key (Some node)) }
         ensures succeeds { 1 ≤ self.old.spare → IsOk result }
         ensures err { OnErr result (look_in self.new ≡ look_in self.old) }
+        ensures kept { OnErr result (self.new ≡ self.old) }
         ensures had_room { 1 ≤ self.old.spare → self.new.spare + 1 ≡ self.old.spare }
         ensures spare { self.old.spare ≤ self.new.spare + 1 }
     {
-        if let Some(key) = self.vacant {
-            self.vacant = self.nodes[key as usize].next;
-            self.nodes[key as usize] = node;
-            self.count -= 1;
-            return Ok(key);
-        }
-        let key = self.nodes.len();
-        if key >= MOST {
-            return Err(OutOfMemory);
-        }
-        append(&mut self.nodes, node.pair, node.next)?;
-        Ok(key as u32)
+        self.reserve(1)?;
+        Ok(put(&mut self.nodes, node))
     }
 
     /// A node leaves, and makes room for another. Answers its link.
-    pub fn remove(&mut self, key: u32) -> Option<u32>
+    pub fn remove(&mut self, key: u32) -> Link
         requires { IsSome (look_in self.old key) }
         ensures taken { Rewrites (look_in self.old) (look_in self.new) key (λ _. None) }
         ensures next { IfSome (look_in self.old key) (λ node. result ≡ node.next) }
         ensures spare { self.new.spare ≡ self.old.spare + 1 }
     {
-        let next = self.nodes[key as usize].next;
-        self.nodes[key as usize].next = self.vacant;
-        self.vacant = Some(key);
-        self.count += 1;
-        next
+        self.nodes.remove(key as usize).next()
     }
 
     /// A node gets another pair.
@@ -117,18 +102,52 @@ impl Pool {
             (λ n. Some (node_of (at, value) n.next)) }
         ensures spare { self.new.spare ≡ self.old.spare }
     {
-        self.nodes[key as usize].pair = (at, value);
+        self.nodes[key as usize].set_pair(at, value);
     }
 
     /// A node leads to another one.
     pub fn set_next(&mut self, key: u32, next: u32)
-        requires { IsSome (look_in self.old key) }
+        requires exists { IsSome (look_in self.old key) }
+        requires below { next < 4294967295 }
         ensures link { Rewrites (look_in self.old) (look_in self.new) key
             (λ n. Some (node_of n.pair (Some next))) }
         ensures spare { self.new.spare ≡ self.old.spare }
     {
-        self.nodes[key as usize].next = Some(next);
+        self.nodes[key as usize].set_next(Link::to(next));
     }
+
+    // Makes room for `n` nodes more, where there is less. A slab may take more than it is asked for,
+    // so a copy grows, and takes the place of the nodes only if its numbers have 32 bits.
+    #[cold]
+    fn grow(&mut self, n: usize) -> Result<(), OutOfMemory>
+        requires { self.old.spare < n }
+        ensures room { OnOk result (n ≤ self.new.spare) }
+        ensures look { look_in self.new ≡ look_in self.old }
+        ensures spare { self.old.spare ≤ self.new.spare }
+        ensures err { OnErr result (self.new ≡ self.old) }
+    {
+        let mut grown = self.nodes.clone()?;
+        grown.reserve(n)?;
+        if grown.capacity() > MOST {
+            return Err(OutOfMemory);
+        }
+        self.nodes = grown;
+        Ok(())
+    }
+}
+
+// Stores a node where none is.
+#[inline(always)]
+fn put(nodes: &mut Slab<Node>, node: Node) -> u32
+    requires room { HasRoomFor nodes.old 1 }
+    requires few { nodes.old.capacity ≤ 4294967295 }
+    ensures below { result < 4294967295 }
+    ensures was_vacant { get nodes.old result ≡ None }
+    ensures updates { Updates nodes.old nodes.new result (Some node) }
+    ensures len { slab_len nodes.new ≡ slab_len nodes.old + 1 }
+    ensures capacity { nodes.new.capacity ≡ nodes.old.capacity }
+{
+    nodes.insert_reserved(node) as u32
 }
 
 impl Index<u32> for Pool {
@@ -141,22 +160,4 @@ impl Index<u32> for Pool {
     fn index(&self, key: u32) -> &Node {
         &self.nodes[key as usize]
     }
-}
-
-// Appends a node. It takes memory only where there is no room.
-fn append(nodes: &mut Vec<Node>, pair: (Time, Value), next: Option<u32>) -> Result<(), OutOfMemory>
-    ensures ok { OnOk result (nodes.new.items ≡ nodes.old.items ++ node_of pair next ∷ []) }
-    ensures err { OnErr result (nodes.new.items ≡ nodes.old.items) }
-    ensures succeeds { vec_len nodes.old < vec_capacity nodes.old → IsOk result }
-    ensures had_room { vec_len nodes.old < vec_capacity nodes.old
-        → vec_capacity nodes.new ≡ vec_capacity nodes.old }
-    ensures capacity { vec_capacity nodes.old ≤ vec_capacity nodes.new }
-{
-    let node = Node { pair, next };
-    if nodes.len() < nodes.capacity() {
-        nodes.push_reserved(node);
-        return Ok(());
-    }
-    nodes.push(node).map_err(AllocError::from)?;
-    Ok(())
 }

@@ -1,6 +1,6 @@
 // What a descent reads between phrases: operators, signs and marks.
 ghost use Rattle.std.specs.Option.{option_map};
-ghost use Rattle.std.specs.Prelude.{◌≡◌, ◌<◌, ◌≤◌, [], ◌∷◌, ◌++◌, length, IfOk, IfSome, OnOk};
+ghost use Rattle.std.specs.Prelude.{◌≡◌, ◌<◌, ◌≤◌, [], ◌∷◌, ◌++◌, length, IfOk, IfSome, OnOk, OnErr};
 ghost use Rattle.rule_phrases.specs.Between.{AreArguments, behind_signs, called_before};
 ghost use Rattle.rule_phrases.specs.Between.{most_operators, operator_before, sign_at};
 ghost use Rattle.rule_phrases.specs.Between.{signs_before, with_signs};
@@ -160,8 +160,10 @@ pub fn called<'t, 'a>(
     Ok(Some(Front { term, rest }))
 }
 
+/// Puts a term behind the others. Where memory is refused, they stay as they were.
 pub fn push(terms: &mut Vec<Term>, term: Term) -> Result<(), OutOfMemory>
-    ensures { OnOk result (terms.new.items ≡ terms.old.items ++ term ∷ []) }
+    ensures ok { OnOk result (terms.new.items ≡ terms.old.items ++ term ∷ []) }
+    ensures err { OnErr result (terms.new.items ≡ terms.old.items) }
 {
     match terms.push(term) {
         Ok(()) => Ok(()),

@@ -20,7 +20,7 @@ arguments-commas-init t c = record {
   shorter = shorter_at c.in_ok-first.field-0 c.in-Some.first (length c.args.tokens.now) c.in_ok-first.ensures.shorter c.in-Some.is;
   read = λ n h.
       listing_begins (names_of c.args.names.now) (at_level (reading n) expr) (tokens_of c.args.tokens.now) c.in-Some.first c.in_ok-first.field-0 c.push.new.terms.items
-      (c.in_ok-first.ensures.read n h) c.in-Some.is (c.in_ok-push.ensures ∙ ap (λ ts. ts ++ c.in-Some.first.term ∷ []) c.new-terms.ensures.items);
+      (c.in_ok-first.ensures.read n h) c.in-Some.is (c.in_ok-push.ensures.ok ∙ ap (λ ts. ts ++ c.in-Some.first.term ∷ []) c.new-terms.ensures.items);
 }
 
 pub arguments-returns-in_default-after_mark-clause-read : goal.arguments-returns-in_default-after_mark-clause-read
@@ -43,7 +43,7 @@ arguments-commas-preserved t c =
           let inner : length c.in-Some-after_mark.behind.now ≤ n = omega (arith, c.in-Some-after_mark.ensures.shorter, c.commas.invariant.shorter) in
           listing_goes_on (names_of c.args.names.now) (at_level (reading n) expr) (list_before (at_level (reading n) expr) (tokens_of c.args.tokens.now)) c.commas.terms.items c.push-in-commas.new.terms.items (tokens_of c.commas.rest.now) (tokens_of c.in-Some-after_mark.behind.now)
           c.in-Some-2.next c.in_ok-next.field-0 (c.commas.invariant.read n h) c.in-Some-after_mark.ensures.rest (c.in_ok-next.ensures.read n inner) c.in-Some-2.is
-          (omega (arith, less, tokens_length c.in-Some-2.next.rest.now, tokens_length c.in-Some-after_mark.behind.now)) c.in_ok-push-2.ensures;
+          (omega (arith, less, tokens_length c.in-Some-2.next.rest.now, tokens_length c.in-Some-after_mark.behind.now)) c.in_ok-push-2.ensures.ok;
     }
 
 pub call-returns-clause-read : goal.call-returns-clause-read

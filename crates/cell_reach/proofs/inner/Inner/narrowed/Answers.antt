@@ -1,4 +1,4 @@
-use Rattle.std.proofs.Common.{rules, arith, FitsSigned, w16}
+use Rattle.std.proofs.Common.{◌<◌, rules, arith, FitsSigned, w16}
 use Rattle.std.proofs.lemmas.Int.{ints}
 use Rattle.cell_reach.proofs.inner.Inner.narrowed.Goals as goal
 
@@ -20,4 +20,18 @@ returns-clause-stay c = λ p inner.
       (omega (arith, ints), omega (arith, ints)),
       (omega (arith, ints), omega (arith, ints)),
       (omega (arith, ints), omega (arith, ints)),
+    )
+
+pub returns-clause-all : goal.returns-clause-all
+returns-clause-all c = λ p inner inside stays.
+    let row : FitsSigned w16 c.args.step.rows = search rules in
+    let column : FitsSigned w16 c.args.step.columns = search rules in
+    let plane : FitsSigned w16 c.args.step.planes = search rules in
+    let rows = stays.0 in
+    let columns = stays.1 in
+    let planes = stays.2 in
+    let at : (p.row < c.rows.result) × (p.column < c.columns.result) × (p.plane < c.planes.result) = (omega (arith, inside.0), omega (arith, inside.1), omega (arith, inside.2)) in (
+      c.narrowed.ensures.all p.row inner.0 (at.0) (omega (arith, ints), omega (arith, ints)),
+      c.narrowed-2.ensures.all p.column inner.1 (at.1) (omega (arith, ints), omega (arith, ints)),
+      c.narrowed-3.ensures.all p.plane inner.2 (at.2) (omega (arith, ints), omega (arith, ints)),
     )

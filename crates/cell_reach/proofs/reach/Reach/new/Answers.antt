@@ -18,8 +18,8 @@ loop-offset-preserved c =
     let none : Offset = record { row = pos 0; column = pos 0; plane = pos 0 } in
     let lt : c.loop-offset.offset-index < length c.args.offsets.now = omega arith in
     record {
-      ahead_space = space_kept c.loop-offset.ahead c.push.new.self c.args.grid _ held.ahead_space c.in_ok-push.ensures;
-      back_space = space_kept c.loop-offset.back c.push-in-loop-offset.new.self c.args.grid _ held.back_space c.in_ok-push-2.ensures;
-      ahead = ahead_more c.args.offsets.now c.loop-offset.offset-index none _ c.loop-offset.ahead c.push.new.self lt c.along.ensures held.ahead c.in_ok-push.ensures;
-      back = back_more c.args.offsets.now c.loop-offset.offset-index none _ c.loop-offset.back c.push-in-loop-offset.new.self lt c.back-in-loop-offset.ensures held.back c.in_ok-push-2.ensures;
+      ahead_space = space_kept c.loop-offset.ahead c.push.new.self c.args.grid _ held.ahead_space c.in_ok-push.ensures.ok;
+      back_space = space_kept c.loop-offset.back c.push-in-loop-offset.new.self c.args.grid _ held.back_space c.in_ok-push-2.ensures.ok;
+      ahead = ahead_more c.args.offsets.now c.loop-offset.offset-index none _ c.loop-offset.ahead c.push.new.self lt c.along.ensures held.ahead c.in_ok-push.ensures.ok;
+      back = back_more c.args.offsets.now c.loop-offset.offset-index none _ c.loop-offset.back c.push-in-loop-offset.new.self lt c.back-in-loop-offset.ensures held.back c.in_ok-push-2.ensures.ok;
     }

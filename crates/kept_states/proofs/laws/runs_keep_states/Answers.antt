@@ -1,0 +1,9 @@
+use Rattle.kept_states.proofs.Runs.{runs-keep, start-is}
+use Rattle.kept_states.proofs.laws.runs_keep_states.Goals as goal
+
+pub returns : goal.returns
+returns c = record {
+  start = start-is c.starts_are_states.ensures;
+  runs =
+      runs-keep c.moves_keep_states.ensures c.values_are_bounded.ensures.runs;
+}
