@@ -41,8 +41,8 @@ save-requires g c =
     let seat : slice_get seats c.args.leaf ≡ Some (Atomic c.in-Atomic.at) = read-at seats c.args.leaf c.index.result.now lt c.index.ensures ∙ ap Some c.in-Atomic.is in
     box-inside _ seats stores stock c.self.invariant.0 c.args.leaf c.in-Atomic.at seat
 
-pub returns : goal.returns
-returns g c =
+pub returns-clause-ok : goal.returns-clause-ok
+returns-clause-ok g c =
     let stock = c.self.inside.stock in
     let stores = c.self.inside.stores.items in
     let seats = c.self.inside.seats.items in
