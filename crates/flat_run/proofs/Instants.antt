@@ -8,7 +8,8 @@ use Rattle.event_list.specs.Shown.{first_event_time}
 use Rattle.model_tree.specs.Tree.{Tree}
 use Rattle.run_model.specs.CellStep.{least}
 use Rattle.run_model.specs.Cycle.{next_of_all}
-use Rattle.run_model.specs.Run.{RunState, ended, done, too_many, first_event, next_instant, next_at, next_cycle, cycled_at, cycles_at}
+use Rattle.rule_tree.specs.declared.outcome.RuleStop.{RuleStop}
+use Rattle.run_model.specs.Run.{Cycle, RunState, unless_stop, ended, done, too_many, first_event, next_instant, next_at, next_cycle, cycled_at, cycles_at}
 use Rattle.run_model.specs.Fitting.{FitsTree}
 use Rattle.sparse_cycle.specs.Laws.{NextIsSparse}
 use Rattle.sparse_cycle.specs.Sparse.{parts_of, next_of_parts, sparse_at, sparse_next}
@@ -108,3 +109,19 @@ next-by-parts sparse tree end limit s t fits next within few =
   where
     le-false : (a b : ℕ) → b < a → nat_le a b ≡ false
     le-false a b lt = grind (arith, lt)
+
+-- an instant that is not past the end is not the end of a run
+pub never-done : (tree : Tree) (end limit : ℕ) (s : RunState) (t : ℕ) → next_instant s ≡ Some t → t ≤ end → next_cycle tree end limit s ≡ ended done → ⊥
+unfolding next_cycle
+never-done tree end limit s t next within e =
+    let at : next_at tree end limit s (Some t) ≡ ended done = sym (ap (next_at tree end limit s) next) ∙ e in
+    by-limit (nat_le limit (cycles_at t s))
+    (sym (ap (λ b. if b then ended done else if nat_le limit (cycles_at t s) then ended (too_many t) else cycled_at tree t s) (lt-false end t within)) ∙ at)
+  where
+    by-stop : (o : Option (ℕ × RuleStop)) (c : Cycle) (n : RunState) → unless_stop t o c n ≡ ended done → ⊥
+    by-stop None c n e = absurd cc
+    by-stop (Some p) c n e = absurd cc
+
+    by-limit : (b : Bool) → (if b then ended (too_many t) else cycled_at tree t s) ≡ ended done → ⊥
+    by-limit true e = absurd cc
+    by-limit false e = by-stop _ _ _ e

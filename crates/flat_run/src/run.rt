@@ -6,7 +6,9 @@ ghost use Rattle.atomic_face.specs.Held.{Held};
 ghost use Rattle.atomic_face.specs.Moves.{RestoreGives};
 ghost use Rattle.event_list.specs.Events.{Event as AnyEvent};
 ghost use Rattle.run_model.specs.CellStep.{least};
-ghost use Rattle.run_model.specs.Run.{start, next_instant, cycles_at};
+ghost use Rattle.run_model.specs.Run.{start, next_instant, cycles_at, ended, done};
+ghost use Rattle.std.specs.declared.result.Result.TheVariants.{Ok};
+ghost use Rattle.flat_run.specs.declared.progress.Progress.TheVariants.{Done};
 ghost use Rattle.run_model.specs.Cycle.{cell_state, leaf_next, box_state};
 ghost use Rattle.record_text.specs.Held.{AreEmpty};
 ghost use Rattle.sparse_cycle.specs.Sparse.{leaf_of};
@@ -136,6 +138,7 @@ impl<Q: TimeQueue, M: AtomicModel> FlatRun<Q, M> {
     ) -> Result<Progress, Stop>
         ensures goes { Goes self.old.stopped self.old result self.new records.new }
         ensures visits { steps.new ≤ steps.old + visits_of self.old (next_of self.old) }
+        ensures done { self.old.stopped ≡ None → next_of self.old ≡ ended done → result ≡ Ok Done }
     {
         records.clear();
         if let Some(stop) = self.stopped {

@@ -4,7 +4,7 @@ use Rattle.flat_run.specs.declared.progress.Progress.TheVariants.{Done}
 use Rattle.flat_run.specs.declared.progress.Stop.TheVariants.{TooManyCycles}
 use Rattle.flat_run.specs.Standing.{Standing, tree_in}
 use Rattle.flat_run.specs.Steps.{Steps, Goes}
-use Rattle.flat_run.proofs.Instants.{done-where-none, done-past-end, too-many}
+use Rattle.flat_run.proofs.Instants.{done-where-none, done-past-end, never-done, too-many}
 use Rattle.flat_run.proofs.Begun.{standing, goes-on}
 use Rattle.flat_run.proofs.run.FlatRun.cycle.Goals as goal
 
@@ -48,3 +48,17 @@ returns-clause-goes g c =
     let s = c.args.self.now in
     let none : s.stopped ≡ None = sym (ap (λ (x : Standing). x.stopped) c.self.view_is) ∙ c.in_default.is in
     goes-on s.stopped s c.cycle_at.result c.cycle_at.new.self c.cycle_at.new.records none c.cycle_at.ensures.steps
+
+pub returns-then-self-had-clause-done : goal.returns-then-self-had-clause-done
+returns-then-self-had-clause-done g c =
+    let s = c.args.self.now in
+    let t = c.in-Some-next_time.t in
+    let within : t ≤ c.self.inside.end = omega arith in
+    λ none ends. absurd (never-done (tree_in s) s.end s.limit s.state t (sym c.in-Some-next_time.ensures) (subst (λ (x : Standing). t ≤ x.end) c.self.view_is within) ends)
+
+pub returns-clause-done : goal.returns-clause-done
+returns-clause-done g c =
+    let s = c.args.self.now in
+    let t = c.in-Some-next_time.t in
+    let within : t ≤ c.self.inside.end = omega arith in
+    λ none ends. absurd (never-done (tree_in s) s.end s.limit s.state t (sym c.in-Some-next_time.ensures) (subst (λ (x : Standing). t ≤ x.end) c.self.view_is within) ends)
