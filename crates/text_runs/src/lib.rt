@@ -1,9 +1,11 @@
 //! Calls on texts and rooms: values, words, sections and events that are read and written, and what
-//! a room does where a call fails.
+//! a room does where a call fails; what the real folder and both streams hold.
 #![tactic(auto)]
 
 #[cfg(test)]
 mod events;
+#[cfg(test)]
+mod folder;
 #[cfg(test)]
 mod quantities;
 #[cfg(test)]
