@@ -153,7 +153,11 @@ const REFUSED: [(&str, &str); 11] = [
 ];
 
 /// How a model is refused.
-fn refuses(rt: &(impl Abort + AllocGlobal), model: &str, refused: &str) -> Result<(), Fail> {
+pub(crate) fn refuses(
+    rt: &(impl Abort + AllocGlobal),
+    model: &str,
+    refused: &str,
+) -> Result<(), Fail> {
     let row = Row {
         files: &[("m.ma", model)],
         words: "cdpp -m m.ma -t 00:00:00:100 -l log.txt",
@@ -208,7 +212,12 @@ const CHANGED: [(u32, &str, &str); 9] = [
 ];
 
 /// Puts a text behind another, with a line in the place of one, counted from 0.
-fn push_with_line(changed: &mut String, text: &str, place: u32, line: &str) -> Result<(), Fail> {
+pub(crate) fn push_with_line(
+    changed: &mut String,
+    text: &str,
+    place: u32,
+    line: &str,
+) -> Result<(), Fail> {
     let mut here: u32 = 0;
     for old in text.split('\n') {
         changed.push_str(if here == place { line } else { old })?;

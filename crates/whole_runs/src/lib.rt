@@ -12,6 +12,10 @@ mod limits;
 #[cfg(test)]
 mod models;
 #[cfg(test)]
+mod order;
+#[cfg(test)]
+mod refusals;
+#[cfg(test)]
 mod rows;
 #[cfg(test)]
 mod tables;

@@ -1,7 +1,8 @@
-// Models of the greatest size, and of one more.
+// Models of the greatest size, and of one more; files that are too long.
 use crate::models;
 use crate::rows::{Row, answers, put_files, run};
 use room_edge::MemoryRoom;
+use std::alloc::Global;
 use std::process::Abort;
 use std::test::Fail;
 
@@ -21,7 +22,7 @@ struct Large<'a> {
 }
 
 /// Models of the greatest size, each with one that is larger.
-const LARGE: [Large<'static>; 8] = [
+const LARGE: [Large<'static>; 10] = [
     // A number in as many parentheses as there may be, and in one more.
     Large {
         parts: &[
@@ -78,6 +79,21 @@ const LARGE: [Large<'static>; 8] = [
         parts: &[(models::RULED, 1), ("rule : 0 100 { t }\n", 1025)],
         shown: "",
         complained: "model refused: line 1034: 26 TooLarge\n",
+    },
+    // As many offsets as a group may have, and one more.
+    Large {
+        parts: &[(models::OFFSETS, 1), (models::ANY_RULE, 1)],
+        shown: ONE_CYCLE,
+        complained: "",
+    },
+    Large {
+        parts: &[
+            (models::OFFSETS, 1),
+            ("neighbors : g(1,0)\n", 1),
+            (models::ANY_RULE, 1),
+        ],
+        shown: "",
+        complained: "model refused: line 3: 26 TooLarge\n",
     },
     // As many paths of links as there may be, and twice as many.
     Large {
@@ -175,4 +191,100 @@ fn blinks(rt: &(impl Abort + AllocGlobal), room: &mut MemoryRoom) -> Result<(), 
 fn a_blinker_in_a_quiet_space(rt: HostRuntime) -> Result<(), Fail> {
     let mut room = MemoryRoom::new(rt.alloc(), 4096);
     blinks(&rt, &mut room)
+}
+
+/// Files of a run that reads all three.
+const READ_FILES: [(&str, &str); 3] = [
+    ("m.ma", models::MAPPED),
+    ("v.map", "0 1"),
+    ("e.txt", "00:00:00:000 p 1\n"),
+];
+
+/// The words of that run.
+const READ_WORDS: &str = "cdpp -m m.ma -t 00:00:00:000 -e e.txt";
+
+/// 64 bytes of a comment.
+const COMMENT: &str = "%%%%%%%%%%%%%%%%%%%%%%%%%%%%%%%%%%%%%%%%%%%%%%%%%%%%%%%%%%%%%%%%";
+
+/// Four events.
+const EVENTS: &str = "0:0:0:0 p 1
+0:0:0:0 p 1
+0:0:0:0 p 1
+0:0:0:0 p 1
+";
+
+/// Parts of a text that are a byte more than a file may have.
+const LONG_TEXT: [(&str, u32); 2] = [(COMMENT, 262_144), ("%", 1)];
+
+/// Parts of a text that are an event more than a file may have.
+const MANY_EVENTS: [(&str, u32); 2] = [(EVENTS, 262_144), ("0:0:0:0 p 1\n", 1)];
+
+/// How a file is refused that is not as it should be: its name, the parts of its text, each so many
+/// times, the status and the complaint.
+type Long<'a> = (&'a str, &'a [(&'a str, u32)], u8, &'a str);
+
+/// Files that are too long, events that are too many, and values that are too few.
+const LONG: [Long<'static>; 5] = [
+    ("m.ma", &LONG_TEXT, 6, "model refused: line 0: 27 TooLong\n"),
+    (
+        "v.map",
+        &LONG_TEXT,
+        6,
+        "model refused: line 7: 27 TooLong\n",
+    ),
+    (
+        "v.map",
+        &[("1", 1)],
+        6,
+        "model refused: line 7: 25 BadInitial\n",
+    ),
+    (
+        "e.txt",
+        &LONG_TEXT,
+        7,
+        "events refused: line 0: 3 TooLarge\n",
+    ),
+    (
+        "e.txt",
+        &MANY_EVENTS,
+        7,
+        "events refused: line 1048577: 3 TooLarge\n",
+    ),
+];
+
+/// A text of these parts, each so many times.
+fn joined(alloc: Global, parts: &[(&str, u32)]) -> Result<String, Fail> {
+    let mut text = String::new(alloc);
+    for (part, count) in parts {
+        push_times(&mut text, part, *count)?;
+    }
+    Ok(text)
+}
+
+/// Runs with one file that is refused.
+fn long_is_refused(
+    rt: &(impl Abort + AllocGlobal),
+    room: &mut MemoryRoom,
+    long: &Long<'_>,
+) -> Result<(), Fail> {
+    let (name, parts, wanted, complained) = *long;
+    let text = joined(rt.alloc(), parts)?;
+    put_files(room, &READ_FILES)?;
+    room.put_file(name, text.as_bytes())?;
+    let status = run(rt.alloc(), READ_WORDS, room)?;
+    assert_eq!(rt;
+        (status, room.complained()),
+        (wanted, complained.as_bytes()),
+        "{complained}"
+    );
+    Ok(())
+}
+
+#[test]
+fn long_files_are_refused(rt: HostRuntime) -> Result<(), Fail> {
+    for long in &LONG {
+        let mut room = MemoryRoom::new(rt.alloc(), 65536);
+        long_is_refused(&rt, &mut room, long)?;
+    }
+    Ok(())
 }

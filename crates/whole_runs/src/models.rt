@@ -629,3 +629,94 @@ hold : red 00:00:00:030 1 green
 hold : green 00:00:00:050 2 red
 take : green a 9 red
 ";
+
+/// A cell with as many offsets as a group may have, before what follows them.
+pub(crate) const OFFSETS: &str = "[top]
+components : g
+[g]
+type : cell
+dim : (1,1)
+neighbors : g(0,-64) g(0,-63) g(0,-62) g(0,-61) g(0,-60) g(0,-59) g(0,-58) g(0,-57)
+neighbors : g(0,-56) g(0,-55) g(0,-54) g(0,-53) g(0,-52) g(0,-51) g(0,-50) g(0,-49)
+neighbors : g(0,-48) g(0,-47) g(0,-46) g(0,-45) g(0,-44) g(0,-43) g(0,-42) g(0,-41)
+neighbors : g(0,-40) g(0,-39) g(0,-38) g(0,-37) g(0,-36) g(0,-35) g(0,-34) g(0,-33)
+neighbors : g(0,-32) g(0,-31) g(0,-30) g(0,-29) g(0,-28) g(0,-27) g(0,-26) g(0,-25)
+neighbors : g(0,-24) g(0,-23) g(0,-22) g(0,-21) g(0,-20) g(0,-19) g(0,-18) g(0,-17)
+neighbors : g(0,-16) g(0,-15) g(0,-14) g(0,-13) g(0,-12) g(0,-11) g(0,-10) g(0,-9)
+neighbors : g(0,-8) g(0,-7) g(0,-6) g(0,-5) g(0,-4) g(0,-3) g(0,-2) g(0,-1)
+neighbors : g(0,0) g(0,1) g(0,2) g(0,3) g(0,4) g(0,5) g(0,6) g(0,7)
+neighbors : g(0,8) g(0,9) g(0,10) g(0,11) g(0,12) g(0,13) g(0,14) g(0,15)
+neighbors : g(0,16) g(0,17) g(0,18) g(0,19) g(0,20) g(0,21) g(0,22) g(0,23)
+neighbors : g(0,24) g(0,25) g(0,26) g(0,27) g(0,28) g(0,29) g(0,30) g(0,31)
+neighbors : g(0,32) g(0,33) g(0,34) g(0,35) g(0,36) g(0,37) g(0,38) g(0,39)
+neighbors : g(0,40) g(0,41) g(0,42) g(0,43) g(0,44) g(0,45) g(0,46) g(0,47)
+neighbors : g(0,48) g(0,49) g(0,50) g(0,51) g(0,52) g(0,53) g(0,54) g(0,55)
+neighbors : g(0,56) g(0,57) g(0,58) g(0,59) g(0,60) g(0,61) g(0,62) g(0,63)
+";
+
+/// Rules that give 0, and the key that names them.
+pub(crate) const ANY_RULE: &str = "localtransition : r
+[r]
+rule : 0 100 { t }
+";
+
+/// Two cells whose values stand in a file.
+pub(crate) const MAPPED: &str = "[top]
+components : g
+in : p
+[g]
+type : cell
+dim : (1,2)
+initialmapvalue : v.map
+localtransition : r
+[r]
+rule : 0 100 { t }
+";
+
+/// A cell that goes back in time.
+pub(crate) const BACK: &str = "[top]
+components : g
+[g]
+type : cell
+dim : (1,1)
+neighbors : g(0,0)
+initialvalue : 0
+localtransition : r
+[r]
+rule : 1 { -10 } { t }
+";
+
+/// A cell whose delay is `?`.
+pub(crate) const NO_TIME: &str = "[top]
+components : g
+[g]
+type : cell
+dim : (1,1)
+neighbors : g(0,0)
+initialvalue : 0
+localtransition : r
+[r]
+rule : 1 { ? } { t }
+";
+
+/// A cell whose delay is a part of a millisecond.
+pub(crate) const HALF: &str = "[top]
+components : g
+[g]
+type : cell
+dim : (1,1)
+neighbors : g(0,0)
+initialvalue : 0
+localtransition : r
+[r]
+rule : 1 { 1 / 2 } { t }
+";
+
+/// A generator that grows too large.
+pub(crate) const GROWING: &str = "[top]
+components : g@generator
+[g]
+period : 00:00:00:010
+value : 6000000000
+step : 6000000000
+";

@@ -278,7 +278,7 @@ S / 00:00:00:050 / g(0,0) / 3.00000 / 00:00:00:110
 ];
 
 /// Runs that a limit, a rule or a value stops, and the largest value.
-pub(crate) const RUNS_STOP_EARLY: [Row<'static>; 5] = [
+pub(crate) const RUNS_STOP_EARLY: [Row<'static>; 9] = [
     Row {
         files: &[("k.ma", models::FLIPPING)],
         words: "cdpp -m k.ma -t 00:00:00:100 -l log.txt -c 5",
@@ -343,6 +343,38 @@ Y / 00:00:00:000 / c / out / 6000000000.00000
 ",
             ),
         ],
+    },
+    Row {
+        files: &[("k.ma", models::BACK)],
+        words: "cdpp -m k.ma -t 00:00:00:100 -l log.txt",
+        status: 10,
+        shown: "",
+        complained: "bad delay: g(0,0) at 00:00:00:000: -10.00000\n",
+        made: &[("log.txt", "")],
+    },
+    Row {
+        files: &[("k.ma", models::NO_TIME)],
+        words: "cdpp -m k.ma -t 00:00:00:100 -l log.txt",
+        status: 10,
+        shown: "",
+        complained: "bad delay: g(0,0) at 00:00:00:000: ?\n",
+        made: &[("log.txt", "")],
+    },
+    Row {
+        files: &[("k.ma", models::HALF)],
+        words: "cdpp -m k.ma -t 00:00:00:100 -l log.txt",
+        status: 10,
+        shown: "",
+        complained: "bad delay: g(0,0) at 00:00:00:000: 0.50000\n",
+        made: &[("log.txt", "")],
+    },
+    Row {
+        files: &[("k.ma", models::GROWING)],
+        words: "cdpp -m k.ma -t 00:00:00:100 -l log.txt",
+        status: 9,
+        shown: "",
+        complained: "overflow: g at 00:00:00:000\n",
+        made: &[("log.txt", "")],
     },
 ];
 
