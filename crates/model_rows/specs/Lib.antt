@@ -3,3 +3,4 @@ pub mod Phases
 pub mod Steps
 pub mod Long
 pub mod Limits
+pub mod LineBytes

@@ -4,6 +4,7 @@ ghost use Rattle.model_rows.specs.Phases.{PhasesFollow};
 ghost use Rattle.model_rows.specs.Steps.{StepsFollow};
 ghost use Rattle.model_rows.specs.Long.{LongFilesAreRefused};
 ghost use Rattle.model_rows.specs.Limits.{LimitsAreRefused};
+ghost use Rattle.model_rows.specs.LineBytes.{BytesAreLimited};
 
 /// Kinds of refusals, each at its line.
 pub fn kinds_are_shown()
@@ -29,4 +30,9 @@ pub fn long_files_are_refused()
 /// there are.
 pub fn limits_are_refused()
     ensures { LimitsAreRefused }
+{}
+
+/// A line holds bytes from 32 to 126 and tabs, and none of the bytes next to them.
+pub fn bytes_are_limited()
+    ensures { BytesAreLimited }
 {}
