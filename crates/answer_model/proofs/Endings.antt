@@ -11,6 +11,8 @@ use Rattle.answer_model.specs.Headline.{Begins, Writes}
 use Rattle.answer_model.specs.Outcome.{Did, HasMore, Ending, as_answered, reading_failed, writing_failed, complaining_failed, memory_failed, Complaint, of_answer, of_reading, of_writing, FallsShort, IsBegun, IsLast, Lacks, a_file, the_output, Outcome}
 use Rattle.answer_model.specs.Steps.{is_made, did_nothing, and_tried, and_created, and_appended, and_showed, Tried, Created, Appended, Showed, Complained}
 use Rattle.answer_model.specs.Endings.{Says, whole, cut, unsaid, ShowsEnd, all_shown, stopped, unshown, IsOnWay, LeadsTo, EndsWith, StepsLead, EndingsFollow}
+use Rattle.answer_model.specs.declared.status.Status.{Status}
+use Rattle.answer_model.specs.declared.status.Status.TheVariants.{ReadFault, WriteFault, NoMemory}
 use Rattle.answer_model.proofs.Outcomes.{whole_begun, none_begun, writes}
 use Rattle.answer_model.proofs.Steps.{steps_add}
 
@@ -43,7 +45,7 @@ lacks_too a did line _ (the_output made shown) = the_output made shown
 
 -- a line that is not said whole
 short_cut : (a : Answer) (did : Did) (old now new : Outside) (line part : Bytes) → IsOnWay a did old now → IsBegun a did → ((more : Bytes) → Complaint a (with_line more did) line)
-    → FallsShort part line → Complained part now new → WriteFaultCounted now new → ComplaintFaultCounted now new → Outcome a old new 5
+    → FallsShort part line → Complained part now new → WriteFaultCounted now new → ComplaintFaultCounted now new → Outcome a old new WriteFault
 short_cut a did old now new line part way begun may short said writes complaints =
     record {
       did = with_line part did;
@@ -55,14 +57,14 @@ short_cut a did old now new line part way begun may short said writes complaints
     }
 
 not_said : (a : Answer) (did : Did) (old now new : Outside) (line part : Bytes) → IsOnWay a did old now → IsBegun a did → ((more : Bytes) → Complaint a (with_line more did) line)
-    → Begins part line → Complained part now new → Outcome a old new 12
+    → Begins part line → Complained part now new → Outcome a old new NoMemory
 not_said a did old now new line part way begun may begins said =
     record { did = with_line part did; more = complained_more a did old now new part way said; inputs = way.inputs; ending = memory_failed begun (may part) begins }
 
 as_shown : (a : Answer) (did : Did) (old now : Outside) → IsOnWay a did old now → did.made ≡ a.made → did.shown ≡ a.shown → a.complained ≡ [] → Outcome a old now a.status
 as_shown a did old now way made shown none = record { did = did; more = way.more; inputs = way.inputs; ending = as_answered made shown (way.quiet ∙ sym none) }
 
-said_way : (a : Answer) (did : Did) (old now new : Outside) (status : ℕ) → IsOnWay a did old now → did.made ≡ a.made → did.shown ≡ a.shown → Says a.complained a.status now new status → Outcome a old new status
+said_way : (a : Answer) (did : Did) (old now new : Outside) (status : Status) → IsOnWay a did old now → did.made ≡ a.made → did.shown ≡ a.shown → Says a.complained a.status now new status → Outcome a old new status
 said_way a did old now new _ way made shown (whole said keeps) =
     record { did = with_line a.complained did; more = complained_more a did old now new a.complained way said; inputs = way.inputs; ending = as_answered made shown refl }
 said_way a did old now new _ way made shown (cut part short said writes complaints) =
@@ -70,10 +72,10 @@ said_way a did old now new _ way made shown (cut part short said writes complain
 said_way a did old now new _ way made shown (unsaid part begins said) =
     not_said a did old now new a.complained part way (whole_begun a did made shown) (λ more. of_answer) begins said
 
-as_said : (a : Answer) (did : Did) (now new : Outside) (status : ℕ) → did.made ≡ a.made → did.shown ≡ a.shown → Says a.complained a.status now new status → EndsWith a did now new status
+as_said : (a : Answer) (did : Did) (now new : Outside) (status : Status) → did.made ≡ a.made → did.shown ≡ a.shown → Says a.complained a.status now new status → EndsWith a did now new status
 as_said a did now new status made shown says = λ start way. said_way a did start now new status way made shown says
 
-after_reading : (a : Answer) (did : Did) (old now new : Outside) (name : Word) (status : ℕ) → IsOnWay a did old now → did.made ≡ [] → did.shown ≡ [] → IsLast name did.tried → ReadFaultCounted old now → Says (read_fault_line name) 4 now new status → Outcome a old new status
+after_reading : (a : Answer) (did : Did) (old now new : Outside) (name : Word) (status : Status) → IsOnWay a did old now → did.made ≡ [] → did.shown ≡ [] → IsLast name did.tried → ReadFaultCounted old now → Says (read_fault_line name) ReadFault now new status → Outcome a old new status
 after_reading a did old now new name _ way made shown last rose (whole said keeps) =
     record {
       did = with_line (read_fault_line name) did;
@@ -86,7 +88,7 @@ after_reading a did old now new name _ way made shown last rose (cut part short 
 after_reading a did old now new name _ way made shown last rose (unsaid part begins said) =
     not_said a did old now new (read_fault_line name) part way (none_begun a did made shown) (λ more. of_reading last) begins said
 
-after_writing : (a : Answer) (did : Did) (old now new : Outside) (name : Word) (status : ℕ) → IsOnWay a did old now → IsBegun a did → Lacks a did name → WriteFaultCounted old now → Says (write_fault_line name) 5 now new status → Outcome a old new status
+after_writing : (a : Answer) (did : Did) (old now new : Outside) (name : Word) (status : Status) → IsOnWay a did old now → IsBegun a did → Lacks a did name → WriteFaultCounted old now → Says (write_fault_line name) WriteFault now new status → Outcome a old new status
 after_writing a did old now new name _ way begun lacks rose (whole said keeps) =
     record {
       did = with_line (write_fault_line name) did;
@@ -99,7 +101,7 @@ after_writing a did old now new name _ way begun lacks rose (cut part short said
 after_writing a did old now new name _ way begun lacks rose (unsaid part begins said) =
     not_said a did old now new (write_fault_line name) part way begun (λ more. of_writing (lacks_too a did more name lacks)) begins said
 
-out_of_memory : (a : Answer) (did : Did) (now : Outside) → IsBegun a did → EndsWith a did now now 12
+out_of_memory : (a : Answer) (did : Did) (now : Outside) → IsBegun a did → EndsWith a did now now NoMemory
 out_of_memory a did now begun =
     λ start way. record { did = did; more = way.more; inputs = way.inputs; ending = memory_failed begun of_answer (a.complained, ap (λ c. c ++ a.complained) (sym way.quiet)) }
 
@@ -175,7 +177,7 @@ part_shown a did bytes part made shown (rest, is) =
 output_lacks : (a : Answer) (did : Did) (bytes part : Bytes) → did.made ≡ a.made → a.shown ≡ did.shown ++ bytes → FallsShort part bytes → Lacks a (and_showed part did) (codes "standard output")
 output_lacks a did bytes part made shown short = the_output made (λ e. short.1 (append_cancel_left did.shown part bytes (e ∙ shown)))
 
-ended_way : (a : Answer) (did : Did) (old now new : Outside) (bytes : Bytes) (status : ℕ) → IsOnWay a did old now → did.made ≡ a.made → a.shown ≡ did.shown ++ bytes → a.complained ≡ [] → ShowsEnd bytes a.status now new status → Outcome a old new status
+ended_way : (a : Answer) (did : Did) (old now new : Outside) (bytes : Bytes) (status : Status) → IsOnWay a did old now → did.made ≡ a.made → a.shown ≡ did.shown ++ bytes → a.complained ≡ [] → ShowsEnd bytes a.status now new status → Outcome a old new status
 ended_way a did old now new bytes _ way made all none (all_shown showed keeps) =
     as_shown a (and_showed bytes did) old new (show a did now new bytes showed keeps old way) made (sym all) none
 ended_way a did old now new bytes status way made all none (stopped part mid short showed keeps rose says) =
@@ -184,17 +186,17 @@ ended_way a did old now new bytes status way made all none (stopped part mid sho
 ended_way a did old now new bytes _ way made all none (unshown part begins showed keeps) =
     out_of_memory a (and_showed part did) new (part_shown a did bytes part made all begins) old (show a did now new part showed keeps old way)
 
-as_ended : (a : Answer) (did : Did) (now new : Outside) (bytes : Bytes) (status : ℕ) → did.made ≡ a.made → a.shown ≡ did.shown ++ bytes → a.complained ≡ [] → ShowsEnd bytes a.status now new status → EndsWith a did now new status
+as_ended : (a : Answer) (did : Did) (now new : Outside) (bytes : Bytes) (status : Status) → did.made ≡ a.made → a.shown ≡ did.shown ++ bytes → a.complained ≡ [] → ShowsEnd bytes a.status now new status → EndsWith a did now new status
 as_ended a did now new bytes status made all none ends = λ start way. ended_way a did start now new bytes status way made all none ends
 
-sure_ending : (a : Answer) (old new : Outside) (did : Did) (status : ℕ) → HasMore did old new → Ending a old new did status → ¬ ReadFaultCounted old new → ¬ WriteFaultCounted old new → (status ≡ 12) ⊎ Writes a old new status
+sure_ending : (a : Answer) (old new : Outside) (did : Did) (status : Status) → HasMore did old new → Ending a old new did status → ¬ ReadFaultCounted old new → ¬ WriteFaultCounted old new → (status ≡ NoMemory) ⊎ Writes a old new status
 sure_ending a old new did _ more (as_answered m s c) no_read no_write = inr (writes a old new did more m s c)
 sure_ending a old new did _ more (reading_failed rose m s l c) no_read no_write = absurd (no_read rose)
 sure_ending a old new did _ more (writing_failed rose b l c) no_read no_write = absurd (no_write rose)
 sure_ending a old new did _ more (complaining_failed rose also b l c) no_read no_write = absurd (no_write rose)
 sure_ending a old new did _ more (memory_failed b l c) no_read no_write = inl refl
 
-sure : (a : Answer) (old new : Outside) (status : ℕ) → Outcome a old new status → ¬ ReadFaultCounted old new → ¬ WriteFaultCounted old new → (status ≡ 12) ⊎ Writes a old new status
+sure : (a : Answer) (old new : Outside) (status : Status) → Outcome a old new status → ¬ ReadFaultCounted old new → ¬ WriteFaultCounted old new → (status ≡ NoMemory) ⊎ Writes a old new status
 sure a old new status o = sure_ending a old new o.did status o.more o.ending
 
 pub endings_follow : EndingsFollow

@@ -20,6 +20,8 @@ use Rattle.rule_syntax.specs.Reading.{written_rule}
 use Rattle.rule_syntax.specs.RuleOf.{rule_of}
 use Rattle.answer_model.specs.Outcome.{Outcome, a_file, the_output, of_answer, as_answered, reading_failed, writing_failed, complaining_failed}
 use Rattle.answer_model.specs.Programs.{CdppEnds, CdppCauses}
+use Rattle.answer_model.specs.declared.status.Status.{Status}
+use Rattle.answer_model.specs.declared.status.Status.TheVariants.{Done, Usage, ReadFault, WriteFault}
 use Rattle.answer_model.specs.OutcomeRows.{before, with_log, cut, not_made, not_shown, no_complaint, whole, unread, asks, asks_no_time}
 
 abbrev answered : Answer
@@ -60,7 +62,7 @@ none_is_whole (k, lt, e) = absurd (omega arith)
 abbrev cut_to : Bytes → Outside
 cut_to part = record (with_log ((codes "log.txt", part) ∷ []) [] (codes "write fault: log.txt\n")) { write_faults = 1 }
 
-cut_by : (part rest : Bytes) → line_log ≡ part ++ rest → length part < 225 → Outcome answered before (cut_to part) 5
+cut_by : (part rest : Bytes) → line_log ≡ part ++ rest → length part < 225 → Outcome answered before (cut_to part) WriteFault
 unfolding streams
 cut_by part rest whole short =
     record {
@@ -70,7 +72,7 @@ cut_by part rest whole short =
       ending = writing_failed {name = codes "log.txt"} (omega arith) ((refl, (rest, whole), tt), (codes "end 00:00:00:100 cycles 2\n", refl)) (a_file {bytes = line_log} (0, omega arith, refl) (not_whole part short)) refl;
     }
 
-not_made_by : Outcome answered before not_made 5
+not_made_by : Outcome answered before not_made WriteFault
 unfolding streams
 not_made_by =
     record {
@@ -80,7 +82,7 @@ not_made_by =
       ending = writing_failed {name = codes "log.txt"} (omega arith) (tt, (codes "end 00:00:00:100 cycles 2\n", refl)) (a_file {bytes = line_log} (0, omega arith, refl) none_is_whole) refl;
     }
 
-not_shown_by : Outcome answered before not_shown 5
+not_shown_by : Outcome answered before not_shown WriteFault
 unfolding streams
 not_shown_by =
     record {
@@ -93,7 +95,7 @@ not_shown_by =
     nothing_is_shown : ◌≡◌ {A = ℕ} 0 26 → ⊥
     nothing_is_shown e = omega arith
 
-whole_by : Outcome answered before whole 0
+whole_by : Outcome answered before whole Done
 unfolding streams
 whole_by =
     record {
@@ -103,29 +105,29 @@ whole_by =
       ending = as_answered refl refl refl;
     }
 
-of_answered : (after : Outside) (status : ℕ) → Outcome answered before after status → CdppEnds (words asks) boxes before after status
+of_answered : (after : Outside) (status : Status) → Outcome answered before after status → CdppEnds (words asks) boxes before after status
 of_answered after status o = subst (λ a. Outcome a before after status) (sym is_answered) o
 
-pub first_append : CdppEnds (words asks) boxes before (cut 0) 5
-first_append = of_answered (cut 0) 5 (cut_by (take 0 line_log) (drop 0 line_log) refl (omega arith))
+pub first_append : CdppEnds (words asks) boxes before (cut 0) WriteFault
+first_append = of_answered (cut 0) WriteFault (cut_by (take 0 line_log) (drop 0 line_log) refl (omega arith))
 
-pub second_append : CdppEnds (words asks) boxes before (cut 64) 5
-second_append = of_answered (cut 64) 5 (cut_by (take 64 line_log) (drop 64 line_log) refl (omega arith))
+pub second_append : CdppEnds (words asks) boxes before (cut 64) WriteFault
+second_append = of_answered (cut 64) WriteFault (cut_by (take 64 line_log) (drop 64 line_log) refl (omega arith))
 
-pub third_append : CdppEnds (words asks) boxes before (cut 128) 5
-third_append = of_answered (cut 128) 5 (cut_by (take 128 line_log) (drop 128 line_log) refl (omega arith))
+pub third_append : CdppEnds (words asks) boxes before (cut 128) WriteFault
+third_append = of_answered (cut 128) WriteFault (cut_by (take 128 line_log) (drop 128 line_log) refl (omega arith))
 
-pub fourth_append : CdppEnds (words asks) boxes before (cut 135) 5
-fourth_append = of_answered (cut 135) 5 (cut_by (take 135 line_log) (drop 135 line_log) refl (omega arith))
+pub fourth_append : CdppEnds (words asks) boxes before (cut 135) WriteFault
+fourth_append = of_answered (cut 135) WriteFault (cut_by (take 135 line_log) (drop 135 line_log) refl (omega arith))
 
-pub fifth_append : CdppEnds (words asks) boxes before (cut 199) 5
-fifth_append = of_answered (cut 199) 5 (cut_by (take 199 line_log) (drop 199 line_log) refl (omega arith))
+pub fifth_append : CdppEnds (words asks) boxes before (cut 199) WriteFault
+fifth_append = of_answered (cut 199) WriteFault (cut_by (take 199 line_log) (drop 199 line_log) refl (omega arith))
 
-pub no_log : CdppEnds (words asks) boxes before not_made 5
-no_log = of_answered not_made 5 not_made_by
+pub no_log : CdppEnds (words asks) boxes before not_made WriteFault
+no_log = of_answered not_made WriteFault not_made_by
 
-pub nothing_shown : CdppEnds (words asks) boxes before not_shown 5
-nothing_shown = of_answered not_shown 5 not_shown_by
+pub nothing_shown : CdppEnds (words asks) boxes before not_shown WriteFault
+nothing_shown = of_answered not_shown WriteFault not_shown_by
 
 -- ---- words that are refused, and a complaint that failed
 
@@ -133,7 +135,7 @@ abbrev usage_line : Bytes
 usage_line = ended (codes "usage: " ++ usage)
 
 abbrev refused_words : Answer
-refused_words = record { made = []; shown = []; complained = usage_line; status = 2; inputs = [] }
+refused_words = record { made = []; shown = []; complained = usage_line; status = Usage; inputs = [] }
 
 is_refused : answer (words asks_no_time) (folder (model line_model)) boxes ≡ refused_words
 unfolding command_of digits clap_on_literals asked_by answer_by
@@ -145,7 +147,7 @@ some_line e = absurd (no_bytes (ap length e))
     no_bytes : ◌≡◌ {A = ℕ} 0 (length usage_line) → ⊥
     no_bytes h = omega arith
 
-no_complaint_by : Outcome refused_words before no_complaint 5
+no_complaint_by : Outcome refused_words before no_complaint WriteFault
 unfolding streams
 no_complaint_by =
     record {
@@ -155,13 +157,13 @@ no_complaint_by =
       ending = complaining_failed {line = usage_line} (omega arith) (omega arith) (tt, ([], refl)) of_answer ((usage_line, refl), some_line);
     }
 
-pub nothing_complained : CdppEnds (words asks_no_time) boxes before no_complaint 5
-nothing_complained = subst (λ a. Outcome a before no_complaint 5) (sym is_refused) no_complaint_by
+pub nothing_complained : CdppEnds (words asks_no_time) boxes before no_complaint WriteFault
+nothing_complained = subst (λ a. Outcome a before no_complaint WriteFault) (sym is_refused) no_complaint_by
 
-pub complete : CdppEnds (words asks) boxes before whole 0
-complete = subst (λ a. Outcome a before whole 0) (sym is_answered) whole_by
+pub complete : CdppEnds (words asks) boxes before whole Done
+complete = subst (λ a. Outcome a before whole Done) (sym is_answered) whole_by
 
-unread_by : Outcome answered before unread 4
+unread_by : Outcome answered before unread ReadFault
 unfolding streams
 unread_by =
     record {
@@ -171,8 +173,8 @@ unread_by =
       ending = reading_failed {name = codes "m.ma"} (omega arith) refl refl refl refl;
     }
 
-pub not_read : CdppEnds (words asks) boxes before unread 4
-not_read = subst (λ a. Outcome a before unread 4) (sym is_answered) unread_by
+pub not_read : CdppEnds (words asks) boxes before unread ReadFault
+not_read = subst (λ a. Outcome a before unread ReadFault) (sym is_answered) unread_by
 
 abbrev is_given : {A : Type 0} → Option A → ℕ
 is_given None = 0
@@ -181,13 +183,10 @@ is_given (Some x) = 1
 not_none : {A : Type 0} (o : Option A) (x : A) → o ≡ Some x → o ≡ None → ⊥
 not_none o x e f = let one_is_none : ◌≡◌ {A = ℕ} 1 0 = sym (ap is_given e) ∙ ap is_given f in omega arith
 
-pub cut_causes : CdppCauses (words asks) before (cut 199) 5
+pub cut_causes : CdppCauses (words asks) before (cut 199) WriteFault
 cut_causes =
     record {
-      known = (6, omega arith, refl);
-      missing = λ e. absurd (omega arith);
-      read_fault = λ e. absurd (omega arith);
-      write_fault = λ e. omega arith;
-      usage = λ e. absurd (omega arith);
+      known = refl;
+      cause = omega arith;
       refused = λ e. absurd (not_none (asked (words asks)) plain_model is_asked e);
     }

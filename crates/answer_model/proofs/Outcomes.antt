@@ -1,13 +1,16 @@
 -- What follows from an outcome.
-use Rattle.std.proofs.Common.{◌≡◌, ◌≢◌, ℕ, Bool, true, false, [], ◌∷◌, ◌++◌, refl, sym, ap, ◌∙◌, subst, arith, inl, inr, ◌⊎◌}
+use Rattle.std.proofs.Common.{◌≡◌, ◌≢◌, Bool, true, false, [], ◌∷◌, ◌++◌, refl, sym, ap, ◌∙◌, subst, inl, inr, ◌⊎◌}
 use Rattle.std.specs.Bool.{OnFalse}
 use Rattle.std.proofs.lemmas.List.{append-nil}
 use Rattle.room_edge.specs.Faults.{Rose}
 use Rattle.room_edge.specs.Outside.{Outside, streams}
 use Rattle.room_edge.proofs.Adding.{streams-nil}
 use Rattle.answer_model.specs.Answer.{MadeFiles, Answer, names}
-use Rattle.answer_model.specs.Headline.{is_free, puts_all, BeginFiles, Writes, WritesPart, WritesNothing}
+use Rattle.answer_model.specs.Headline.{puts_all, BeginFiles, Writes, WritesPart, WritesNothing}
 use Rattle.answer_model.specs.Outcome.{Did, HasMore, Outcome, Ending, as_answered, reading_failed, writing_failed, complaining_failed, memory_failed, IsBegun, IsOwn, Complains, FollowsAnswer, IsComplete, IsExact, OutcomeLaws}
+use Rattle.answer_model.specs.declared.status.Status.{Status}
+use Rattle.answer_model.specs.declared.status.Status.TheVariants.{ReadFault, WriteFault, NoMemory}
+use Rattle.answer_model.specs.Status.{row_of, of_faults}
 
 -- ---- beginnings
 
@@ -51,57 +54,62 @@ on_false : (b : Bool) (P : Type 0) → P → OnFalse b P
 on_false true P p = tt
 on_false false P p = p
 
-not_that : {A : Type 0} (m n : ℕ) → m ≢ n → m ≡ n → A
-not_that m n h e = absurd (h e)
+not_both : {A : Type 0} (b : Bool) → b ≡ true → b ≡ false → A
+not_both true e f = absurd cc
+not_both false e f = absurd cc
 
-begun_by : (a : Answer) (old new : Outside) (did : Did) (status : ℕ) → Ending a old new did status → IsBegun a did
+-- an answer's own status is none of a fault
+not_own : {A : Type 0} (status fault : Status) → IsOwn status → of_faults (row_of fault).part ≡ true → status ≡ fault → A
+not_own status fault own free e = not_both (of_faults (row_of fault).part) free (subst IsOwn e own)
+
+begun_by : (a : Answer) (old new : Outside) (did : Did) (status : Status) → Ending a old new did status → IsBegun a did
 begun_by a old new did _ (as_answered m s c) = whole_begun a did m s
 begun_by a old new did _ (reading_failed rose m s l c) = none_begun a did m s
 begun_by a old new did _ (writing_failed rose b l c) = b
 begun_by a old new did _ (complaining_failed rose also b l c) = b
 begun_by a old new did _ (memory_failed b l c) = b
 
-own_by : (a : Answer) (old new : Outside) (did : Did) (status : ℕ) → HasMore did old new → Ending a old new did status → OnFalse (is_free status) (Writes a old new status)
-own_by a old new did _ more (as_answered m s c) = on_false (is_free a.status) (Writes a old new a.status) (writes a old new did more m s c)
+own_by : (a : Answer) (old new : Outside) (did : Did) (status : Status) → HasMore did old new → Ending a old new did status → OnFalse (of_faults (row_of status).part) (Writes a old new status)
+own_by a old new did _ more (as_answered m s c) = on_false (of_faults (row_of a.status).part) (Writes a old new a.status) (writes a old new did more m s c)
 own_by a old new did _ more (reading_failed rose m s l c) = tt
 own_by a old new did _ more (writing_failed rose b l c) = tt
 own_by a old new did _ more (complaining_failed rose also b l c) = tt
 own_by a old new did _ more (memory_failed b l c) = tt
 
-nothing_by : (a : Answer) (old new : Outside) (did : Did) (status : ℕ) → IsOwn a.status → HasMore did old new → Ending a old new did status → status ≡ 4 → WritesNothing old new
-nothing_by a old new did _ own more (as_answered m s c) = not_that a.status 4 own.0
+nothing_by : (a : Answer) (old new : Outside) (did : Did) (status : Status) → IsOwn a.status → HasMore did old new → Ending a old new did status → status ≡ ReadFault → WritesNothing old new
+nothing_by a old new did _ own more (as_answered m s c) = not_own a.status ReadFault own refl
 nothing_by a old new did _ own more (reading_failed rose m s l c) = λ e. writes_nothing old new did more m s
-nothing_by a old new did _ own more (writing_failed rose b l c) = λ e. absurd (omega arith)
-nothing_by a old new did _ own more (complaining_failed rose also b l c) = λ e. absurd (omega arith)
-nothing_by a old new did _ own more (memory_failed b l c) = λ e. absurd (omega arith)
+nothing_by a old new did _ own more (writing_failed rose b l c) = λ e. absurd cc
+nothing_by a old new did _ own more (complaining_failed rose also b l c) = λ e. absurd cc
+nothing_by a old new did _ own more (memory_failed b l c) = λ e. absurd cc
 
-read_by : (a : Answer) (old new : Outside) (did : Did) (status : ℕ) → IsOwn a.status → Ending a old new did status → status ≡ 4 → Rose old.read_faults new.read_faults
-read_by a old new did _ own (as_answered m s c) = not_that a.status 4 own.0
+read_by : (a : Answer) (old new : Outside) (did : Did) (status : Status) → IsOwn a.status → Ending a old new did status → status ≡ ReadFault → Rose old.read_faults new.read_faults
+read_by a old new did _ own (as_answered m s c) = not_own a.status ReadFault own refl
 read_by a old new did _ own (reading_failed rose m s l c) = λ e. rose
-read_by a old new did _ own (writing_failed rose b l c) = λ e. absurd (omega arith)
-read_by a old new did _ own (complaining_failed rose also b l c) = λ e. absurd (omega arith)
-read_by a old new did _ own (memory_failed b l c) = λ e. absurd (omega arith)
+read_by a old new did _ own (writing_failed rose b l c) = λ e. absurd cc
+read_by a old new did _ own (complaining_failed rose also b l c) = λ e. absurd cc
+read_by a old new did _ own (memory_failed b l c) = λ e. absurd cc
 
-write_by : (a : Answer) (old new : Outside) (did : Did) (status : ℕ) → IsOwn a.status → Ending a old new did status → status ≡ 5 → Rose old.write_faults new.write_faults
-write_by a old new did _ own (as_answered m s c) = not_that a.status 5 own.1
-write_by a old new did _ own (reading_failed rose m s l c) = λ e. absurd (omega arith)
+write_by : (a : Answer) (old new : Outside) (did : Did) (status : Status) → IsOwn a.status → Ending a old new did status → status ≡ WriteFault → Rose old.write_faults new.write_faults
+write_by a old new did _ own (as_answered m s c) = not_own a.status WriteFault own refl
+write_by a old new did _ own (reading_failed rose m s l c) = λ e. absurd cc
 write_by a old new did _ own (writing_failed rose b l c) = λ e. rose
 write_by a old new did _ own (complaining_failed rose also b l c) = λ e. rose
-write_by a old new did _ own (memory_failed b l c) = λ e. absurd (omega arith)
+write_by a old new did _ own (memory_failed b l c) = λ e. absurd cc
 
-complains_by : (a : Answer) (old new : Outside) (did : Did) (status : ℕ) → IsOwn a.status → HasMore did old new → Ending a old new did status → Complains a old new did status
+complains_by : (a : Answer) (old new : Outside) (did : Did) (status : Status) → IsOwn a.status → HasMore did old new → Ending a old new did status → Complains a old new did status
 complains_by a old new did _ own more (as_answered m s c) =
-    record { more = more; at_4 = not_that a.status 4 own.0; at_5 = not_that a.status 5 own.1; at_12 = not_that a.status 12 own.2 }
+    record { more = more; at_read_fault = not_own a.status ReadFault own refl; at_write_fault = not_own a.status WriteFault own refl; at_no_memory = not_own a.status NoMemory own refl }
 complains_by a old new did _ own more (reading_failed {name} rose m s l c) =
-    record { more = more; at_4 = λ e. (name, l, c); at_5 = λ e. absurd (omega arith); at_12 = λ e. absurd (omega arith) }
+    record { more = more; at_read_fault = λ e. (name, l, c); at_write_fault = λ e. absurd cc; at_no_memory = λ e. absurd cc }
 complains_by a old new did _ own more (writing_failed {name} rose b l c) =
-    record { more = more; at_4 = λ e. absurd (omega arith); at_5 = λ e. inl (name, l, c); at_12 = λ e. absurd (omega arith) }
+    record { more = more; at_read_fault = λ e. absurd cc; at_write_fault = λ e. inl (name, l, c); at_no_memory = λ e. absurd cc }
 complains_by a old new did _ own more (complaining_failed {line} rose also b l c) =
-    record { more = more; at_4 = λ e. absurd (omega arith); at_5 = λ e. inr (also, (line, l, c)); at_12 = λ e. absurd (omega arith) }
+    record { more = more; at_read_fault = λ e. absurd cc; at_write_fault = λ e. inr (also, (line, l, c)); at_no_memory = λ e. absurd cc }
 complains_by a old new did _ own more (memory_failed {line} b l c) =
-    record { more = more; at_4 = λ e. absurd (omega arith); at_5 = λ e. absurd (omega arith); at_12 = λ e. (line, l, c) }
+    record { more = more; at_read_fault = λ e. absurd cc; at_write_fault = λ e. absurd cc; at_no_memory = λ e. (line, l, c) }
 
-follows : (a : Answer) (old new : Outside) (status : ℕ) → IsOwn a.status → Outcome a old new status → FollowsAnswer a old new status
+follows : (a : Answer) (old new : Outside) (status : Status) → IsOwn a.status → Outcome a old new status → FollowsAnswer a old new status
 follows a old new status own o =
     record {
       own = own_by a old new o.did status o.more o.ending;
@@ -115,7 +123,7 @@ follows a old new status own o =
 
 -- ---- without a fault; and where nothing is free
 
-complete_by : (a : Answer) (old new : Outside) (did : Did) (status : ℕ) → Ending a old new did status → ¬ Rose old.read_faults new.read_faults → ¬ Rose old.write_faults new.write_faults → (status ≡ a.status) ⊎ (status ≡ 12)
+complete_by : (a : Answer) (old new : Outside) (did : Did) (status : Status) → Ending a old new did status → ¬ Rose old.read_faults new.read_faults → ¬ Rose old.write_faults new.write_faults → (status ≡ a.status) ⊎ (status ≡ NoMemory)
 complete_by a old new did _ (as_answered m s c) r w = inl refl
 complete_by a old new did _ (reading_failed rose m s l c) r w = absurd (r rose)
 complete_by a old new did _ (writing_failed rose b l c) r w = absurd (w rose)
@@ -125,7 +133,7 @@ complete_by a old new did _ (memory_failed b l c) r w = inr refl
 is_complete : IsComplete
 is_complete a old new status o = complete_by a old new o.did status o.ending
 
-exact_by : (a : Answer) (old new : Outside) (did : Did) (status : ℕ) → HasMore did old new → Ending a old new did status → status ≢ 4 → status ≢ 5 → status ≢ 12 → Writes a old new status
+exact_by : (a : Answer) (old new : Outside) (did : Did) (status : Status) → HasMore did old new → Ending a old new did status → status ≢ ReadFault → status ≢ WriteFault → status ≢ NoMemory → Writes a old new status
 exact_by a old new did _ more (as_answered m s c) p q r = writes a old new did more m s c
 exact_by a old new did _ more (reading_failed rose m s l c) p q r = absurd (p refl)
 exact_by a old new did _ more (writing_failed rose b l c) p q r = absurd (q refl)

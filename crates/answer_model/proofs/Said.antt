@@ -1,6 +1,6 @@
 -- What a complaint came to, and what the last bytes that are shown came to.
 use Rattle.std.proofs.Common.{◌≡◌, ℕ, ◌<◌, List, [], length, take, drop, refl, sym, ap, ◌∙◌, take-append-drop, arith}
-use Rattle.std.specs.Prelude.{Contains, codes}
+use Rattle.std.specs.Prelude.{Bool, codes}
 use Rattle.std.proofs.lemmas.List.{length-take-le}
 use Rattle.std.proofs.Math.Seq.{take-length}
 use Rattle.room_edge.specs.Faults.{WriteFaultCounted, ComplaintFaultCounted, KeepsWriteFaults}
@@ -10,6 +10,9 @@ use Rattle.room_edge.proofs.Only.{OnlyShown-refl, OnlyComplained-refl}
 use Rattle.answer_model.specs.Answer.{write_fault_line}
 use Rattle.answer_model.specs.Outcome.{FallsShort}
 use Rattle.answer_model.specs.Endings.{Says, whole, cut, unsaid, ShowsEnd, all_shown, stopped, unshown}
+use Rattle.answer_model.specs.declared.status.Status.{Status}
+use Rattle.answer_model.specs.declared.status.Status.TheVariants.{WriteFault, NoMemory}
+use Rattle.answer_model.specs.Status.{Part, IsOf}
 
 -- ---- pieces
 
@@ -22,46 +25,46 @@ short_of n bytes lt = ((drop n bytes, sym (take-append-drop n bytes)), shorter n
 
 -- ---- complaints
 
-pub said_whole : (old new : Outside) (line : List ℕ) (own : ℕ) → new.complained ≡ streams old.complained (take (length line) line) → OnlyComplained old new → KeepsWriteFaults old new → Says line own old new own
+pub said_whole : (old new : Outside) (line : List ℕ) (own : Status) → new.complained ≡ streams old.complained (take (length line) line) → OnlyComplained old new → KeepsWriteFaults old new → Says line own old new own
 said_whole old new line own is only keeps = whole (is ∙ ap (streams old.complained) (take-length line), only) keeps
 
-pub said_cut : (old new : Outside) (line : List ℕ) (own n : ℕ) → new.complained ≡ streams old.complained (take n line) → n < length line → OnlyComplained old new → WriteFaultCounted old new → ComplaintFaultCounted old new → Says line own old new 5
+pub said_cut : (old new : Outside) (line : List ℕ) (own : Status) (n : ℕ) → new.complained ≡ streams old.complained (take n line) → n < length line → OnlyComplained old new → WriteFaultCounted old new → ComplaintFaultCounted old new → Says line own old new WriteFault
 said_cut old new line own n is lt only writes complaints = cut (take n line) (short_of n line lt) (is, only) writes complaints
 
-pub said_part : (old new : Outside) (line : List ℕ) (own n : ℕ) → new.complained ≡ streams old.complained (take n line) → OnlyComplained old new → Says line own old new 12
+pub said_part : (old new : Outside) (line : List ℕ) (own : Status) (n : ℕ) → new.complained ≡ streams old.complained (take n line) → OnlyComplained old new → Says line own old new NoMemory
 said_part old new line own n is only = unsaid (take n line) (drop n line, sym (take-append-drop n line)) (is, only)
 
-pub said_nothing : (now : Outside) (line : List ℕ) (own : ℕ) → Says line own now now 12
+pub said_nothing : (now : Outside) (line : List ℕ) (own : Status) → Says line own now now NoMemory
 said_nothing now line own = unsaid [] (line, refl) (sym (streams-nil now.complained), OnlyComplained-refl now)
 
 -- the status is that of the line, of a write fault or of want of memory
-pub said_among : (statuses line : List ℕ) (own : ℕ) (old new : Outside) (status : ℕ) → Contains statuses own → Contains statuses 5 → Contains statuses 12 → Says line own old new status → Contains statuses status
-said_among statuses line own old new _ here fault memory (whole said keeps) = here
-said_among statuses line own old new _ here fault memory (cut part short said writes complaints) = fault
-said_among statuses line own old new _ here fault memory (unsaid part begins said) = memory
+pub said_among : (of : Part → Bool) (line : List ℕ) (own : Status) (old new : Outside) (status : Status) → IsOf of own → IsOf of WriteFault → IsOf of NoMemory → Says line own old new status → IsOf of status
+said_among of line own old new _ here fault memory (whole said keeps) = here
+said_among of line own old new _ here fault memory (cut part short said writes complaints) = fault
+said_among of line own old new _ here fault memory (unsaid part begins said) = memory
 
-pub said_only : (line : List ℕ) (own : ℕ) (old new : Outside) (status : ℕ) → Says line own old new status → OnlyComplained old new
+pub said_only : (line : List ℕ) (own : Status) (old new : Outside) (status : Status) → Says line own old new status → OnlyComplained old new
 said_only line own old new _ (whole said keeps) = said.1
 said_only line own old new _ (cut part short said writes complaints) = said.1
 said_only line own old new _ (unsaid part begins said) = said.1
 
 -- ---- the last bytes that are shown
 
-pub shown_whole : (old new : Outside) (bytes : List ℕ) (own : ℕ) → new.shown ≡ streams old.shown (take (length bytes) bytes) → OnlyShown old new → KeepsWriteFaults old new → ShowsEnd bytes own old new own
+pub shown_whole : (old new : Outside) (bytes : List ℕ) (own : Status) → new.shown ≡ streams old.shown (take (length bytes) bytes) → OnlyShown old new → KeepsWriteFaults old new → ShowsEnd bytes own old new own
 shown_whole old new bytes own is only keeps = all_shown (is ∙ ap (streams old.shown) (take-length bytes), only) keeps
 
-pub shown_stopped : (old mid new : Outside) (bytes : List ℕ) (own n status : ℕ) → mid.shown ≡ streams old.shown (take n bytes) → n < length bytes → OnlyShown old mid → KeepsWriteFaults old mid → WriteFaultCounted old mid
-    → Says (write_fault_line (codes "standard output")) 5 mid new status → ShowsEnd bytes own old new status
+pub shown_stopped : (old mid new : Outside) (bytes : List ℕ) (own : Status) (n : ℕ) (status : Status) → mid.shown ≡ streams old.shown (take n bytes) → n < length bytes → OnlyShown old mid → KeepsWriteFaults old mid → WriteFaultCounted old mid
+    → Says (write_fault_line (codes "standard output")) WriteFault mid new status → ShowsEnd bytes own old new status
 shown_stopped old mid new bytes own n status is lt only keeps rose says = stopped (take n bytes) mid (short_of n bytes lt) (is, only) keeps rose says
 
-pub shown_part : (old new : Outside) (bytes : List ℕ) (own n : ℕ) → new.shown ≡ streams old.shown (take n bytes) → OnlyShown old new → KeepsWriteFaults old new → ShowsEnd bytes own old new 12
+pub shown_part : (old new : Outside) (bytes : List ℕ) (own : Status) (n : ℕ) → new.shown ≡ streams old.shown (take n bytes) → OnlyShown old new → KeepsWriteFaults old new → ShowsEnd bytes own old new NoMemory
 shown_part old new bytes own n is only keeps = unshown (take n bytes) (drop n bytes, sym (take-append-drop n bytes)) (is, only) keeps
 
-pub shown_nothing : (now : Outside) (bytes : List ℕ) (own : ℕ) → ShowsEnd bytes own now now 12
+pub shown_nothing : (now : Outside) (bytes : List ℕ) (own : Status) → ShowsEnd bytes own now now NoMemory
 shown_nothing now bytes own = unshown [] (bytes, refl) (sym (streams-nil now.shown), OnlyShown-refl now) (omega arith)
 
-pub shown_among : (statuses bytes : List ℕ) (own : ℕ) (old new : Outside) (status : ℕ) → Contains statuses own → Contains statuses 5 → Contains statuses 12 → ShowsEnd bytes own old new status → Contains statuses status
-shown_among statuses bytes own old new _ here fault memory (all_shown showed keeps) = here
-shown_among statuses bytes own old new status here fault memory (stopped part mid short showed keeps rose says) =
-    said_among statuses (write_fault_line (codes "standard output")) 5 mid new status fault fault memory says
-shown_among statuses bytes own old new _ here fault memory (unshown part begins showed keeps) = memory
+pub shown_among : (of : Part → Bool) (bytes : List ℕ) (own : Status) (old new : Outside) (status : Status) → IsOf of own → IsOf of WriteFault → IsOf of NoMemory → ShowsEnd bytes own old new status → IsOf of status
+shown_among of bytes own old new _ here fault memory (all_shown showed keeps) = here
+shown_among of bytes own old new status here fault memory (stopped part mid short showed keeps rose says) =
+    said_among of (write_fault_line (codes "standard output")) WriteFault mid new status fault fault memory says
+shown_among of bytes own old new _ here fault memory (unshown part begins showed keeps) = memory

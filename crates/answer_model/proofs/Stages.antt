@@ -1,5 +1,5 @@
 -- Stages of a program: one after another, a file read, files made and written.
-use Rattle.std.proofs.Common.{◌≡◌, ◌≢◌, ℕ, zero, suc, Bool, true, false, Option, Some, None, List, [], ◌∷◌, ◌++◌, refl, sym, ap, ◌∙◌, subst, arith, ◌⊎◌, inl, inr}
+use Rattle.std.proofs.Common.{◌≡◌, ◌≢◌, zero, suc, Bool, true, false, Option, Some, None, List, [], ◌∷◌, ◌++◌, refl, sym, ap, ◌∙◌, subst, arith, ◌⊎◌, inl, inr}
 use Rattle.std.specs.List.{last_or}
 use Rattle.std.specs.Prelude.{codes, Contains, if◌then◌else◌}
 use Rattle.std.specs.Str.{bytes_eq}
@@ -15,6 +15,8 @@ use Rattle.answer_model.specs.Headline.{Begins}
 use Rattle.answer_model.specs.Outcome.{Did, IsBegun, Lacks, a_file, Outcome}
 use Rattle.answer_model.specs.Steps.{is_made, grown}
 use Rattle.answer_model.specs.Endings.{Says, whole, cut, unsaid, ShowsEnd, all_shown, stopped, unshown, looked_for, LeadsTo, EndsWith}
+use Rattle.answer_model.specs.declared.status.Status.{Status}
+use Rattle.answer_model.specs.declared.status.Status.TheVariants.{ReadFault, WriteFault, NoMemory}
 use Rattle.answer_model.proofs.Outcomes.{none_begun}
 use Rattle.answer_model.proofs.Steps.{steps_add}
 use Rattle.answer_model.proofs.Endings.{steps_lead, endings_follow, rose_later, rose_kept, le_same, le_more}
@@ -24,11 +26,11 @@ use Rattle.answer_model.proofs.Endings.{steps_lead, endings_follow, rose_later, 
 pub then_leads : (a : Answer) (did more most : Did) (old mid new : Outside) → LeadsTo a did more old mid → LeadsTo a more most mid new → LeadsTo a did most old new
 then_leads a did more most old mid new first second = λ start way. second start (first start way)
 
-pub then_ends : (a : Answer) (did more : Did) (old mid new : Outside) (status : ℕ) → LeadsTo a did more old mid → EndsWith a more mid new status → EndsWith a did old new status
+pub then_ends : (a : Answer) (did more : Did) (old mid new : Outside) (status : Status) → LeadsTo a did more old mid → EndsWith a more mid new status → EndsWith a did old new status
 then_ends a did more old mid new status first second = λ start way. second start (first start way)
 
 -- a stage that starts with nothing done
-pub at_start : (a : Answer) (old new : Outside) (status : ℕ) → EndsWith a (looked_for []) old new status → Outcome a old new status
+pub at_start : (a : Answer) (old new : Outside) (status : Status) → EndsWith a (looked_for []) old new status → Outcome a old new status
 at_start a old new status ends = ends old (steps_lead.start a old)
 
 -- ---- a file is read
@@ -43,14 +45,14 @@ pub was_tried : (a : Answer) (inputs : List Word) (old mid : Outside) (name : Wo
 was_tried a inputs old mid name begins tried only keeps = steps_lead.trying a (looked_for inputs) old mid name begins (tried, only) keeps
 
 -- the read failed, and a line tells of it
-pub read_failed : (a : Answer) (inputs : List Word) (old mid new : Outside) (name : Word) (status : ℕ) → Begins (inputs ++ name ∷ []) a.inputs → mid.tried ≡ old.tried ++ name ∷ [] → OnlyInput old mid → KeepsReadFaults old mid
-    → ReadFaultCounted old mid → Says (read_fault_line name) 4 mid new status → EndsWith a (looked_for inputs) old new status
+pub read_failed : (a : Answer) (inputs : List Word) (old mid new : Outside) (name : Word) (status : Status) → Begins (inputs ++ name ∷ []) a.inputs → mid.tried ≡ old.tried ++ name ∷ [] → OnlyInput old mid → KeepsReadFaults old mid
+    → ReadFaultCounted old mid → Says (read_fault_line name) ReadFault mid new status → EndsWith a (looked_for inputs) old new status
 read_failed a inputs old mid new name status begins tried only keeps rose says = λ start way.
     endings_follow.reading a (looked_for (inputs ++ name ∷ [])) start mid new name status (was_tried a inputs old mid name begins tried only keeps start way) refl refl
     (last_pushed None inputs name) (rose_later start.read_faults old.read_faults mid.read_faults way.reads rose) says
 
 -- the file was looked for, and the answer's line is said
-pub read_and_said : (a : Answer) (inputs : List Word) (old mid new : Outside) (name : Word) (status : ℕ) → Begins (inputs ++ name ∷ []) a.inputs → a.made ≡ [] → a.shown ≡ [] → mid.tried ≡ old.tried ++ name ∷ [] → OnlyInput old mid → KeepsReadFaults old mid
+pub read_and_said : (a : Answer) (inputs : List Word) (old mid new : Outside) (name : Word) (status : Status) → Begins (inputs ++ name ∷ []) a.inputs → a.made ≡ [] → a.shown ≡ [] → mid.tried ≡ old.tried ++ name ∷ [] → OnlyInput old mid → KeepsReadFaults old mid
     → Says a.complained a.status mid new status → EndsWith a (looked_for inputs) old new status
 read_and_said a inputs old mid new name status begins none quiet tried only keeps says =
     then_ends a (looked_for inputs) (looked_for (inputs ++ name ∷ [])) old mid new status (was_tried a inputs old mid name begins tried only keeps)
@@ -70,12 +72,12 @@ was_untried a did old mid same only keeps = λ start way.
 
 -- memory ran out, before the file was looked for or after it
 pub read_unread : (a : Answer) (inputs : List Word) (old mid : Outside) (name : Word) → Begins (inputs ++ name ∷ []) a.inputs → (mid.tried ≡ old.tried) ⊎ (mid.tried ≡ old.tried ++ name ∷ []) → OnlyInput old mid → KeepsReadFaults old mid
-    → EndsWith a (looked_for inputs) old mid 12
+    → EndsWith a (looked_for inputs) old mid NoMemory
 read_unread a inputs old mid name begins (inl same) only keeps =
-    then_ends a (looked_for inputs) (looked_for inputs) old mid mid 12 (was_untried a (looked_for inputs) old mid same only keeps) (endings_follow.memory a (looked_for inputs) mid (none_begun a (looked_for inputs) refl refl))
+    then_ends a (looked_for inputs) (looked_for inputs) old mid mid NoMemory (was_untried a (looked_for inputs) old mid same only keeps) (endings_follow.memory a (looked_for inputs) mid (none_begun a (looked_for inputs) refl refl))
 read_unread a inputs old mid name begins (inr tried) only keeps =
     let there = looked_for (inputs ++ name ∷ []) in
-    then_ends a (looked_for inputs) there old mid mid 12 (was_tried a inputs old mid name begins tried only keeps) (endings_follow.memory a there mid (none_begun a there refl refl))
+    then_ends a (looked_for inputs) there old mid mid NoMemory (was_tried a inputs old mid name begins tried only keeps) (endings_follow.memory a there mid (none_begun a there refl refl))
 
 -- ---- files are made and written
 
@@ -147,21 +149,21 @@ grown_at (f ∷ fs) after name part bytes off = by (is_made name (fs ++ (name, p
     by false here e rest = cc
 
 -- a write failed, and a line tells of what lacks bytes
-pub write_failed : (a : Answer) (did more : Did) (old mid new : Outside) (name : Word) (status : ℕ) → LeadsTo a did more old mid → WriteFaultCounted old mid → IsBegun a more → Lacks a more name → Says (write_fault_line name) 5 mid new status → EndsWith a did old new status
+pub write_failed : (a : Answer) (did more : Did) (old mid new : Outside) (name : Word) (status : Status) → LeadsTo a did more old mid → WriteFaultCounted old mid → IsBegun a more → Lacks a more name → Says (write_fault_line name) WriteFault mid new status → EndsWith a did old new status
 write_failed a did more old mid new name status leads rose begun lacks says = λ start way.
     endings_follow.writing a more start mid new name status (leads start way) begun lacks (rose_later start.write_faults old.write_faults mid.write_faults way.writes rose) says
 
 -- ---- causes
 
--- 5 comes of a counted fault of writing: of the line, or of what it tells
-pub rose_by_said : (line : Bytes) (own : ℕ) (old mid new : Outside) (status : ℕ) → KeepsWriteFaults old mid → (own ≡ 5 → WriteFaultCounted old mid) → Says line own mid new status → status ≡ 5 → WriteFaultCounted old new
+-- the status of a write fault comes of a counted fault of writing: of the line, or of what it tells
+pub rose_by_said : (line : Bytes) (own : Status) (old mid new : Outside) (status : Status) → KeepsWriteFaults old mid → (own ≡ WriteFault → WriteFaultCounted old mid) → Says line own mid new status → status ≡ WriteFault → WriteFaultCounted old new
 rose_by_said line own old mid new _ before rose (whole said keeps) five = rose_kept old.write_faults mid.write_faults new.write_faults (rose five) keeps
 rose_by_said line own old mid new _ before rose (cut part short said writes complaints) five = rose_later old.write_faults mid.write_faults new.write_faults before writes
-rose_by_said line own old mid new _ before rose (unsaid part begins said) five = absurd (omega (arith, five))
+rose_by_said line own old mid new _ before rose (unsaid part begins said) five = absurd cc
 
-pub rose_by_shown : (bytes : Bytes) (own : ℕ) (old mid new : Outside) (status : ℕ) → KeepsWriteFaults old mid → own ≢ 5 → ShowsEnd bytes own mid new status → status ≡ 5 → WriteFaultCounted old new
+pub rose_by_shown : (bytes : Bytes) (own : Status) (old mid new : Outside) (status : Status) → KeepsWriteFaults old mid → own ≢ WriteFault → ShowsEnd bytes own mid new status → status ≡ WriteFault → WriteFaultCounted old new
 rose_by_shown bytes own old mid new _ before other (all_shown showed keeps) five = absurd (other five)
 rose_by_shown bytes own old mid new status before other (stopped part end short showed keeps rose says) five =
     let writes = rose_later old.write_faults mid.write_faults end.write_faults before rose in
-    rose_by_said (write_fault_line (codes "standard output")) 5 old end new status (le_more old.write_faults mid.write_faults end.write_faults before keeps) (λ e. writes) says five
-rose_by_shown bytes own old mid new _ before other (unshown part begins showed keeps) five = absurd (omega (arith, five))
+    rose_by_said (write_fault_line (codes "standard output")) WriteFault old end new status (le_more old.write_faults mid.write_faults end.write_faults before keeps) (λ e. writes) says five
+rose_by_shown bytes own old mid new _ before other (unshown part begins showed keeps) five = absurd cc

@@ -5,6 +5,8 @@ use Rattle.model_tree.specs.Tree.{Word}
 use Rattle.quantity.specs.Bytes.{Bytes}
 use Rattle.room_edge.specs.Outside.{Files}
 use Rattle.text_forms.specs.Lines.{ended}
+use Rattle.answer_model.specs.declared.status.Status.{Status}
+use Rattle.answer_model.specs.declared.status.Status.TheVariants.{Done, Usage, Missing}
 
 -- made files with their bytes, in the order of their making
 abbrev pub MadeFiles : Type 0
@@ -20,29 +22,29 @@ pub record Answer : Type 0 where
   pub made : MadeFiles
   pub shown : Bytes
   pub complained : Bytes
-  pub status : ℕ
+  pub status : Status
   pub inputs : List Word
 
 -- nothing is made or shown
-abbrev pub only_complains : ℕ → Bytes → List Word → Answer
+abbrev pub only_complains : Status → Bytes → List Word → Answer
 only_complains status line inputs =
     record { made = []; shown = []; complained = ended line; status = status; inputs = inputs }
 
 -- nothing is made or complained
 abbrev pub only_shows : Bytes → List Word → Answer
 only_shows bytes inputs =
-    record { made = []; shown = bytes; complained = []; status = 0; inputs = inputs }
+    record { made = []; shown = bytes; complained = []; status = Done; inputs = inputs }
 
 -- ---- one stage after another: the first that ends decides
 
 -- goes on with what the words ask for, or ends with the form of the words
 abbrev pub if_asked : {A : Type 0} → Bytes → Option A → (A → Answer) → Answer
-if_asked form None go = only_complains 2 (codes "usage: " ++ form) []
+if_asked form None go = only_complains Usage (codes "usage: " ++ form) []
 if_asked form (Some a) go = go a
 
--- a file that isn't there ends the call with status 3
+-- a file that isn't there ends the call
 abbrev pub missing : Word → List Word → Answer
-missing name inputs = only_complains 3 (codes "missing: " ++ name) inputs
+missing name inputs = only_complains Missing (codes "missing: " ++ name) inputs
 
 -- goes on with the bytes of a file and the files looked for, or ends with the file missing
 abbrev pub with_file : Files → Word → List Word → (Bytes → List Word → Answer) → Answer
@@ -55,8 +57,8 @@ abbrev pub refused_text : Bytes → ℕ → Bytes → Bytes
 refused_text what line why = what ++ codes " refused: line " ++ decimal line ++ codes ": " ++ why
 
 -- goes on with what was read, or ends refused
-abbrev pub unless_refused : {A E : Type 0} → ℕ → (E → Bytes) → List Word → Result A E → (A → Answer)
-    → Answer
+abbrev pub unless_refused : {A E : Type 0} → Status → (E → Bytes) → List Word → Result A E
+    → (A → Answer) → Answer
 unless_refused status text inputs (Err e) go = only_complains status (text e) inputs
 unless_refused status text inputs (Ok x) go = go x
 

@@ -6,6 +6,7 @@ use Rattle.model_text.specs.Models.{queue_model, with_line}
 use Rattle.text_forms.specs.Rows.{queue_log}
 use Rattle.answer_model.specs.Answer.{MadeFiles, Answer}
 use Rattle.answer_model.specs.WholeFiles.{to, holding, model, model_and, just_model, log, shows, complains, y}
+use Rattle.answer_model.specs.declared.status.Status.TheVariants.{ModelRefused, Overflow}
 
 abbrev pub output : Bytes → MadeFiles
 output line = holding (codes "out.txt") (line ∷ []) ∷ []
@@ -45,7 +46,7 @@ pub record BoxesRun : Type 0 where
       ≡ shows (codes "end 00:00:00:000 cycles 2")
       ((codes "log.txt", queue_log) ∷ output (codes "00:00:00:000 o 8.00000")) just_model
   pub overflow : to (codes "cdpp -m m.ma -t 00:00:01:000 -l log.txt -o out.txt") (model counted)
-      ≡ complains 9 (codes "overflow: c at 00:00:00:010")
+      ≡ complains Overflow (codes "overflow: c at 00:00:00:010")
       (log (y (codes "000") (codes "g") (codes "1")
       ∷ y (codes "000") (codes "c") (codes "6000000000") ∷ [])
       ++ output (codes "00:00:00:000 o 6000000000.00000")) just_model
@@ -60,4 +61,4 @@ pub record BoxesRun : Type 0 where
       (two_lights (codes "00:00:00:060 o 1.00000")) model_and_events
   pub no_state : to (codes "cdpp -m m.ma -t 00:00:00:100 -o out.txt")
       (model (with_line 9 (codes "hold : blue 00:00:00:030 1 red") lights))
-      ≡ complains 6 (codes "model refused: line 9: 13 BadParameter") [] just_model
+      ≡ complains ModelRefused (codes "model refused: line 9: 13 BadParameter") [] just_model

@@ -16,6 +16,7 @@ use Rattle.answer_model.specs.Refusals.{model_refused, events_refused, state_ref
 use Rattle.answer_model.specs.Asked.{Asked, Source, file, made, FramesFile, asked_by, usage_of, built_letters}
 use Rattle.answer_model.specs.Answer.{Answer, if_asked, missing, with_file, only_complains, unless_refused}
 use Rattle.answer_model.specs.RunFiles.{answer_of_run}
+use Rattle.answer_model.specs.declared.status.Status.TheVariants.{ModelRefused, EventsRefused, StateRefused}
 
 -- ---- where the run begins, and the run
 
@@ -40,7 +41,7 @@ if_model read inputs go =
     elim read.found [
       | model_file.model tree ↦ go tree (inputs ++ read.looked)
       | model_file.missing name ↦ missing name (inputs ++ read.looked)
-      | model_file.refused r ↦ only_complains 6 (model_refused r) (inputs ++ read.looked)
+      | model_file.refused r ↦ only_complains ModelRefused (model_refused r) (inputs ++ read.looked)
     ]
 
 -- what a file of frames draws
@@ -61,7 +62,7 @@ with_events a files tree inputs go =
       | None ↦ go [] inputs
       | Some name ↦ with_file files name inputs
           (λ bytes looked.
-          unless_refused 7 events_refused looked (events_of bytes (ins_of tree))
+          unless_refused EventsRefused events_refused looked (events_of bytes (ins_of tree))
           (λ events. go events looked))
     ]
 
@@ -73,7 +74,7 @@ with_state a files tree inputs go =
       | None ↦ go None inputs
       | Some name ↦ with_file files name inputs
           (λ bytes looked.
-          unless_refused 14 state_refused looked (state_of bytes tree a.end)
+          unless_refused StateRefused state_refused looked (state_of bytes tree a.end)
           (λ saved. go (Some saved) looked))
     ]
 

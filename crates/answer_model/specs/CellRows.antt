@@ -5,6 +5,7 @@ use Rattle.model_tree.specs.Tree.{Word}
 use Rattle.model_text.specs.Models.{line_model, life_model, port_model, cell_model, with_line}
 use Rattle.text_forms.specs.Rows.{line_log, line_states}
 use Rattle.answer_model.specs.WholeFiles.{to, holding, model, model_and, just_model, log, shows, complains, y, x, s}
+use Rattle.answer_model.specs.declared.status.Status.TheVariants.{ModelRefused, NoTrueRule, Overflow, BadDelay, TooManyCycles}
 
 -- ---- a ring of three cells
 
@@ -205,17 +206,18 @@ pub record CellsRun : Type 0 where
       model_and_events
   pub bad_delay : to (codes "cdpp -m m.ma -t 00:00:00:200 -e e -l log.txt")
       (model_and with_port_rules (events (two_events ++ codes "00:00:00:120 p 3" ∷ [])))
-      ≡ complains 10 (codes "bad delay: g(0,0) at 00:00:00:120: -10.00000")
+      ≡ complains BadDelay (codes "bad delay: g(0,0) at 00:00:00:120: -10.00000")
       (log (cell (codes "000") (codes "0") ∷ cell (codes "110") (codes "2") ∷ []))
       model_and_events
   pub too_many : to (codes "cdpp -m m.ma -t 00:00:00:100 -l log.txt -c 5") (model flips)
-      ≡ complains 11 (codes "too many cycles: limit 5 at 00:00:00:000") (log flipped) just_model
+      ≡ complains TooManyCycles (codes "too many cycles: limit 5 at 00:00:00:000")
+      (log flipped) just_model
   pub no_rule : to (codes "cdpp -m m.ma -t 00:00:00:100 -l log.txt -o out.txt") (model has_no_rule)
-      ≡ complains 8 (codes "no true rule: g(0,0) at 00:00:00:000")
+      ≡ complains NoTrueRule (codes "no true rule: g(0,0) at 00:00:00:000")
       ((codes "log.txt", []) ∷ (codes "out.txt", []) ∷ []) just_model
   pub overflow : to (codes "cdpp -m m.ma -t 00:00:00:100 -l log.txt")
       (model (by_rule (codes "rule : { 100000 * 100001 } 100 { t }")))
-      ≡ complains 9 (codes "overflow: g(0,0) at 00:00:00:000")
+      ≡ complains Overflow (codes "overflow: g(0,0) at 00:00:00:000")
       ((codes "log.txt", []) ∷ []) just_model
   pub greatest : to (codes "cdpp -m m.ma -t 00:00:00:100 -l log.txt")
       (model (by_rule (codes "rule : { 100000 * 100000 } 100 { t }")))
@@ -231,5 +233,5 @@ pub record CellsRun : Type 0 where
       (codes "m.ma" ∷ codes "v.val" ∷ [])
   pub third_plane : to (codes "cdpp -m m.ma -t 00:00:00:000 -d f.txt -g g -f 2")
       (model_and solid solid_values)
-      ≡ complains 6 (codes "model refused: line 0: 29 NoSuchPlane") []
+      ≡ complains ModelRefused (codes "model refused: line 0: 29 NoSuchPlane") []
       (codes "m.ma" ∷ codes "v.val" ∷ [])

@@ -7,16 +7,17 @@ use Rattle.model_tree.specs.Tree.{Word}
 use Rattle.text_forms.specs.Frames.{drawn}
 use Rattle.answer_model.specs.AskedDrawing.{AskedDrawing, asked_drawing, drawing_usage}
 use Rattle.answer_model.specs.Answer.{Answer, if_asked, with_file, only_complains, only_shows}
+use Rattle.answer_model.specs.declared.status.Status.TheVariants.{LogRefused}
 
 abbrev pub log_refused : ℕ → Bytes
 log_refused line = codes "log refused: line " ++ decimal line
 
 abbrev pub drawn_answer : AskedDrawing → Bytes → List Word → Answer
 drawn_answer a log inputs =
-    if nat_lt MAX_LOG_BYTES (length log) then only_complains 13 (log_refused 0) inputs
+    if nat_lt MAX_LOG_BYTES (length log) then only_complains LogRefused (log_refused 0) inputs
     else
     elim (drawn a.picture a.group log) [
-      | Err line ↦ only_complains 13 (log_refused line) inputs
+      | Err line ↦ only_complains LogRefused (log_refused line) inputs
       | Ok frames ↦ only_shows frames inputs
     ]
 

@@ -1,11 +1,13 @@
 -- How a program ends, stage by stage.
-use Rattle.std.specs.Prelude.{◌≡◌, ℕ, true, List, [], ◌∷◌, ◌++◌, ◌⊎◌, codes}
+use Rattle.std.specs.Prelude.{◌≡◌, true, List, [], ◌∷◌, ◌++◌, ◌⊎◌, codes}
 use Rattle.quantity.specs.Bytes.{Bytes}
 use Rattle.model_tree.specs.Tree.{Word}
 use Rattle.room_edge.specs.Faults.{ReadFaultCounted, WriteFaultCounted, ComplaintFaultCounted, KeepsReadFaults, KeepsWriteFaults, KeepsComplaintFaults}
 use Rattle.room_edge.specs.Outside.{Outside}
 use Rattle.answer_model.specs.Answer.{MadeFiles, Answer, read_fault_line, write_fault_line}
 use Rattle.answer_model.specs.Headline.{Begins, Writes}
+use Rattle.answer_model.specs.declared.status.Status.{Status}
+use Rattle.answer_model.specs.declared.status.Status.TheVariants.{ReadFault, WriteFault, NoMemory}
 use Rattle.answer_model.specs.Outcome.{Did, HasMore, FallsShort, IsBegun, IsLast, Lacks, Outcome}
 use Rattle.answer_model.specs.Steps.{is_made, did_nothing, and_tried, and_created, and_appended, and_showed, Tried, Created, Appended, Showed, Complained}
 
@@ -13,22 +15,23 @@ use Rattle.answer_model.specs.Steps.{is_made, did_nothing, and_tried, and_create
 
 -- a line was complained: all of it, with a status of its own; or a part, since a complaint failed
 -- or memory ran out
-pub data Says (line : Bytes) (own : ℕ) (old new : Outside) : ℕ → Type 0 where
+pub data Says (line : Bytes) (own : Status) (old new : Outside) : Status → Type 0 where
   whole : Complained line old new → KeepsWriteFaults old new → Says line own old new own
   cut : (part : Bytes) → FallsShort part line → Complained part old new → WriteFaultCounted old new
-      → ComplaintFaultCounted old new → Says line own old new 5
-  unsaid : (part : Bytes) → Begins part line → Complained part old new → Says line own old new 12
+      → ComplaintFaultCounted old new → Says line own old new WriteFault
+  unsaid : (part : Bytes) → Begins part line → Complained part old new
+      → Says line own old new NoMemory
 
 -- bytes were shown: all of them, with a status of its own; or a part, since a write failed, which a
 -- line tells, or memory ran out
-pub data ShowsEnd (bytes : Bytes) (own : ℕ) (old new : Outside) : ℕ → Type 0 where
+pub data ShowsEnd (bytes : Bytes) (own : Status) (old new : Outside) : Status → Type 0 where
   all_shown : Showed bytes old new → KeepsWriteFaults old new → ShowsEnd bytes own old new own
-  stopped : {status : ℕ} (part : Bytes) (mid : Outside) → FallsShort part bytes
+  stopped : {status : Status} (part : Bytes) (mid : Outside) → FallsShort part bytes
       → Showed part old mid → KeepsWriteFaults old mid → WriteFaultCounted old mid
-      → Says (write_fault_line (codes "standard output")) 5 mid new status
+      → Says (write_fault_line (codes "standard output")) WriteFault mid new status
       → ShowsEnd bytes own old new status
   unshown : (part : Bytes) → Begins part bytes → Showed part old new → KeepsWriteFaults old new
-      → ShowsEnd bytes own old new 12
+      → ShowsEnd bytes own old new NoMemory
 
 -- ---- stages
 
@@ -55,7 +58,7 @@ abbrev pub LeadsTo : Answer → Did → Did → Outside → Outside → Type 0
 LeadsTo a did more old new = (start : Outside) → IsOnWay a did start old → IsOnWay a more start new
 
 -- a stage that ends: whoever had done this on the way to the answer has an outcome of it
-abbrev pub EndsWith : Answer → Did → Outside → Outside → ℕ → Type 0
+abbrev pub EndsWith : Answer → Did → Outside → Outside → Status → Type 0
 EndsWith a did old new status =
     (start : Outside) → IsOnWay a did start old → Outcome a start new status
 
@@ -81,25 +84,26 @@ pub record EndingsFollow : Type 0 where
   pub shown : (a : Answer) (did : Did) (old now : Outside) → IsOnWay a did old now
       → did.made ≡ a.made → did.shown ≡ a.shown → a.complained ≡ [] → Outcome a old now a.status
   -- all is made, what is left to show is shown, and the answer has no line to complain
-  pub ended : (a : Answer) (did : Did) (now new : Outside) (bytes : Bytes) (status : ℕ)
+  pub ended : (a : Answer) (did : Did) (now new : Outside) (bytes : Bytes) (status : Status)
       → did.made ≡ a.made → a.shown ≡ did.shown ++ bytes → a.complained ≡ []
       → ShowsEnd bytes a.status now new status → EndsWith a did now new status
   -- all is made and shown, and the answer's line is complained
-  pub said : (a : Answer) (did : Did) (now new : Outside) (status : ℕ) → did.made ≡ a.made
+  pub said : (a : Answer) (did : Did) (now new : Outside) (status : Status) → did.made ≡ a.made
       → did.shown ≡ a.shown → Says a.complained a.status now new status
       → EndsWith a did now new status
   -- a read failed before anything was made or shown, and a line tells of the last name
-  pub reading : (a : Answer) (did : Did) (old now new : Outside) (name : Word) (status : ℕ)
+  pub reading : (a : Answer) (did : Did) (old now new : Outside) (name : Word) (status : Status)
       → IsOnWay a did old now → did.made ≡ [] → did.shown ≡ [] → IsLast name did.tried
-      → ReadFaultCounted old now → Says (read_fault_line name) 4 now new status
+      → ReadFaultCounted old now → Says (read_fault_line name) ReadFault now new status
       → Outcome a old new status
   -- a write failed, and a line tells of what lacks bytes
-  pub writing : (a : Answer) (did : Did) (old now new : Outside) (name : Word) (status : ℕ)
+  pub writing : (a : Answer) (did : Did) (old now new : Outside) (name : Word) (status : Status)
       → IsOnWay a did old now → IsBegun a did → Lacks a did name → WriteFaultCounted old now
-      → Says (write_fault_line name) 5 now new status → Outcome a old new status
+      → Says (write_fault_line name) WriteFault now new status → Outcome a old new status
   -- memory ran out, and nothing is complained
-  pub memory : (a : Answer) (did : Did) (now : Outside) → IsBegun a did → EndsWith a did now now 12
+  pub memory : (a : Answer) (did : Did) (now : Outside) → IsBegun a did
+      → EndsWith a did now now NoMemory
   -- where no fault of reading or writing was counted, all is as answered, or memory ran out
-  pub surely : (a : Answer) (old new : Outside) (status : ℕ) → Outcome a old new status
+  pub surely : (a : Answer) (old new : Outside) (status : Status) → Outcome a old new status
       → ¬ ReadFaultCounted old new → ¬ WriteFaultCounted old new
-      → (status ≡ 12) ⊎ Writes a old new status
+      → (status ≡ NoMemory) ⊎ Writes a old new status

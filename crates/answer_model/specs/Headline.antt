@@ -1,13 +1,10 @@
 -- What a call of a program changes outside, beside its answer.
-use Rattle.std.specs.Prelude.{◌≡◌, ℕ, Bool, ◌||◌, ◌==◌, Option, List, [], ◌∷◌, ◌++◌, ⊤}
+use Rattle.std.specs.Prelude.{◌≡◌, Option, List, [], ◌∷◌, ◌++◌, ⊤}
 use Rattle.room_edge.specs.Outside.{Files, Outside, puts, streams}
 use Rattle.quantity.specs.Bytes.{Bytes}
 use Rattle.model_tree.specs.Tree.{Word}
 use Rattle.answer_model.specs.Answer.{MadeFiles, names, Answer}
-
--- the statuses that a fault or want of memory may give in the place of the answer's
-abbrev pub is_free : ℕ → Bool
-is_free status = (status == 4) || ((status == 5) || (status == 12))
+use Rattle.answer_model.specs.declared.status.Status.{Status}
 
 -- the made files, with these in their order: of two with one name the last counts
 abbrev pub puts_all : Option Files → MadeFiles → Option Files
@@ -26,7 +23,7 @@ BeginFiles (part ∷ parts) (file ∷ files) =
     (part.0 ≡ file.0) × Begins part.1 file.1 × BeginFiles parts files
 
 -- the status and the output are just the answer's
-pub record Writes (a : Answer) (old new : Outside) (given : ℕ) : Type 0 where
+pub record Writes (a : Answer) (old new : Outside) (given : Status) : Type 0 where
   pub status : given ≡ a.status
   pub made : new.made ≡ puts_all old.made a.made
   pub created : new.created ≡ old.created ++ names a.made

@@ -1,6 +1,6 @@
 -- What a call of a program does outside, step by step: it ends as answered, or by a fault or want
 -- of memory with a beginning of the answer.
-use Rattle.std.specs.Prelude.{◌≡◌, ◌≢◌, ◌⊎◌, ℕ, Option, Some, None, List, [], ◌∷◌, ◌++◌, codes, Contains}
+use Rattle.std.specs.Prelude.{◌≡◌, ◌≢◌, ◌⊎◌, Bool, false, Option, Some, None, List, [], ◌++◌, codes, Contains}
 use Rattle.std.specs.List.{last_or}
 use Rattle.std.specs.Bool.{OnFalse}
 use Rattle.model_tree.specs.Tree.{Word}
@@ -8,7 +8,10 @@ use Rattle.quantity.specs.Bytes.{Bytes}
 use Rattle.room_edge.specs.Faults.{Rose}
 use Rattle.room_edge.specs.Outside.{Outside, streams}
 use Rattle.answer_model.specs.Answer.{MadeFiles, names, Answer, read_fault_line, write_fault_line}
-use Rattle.answer_model.specs.Headline.{is_free, puts_all, Begins, BeginFiles, Writes, WritesPart, TriesPart, WritesNothing}
+use Rattle.answer_model.specs.Headline.{puts_all, Begins, BeginFiles, Writes, WritesPart, TriesPart, WritesNothing}
+use Rattle.answer_model.specs.declared.status.Status.{Status}
+use Rattle.answer_model.specs.declared.status.Status.TheVariants.{ReadFault, WriteFault, NoMemory}
+use Rattle.answer_model.specs.Status.{Part, row_of, of_faults, of_words, IsOf, IsCaused}
 
 -- what a call did so far
 pub record Did : Type 0 where
@@ -52,22 +55,22 @@ pub data Complaint (a : Answer) (did : Did) : Bytes → Type 0 where
 
 -- ---- the five endings
 
-pub data Ending (a : Answer) (old new : Outside) (did : Did) : ℕ → Type 0 where
+pub data Ending (a : Answer) (old new : Outside) (did : Did) : Status → Type 0 where
   as_answered : did.made ≡ a.made → did.shown ≡ a.shown → did.complained ≡ a.complained
       → Ending a old new did a.status
   reading_failed : {name : Word} → Rose old.read_faults new.read_faults → did.made ≡ []
       → did.shown ≡ [] → IsLast name did.tried → did.complained ≡ read_fault_line name
-      → Ending a old new did 4
+      → Ending a old new did ReadFault
   writing_failed : {name : Word} → Rose old.write_faults new.write_faults → IsBegun a did
-      → Lacks a did name → did.complained ≡ write_fault_line name → Ending a old new did 5
+      → Lacks a did name → did.complained ≡ write_fault_line name → Ending a old new did WriteFault
   complaining_failed : {line : Bytes} → Rose old.write_faults new.write_faults
       → Rose old.complain_faults new.complain_faults → IsBegun a did → Complaint a did line
-      → FallsShort did.complained line → Ending a old new did 5
+      → FallsShort did.complained line → Ending a old new did WriteFault
   memory_failed : {line : Bytes} → IsBegun a did → Complaint a did line → Begins did.complained line
-      → Ending a old new did 12
+      → Ending a old new did NoMemory
 
 -- the call did something, looked for the answer's files in their order, and ended so
-pub record Outcome (a : Answer) (old new : Outside) (status : ℕ) : Type 0 where
+pub record Outcome (a : Answer) (old new : Outside) (status : Status) : Type 0 where
   pub did : Did
   pub more : HasMore did old new
   pub inputs : Begins did.tried a.inputs
@@ -75,59 +78,64 @@ pub record Outcome (a : Answer) (old new : Outside) (status : ℕ) : Type 0 wher
 
 -- ---- causes, also where nothing is told
 
-pub record Causes {A : Type 0} (statuses : List ℕ) (words : Option A) (old new : Outside)
-    (status : ℕ) : Type 0 where
-  pub known : Contains statuses status
-  pub missing : status ≡ 3 → Rose old.misses new.misses
-  pub read_fault : status ≡ 4 → Rose old.read_faults new.read_faults
-  pub write_fault : status ≡ 5 → Rose old.write_faults new.write_faults
-  pub usage : status ≡ 2 → words ≡ None
-  pub refused : words ≡ None → Contains (2 ∷ 5 ∷ 12 ∷ []) status
+-- the status is of these parts, and its cause came about; of refused words it is theirs
+pub record Causes {A : Type 0} (of : Part → Bool) (words : Option A) (old new : Outside)
+    (status : Status) : Type 0 where
+  pub known : IsOf of status
+  pub cause : IsCaused (words ≡ None) old new status
+  pub refused : words ≡ None → IsOf of_words status
+
+-- the same of a stage after the words are taken; and on a read fault nothing is written
+pub record EndsBy (of : Part → Bool) (old new : Outside) (status : Status) : Type 0 where
+  pub known : IsOf of status
+  pub cause : IsCaused ⊥ old new status
+  pub nothing : status ≡ ReadFault → WritesNothing old new
 
 -- ---- what follows from an outcome
 
 -- what was complained at a fault or for want of memory
-pub record Complains (a : Answer) (old new : Outside) (did : Did) (status : ℕ) : Type 0 where
+pub record Complains (a : Answer) (old new : Outside) (did : Did) (status : Status) : Type 0 where
   pub more : HasMore did old new
-  pub at_4 : status ≡ 4
+  pub at_read_fault : status ≡ ReadFault
       → (name : Word) × IsLast name did.tried × (did.complained ≡ read_fault_line name)
-  pub at_5 : status ≡ 5
+  pub at_write_fault : status ≡ WriteFault
       → ((name : Word) × Lacks a did name × (did.complained ≡ write_fault_line name)) ⊎
       (Rose old.complain_faults new.complain_faults
       × ((line : Bytes) × Complaint a did line × FallsShort did.complained line))
-  pub at_12 : status ≡ 12 → (line : Bytes) × Complaint a did line × Begins did.complained line
+  pub at_no_memory : status ≡ NoMemory
+      → (line : Bytes) × Complaint a did line × Begins did.complained line
 
--- an answer's own status is not free
-abbrev pub IsOwn : ℕ → Type 0
-IsOwn status = (status ≢ 4) × (status ≢ 5) × (status ≢ 12)
+-- an answer's own status is none of a fault or of want of memory
+abbrev pub IsOwn : Status → Type 0
+IsOwn status = of_faults (row_of status).part ≡ false
 
 -- the clauses of a call
-pub record FollowsAnswer (a : Answer) (old new : Outside) (status : ℕ) : Type 0 where
-  pub own : OnFalse (is_free status) (Writes a old new status)
+pub record FollowsAnswer (a : Answer) (old new : Outside) (status : Status) : Type 0 where
+  pub own : OnFalse (of_faults (row_of status).part) (Writes a old new status)
   pub part : WritesPart a old new
   pub tried : TriesPart a old new
-  pub nothing : status ≡ 4 → WritesNothing old new
+  pub nothing : status ≡ ReadFault → WritesNothing old new
   pub complains : (did : Did) × Complains a old new did status
-  pub read_fault : status ≡ 4 → Rose old.read_faults new.read_faults
-  pub write_fault : status ≡ 5 → Rose old.write_faults new.write_faults
+  pub read_fault : status ≡ ReadFault → Rose old.read_faults new.read_faults
+  pub write_fault : status ≡ WriteFault → Rose old.write_faults new.write_faults
 
 abbrev pub OutcomesFollow : Type 0
 OutcomesFollow =
-    (a : Answer) (old new : Outside) (status : ℕ) → IsOwn a.status → Outcome a old new status
+    (a : Answer) (old new : Outside) (status : Status) → IsOwn a.status → Outcome a old new status
     → FollowsAnswer a old new status
 
 -- without a fault the status is the answer's, or 12
 abbrev pub IsComplete : Type 0
 IsComplete =
-    (a : Answer) (old new : Outside) (status : ℕ) → Outcome a old new status
+    (a : Answer) (old new : Outside) (status : Status) → Outcome a old new status
     → ¬ Rose old.read_faults new.read_faults → ¬ Rose old.write_faults new.write_faults
-    → (status ≡ a.status) ⊎ (status ≡ 12)
+    → (status ≡ a.status) ⊎ (status ≡ NoMemory)
 
 -- where the status is none of a fault or want of memory, all is as answered
 abbrev pub IsExact : Type 0
 IsExact =
-    (a : Answer) (old new : Outside) (status : ℕ) → Outcome a old new status → status ≢ 4
-    → status ≢ 5 → status ≢ 12 → Writes a old new status
+    (a : Answer) (old new : Outside) (status : Status) → Outcome a old new status
+    → status ≢ ReadFault → status ≢ WriteFault → status ≢ NoMemory → Writes a old new status
 
 pub record OutcomeLaws : Type 0 where
   pub follow : OutcomesFollow

@@ -10,6 +10,7 @@ use Rattle.answer_model.specs.WholeFiles.{folder, boxes, model}
 use Rattle.model_text.specs.Models.{line_model}
 use Rattle.answer_model.specs.Headline.{puts_all}
 use Rattle.answer_model.specs.Programs.{CdppEnds, CdppCauses}
+use Rattle.answer_model.specs.declared.status.Status.TheVariants.{Done, ReadFault, WriteFault}
 
 abbrev pub before : Outside
 before =
@@ -74,14 +75,14 @@ abbrev pub asks : Bytes
 asks = codes "cdpp -m m.ma -t 00:00:00:100 -l log.txt"
 
 pub record EndsAsSaid : Type 0 where
-  pub first_append : CdppEnds (words asks) boxes before (cut 0) 5
-  pub second_append : CdppEnds (words asks) boxes before (cut 64) 5
-  pub third_append : CdppEnds (words asks) boxes before (cut 128) 5
-  pub fourth_append : CdppEnds (words asks) boxes before (cut 135) 5
-  pub fifth_append : CdppEnds (words asks) boxes before (cut 199) 5
-  pub cut_causes : CdppCauses (words asks) before (cut 199) 5
-  pub no_log : CdppEnds (words asks) boxes before not_made 5
-  pub nothing_shown : CdppEnds (words asks) boxes before not_shown 5
-  pub nothing_complained : CdppEnds (words asks_no_time) boxes before no_complaint 5
-  pub complete : CdppEnds (words asks) boxes before whole 0
-  pub not_read : CdppEnds (words asks) boxes before unread 4
+  pub first_append : CdppEnds (words asks) boxes before (cut 0) WriteFault
+  pub second_append : CdppEnds (words asks) boxes before (cut 64) WriteFault
+  pub third_append : CdppEnds (words asks) boxes before (cut 128) WriteFault
+  pub fourth_append : CdppEnds (words asks) boxes before (cut 135) WriteFault
+  pub fifth_append : CdppEnds (words asks) boxes before (cut 199) WriteFault
+  pub cut_causes : CdppCauses (words asks) before (cut 199) WriteFault
+  pub no_log : CdppEnds (words asks) boxes before not_made WriteFault
+  pub nothing_shown : CdppEnds (words asks) boxes before not_shown WriteFault
+  pub nothing_complained : CdppEnds (words asks_no_time) boxes before no_complaint WriteFault
+  pub complete : CdppEnds (words asks) boxes before whole Done
+  pub not_read : CdppEnds (words asks) boxes before unread ReadFault

@@ -9,6 +9,7 @@ use Rattle.answer_model.specs.Answer.{Answer}
 use Rattle.answer_model.specs.Drawlog.{drawing_answer}
 use Rattle.answer_model.specs.WholeFiles.{folder, to, model, just_model, log, shows, complains, y}
 use Rattle.answer_model.specs.CellRows.{cell}
+use Rattle.answer_model.specs.declared.status.Status.TheVariants.{Done, Missing, LogRefused}
 
 -- ---- variables
 
@@ -80,7 +81,13 @@ blinker_frames =
 
 abbrev pub drawn_as : Bytes → Answer
 drawn_as frames =
-    record { made = []; shown = frames; complained = []; status = 0; inputs = codes "log.txt" ∷ [] }
+    record {
+      made = [];
+      shown = frames;
+      complained = [];
+      status = Done;
+      inputs = codes "log.txt" ∷ [];
+    }
 
 abbrev pub drawn_of : Bytes → Bytes → Answer
 drawn_of text bytes = drawing_answer (words text) (folder ((codes "log.txt", bytes) ∷ []))
@@ -115,7 +122,8 @@ in_frame time row =
     ∷ [])
 
 abbrev pub refused_at : Bytes → Answer
-refused_at line = complains 13 (codes "log refused: line " ++ line) [] (codes "log.txt" ∷ [])
+refused_at line =
+    complains LogRefused (codes "log refused: line " ++ line) [] (codes "log.txt" ∷ [])
 
 pub record LogsAreDrawn : Type 0 where
   pub no_line : drawn_to (take 0 line_log) ≡ drawn_as []
@@ -140,10 +148,10 @@ pub record LogsAreDrawn : Type 0 where
       ≡ drawn_as two_frames
   pub torn : drawn_of (codes "drawlog -l log.txt -g line -s 1,3 -w 2")
       (take (length line_log - 3) line_log)
-      ≡ complains 13 (codes "log refused: line 5") [] (codes "log.txt" ∷ [])
+      ≡ complains LogRefused (codes "log refused: line 5") [] (codes "log.txt" ∷ [])
   pub outside : drawn_of (codes "drawlog -l log.txt -g line -s 1,2 -w 2") line_log
-      ≡ complains 13 (codes "log refused: line 3") [] (codes "log.txt" ∷ [])
+      ≡ complains LogRefused (codes "log refused: line 3") [] (codes "log.txt" ∷ [])
   pub further_port : drawn_of (codes "drawlog -l log.txt -g g -s 1,1") port_log
       ≡ drawn_as port_frames
   pub no_log : drawing_answer (words (codes "drawlog -l log.txt -g line -s 1,3")) (folder [])
-      ≡ complains 3 (codes "missing: log.txt") [] (codes "log.txt" ∷ [])
+      ≡ complains Missing (codes "missing: log.txt") [] (codes "log.txt" ∷ [])

@@ -6,6 +6,7 @@ use Rattle.answer_model.specs.Asked.{usage}
 use Rattle.answer_model.specs.Answer.{Answer}
 use Rattle.answer_model.specs.WholeFiles.{to, holding, model, model_and, just_model, complains}
 use Rattle.answer_model.specs.CellRows.{by_rule}
+use Rattle.answer_model.specs.declared.status.Status.TheVariants.{Usage, Missing, ModelRefused, EventsRefused}
 
 abbrev pub asks : Bytes
 asks = codes "cdpp -m m.ma -t 00:00:00:100 -l log.txt"
@@ -16,7 +17,7 @@ with_events line =
     (model_and port_model (holding (codes "e") (line ∷ [])))
 
 abbrev pub refuses : Bytes → Answer
-refuses line = complains 6 (codes "model refused: line " ++ line) [] just_model
+refuses line = complains ModelRefused (codes "model refused: line " ++ line) [] just_model
 
 abbrev pub top : List Bytes → List Bytes
 top ls = codes "[top]" ∷ ls
@@ -50,20 +51,20 @@ pub record FilesAreRefused : Type 0 where
       (model (cell_model (codes "statevariables : n" ∷ [])
       (codes "rule : { $z } 100 { t }" ∷ []))) ≡ refuses (codes "11: 30 UnknownVariable")
   pub absent : to (codes "cdpp -m row1.ma -t 00:00:00:100 -l log.txt") (model line_model)
-      ≡ complains 3 (codes "missing: row1.ma") [] (codes "row1.ma" ∷ [])
+      ≡ complains Missing (codes "missing: row1.ma") [] (codes "row1.ma" ∷ [])
   pub no_values : to (codes "cdpp -m m.ma -t 00:00:00:100")
       (model (take 10 line_model ++ codes "initialmapvalue : v.map" ∷ codes "localtransition : r"
       ∷ codes "[r]" ∷ codes "rule : 0 100 { t }" ∷ []))
-      ≡ complains 3 (codes "missing: v.map") [] (codes "m.ma" ∷ codes "v.map" ∷ [])
+      ≡ complains Missing (codes "missing: v.map") [] (codes "m.ma" ∷ codes "v.map" ∷ [])
   pub no_end : to (codes "cdpp -m m.ma") (model line_model)
-      ≡ complains 2 (codes "usage: " ++ usage) [] []
+      ≡ complains Usage (codes "usage: " ++ usage) [] []
   pub too_small : to (codes "cdpp -G 4 -t 00:00:01:000") []
-      ≡ complains 2 (codes "usage: " ++ usage) [] []
+      ≡ complains Usage (codes "usage: " ++ usage) [] []
   pub no_input : with_events (codes "00:00:00:010 q 1")
-      ≡ complains 7 (codes "events refused: line 1: 2 UnknownPort") []
+      ≡ complains EventsRefused (codes "events refused: line 1: 2 UnknownPort") []
       (codes "m.ma" ∷ codes "e" ∷ [])
   pub no_time : with_events (codes "00:60:00:000 p 1")
-      ≡ complains 7 (codes "events refused: line 1: 1 BadEventLine") []
+      ≡ complains EventsRefused (codes "events refused: line 1: 1 BadEventLine") []
       (codes "m.ma" ∷ codes "e" ∷ [])
   pub no_events : to (codes "cdpp -m m.ma -t 00:00:00:100 -e e") (model port_model)
-      ≡ complains 3 (codes "missing: e") [] (codes "m.ma" ∷ codes "e" ∷ [])
+      ≡ complains Missing (codes "missing: e") [] (codes "m.ma" ∷ codes "e" ∷ [])

@@ -6,6 +6,7 @@ use Rattle.text_forms.specs.Rows.{lines, line_log}
 use Rattle.answer_model.specs.Answer.{MadeFiles}
 use Rattle.answer_model.specs.WholeFiles.{to, model, model_and, just_model, log, shows, complains, y}
 use Rattle.answer_model.specs.CellRows.{left, right, third, solid, solid_values}
+use Rattle.answer_model.specs.declared.status.Status.TheVariants.{ModelRefused, NoTrueRule, Overflow, BadDelay}
 
 abbrev pub asks : Bytes
 asks = codes "cdpp -m m.ma -t 00:00:00:100 -l log.txt"
@@ -62,20 +63,20 @@ pub record RulesRun : Type 0 where
       (log (of_line (codes "000") (codes "0") (codes "1") (codes "0")
       ++ of_line (codes "100") (codes "1") (codes "0") (codes "1"))) just_model
   pub no_rule : to asks (ruled (codes "rule : 0 100 { (0,0) > ? }"))
-      ≡ complains 8 (codes "no true rule: line(0,0) at 00:00:00:000")
+      ≡ complains NoTrueRule (codes "no true rule: line(0,0) at 00:00:00:000")
       ((codes "log.txt", []) ∷ []) just_model
   pub overflow : to asks (ruled (codes "rule : { 100000 * 100001 } 100 { t }"))
-      ≡ complains 9 (codes "overflow: line(0,0) at 00:00:00:000")
+      ≡ complains Overflow (codes "overflow: line(0,0) at 00:00:00:000")
       ((codes "log.txt", []) ∷ []) just_model
   pub part_of_a_millisecond : to asks (ruled (codes "rule : 1 0.5 { t }"))
-      ≡ complains 10 (codes "bad delay: line(0,0) at 00:00:00:000: 0.50000")
+      ≡ complains BadDelay (codes "bad delay: line(0,0) at 00:00:00:000: 0.50000")
       ((codes "log.txt", []) ∷ []) just_model
   pub cut_before_the_rules : to asks (cut_to (take 217 (lines line_model)))
-      ≡ complains 6 (codes "model refused: line 12: 28 NoSection") [] just_model
+      ≡ complains ModelRefused (codes "model refused: line 12: 28 NoSection") [] just_model
   pub cut_in_a_rule : to asks (cut_to (take 250 (lines line_model)))
-      ≡ complains 6 (codes "model refused: line 14: 1 BadLine") [] just_model
+      ≡ complains ModelRefused (codes "model refused: line 14: 1 BadLine") [] just_model
   pub cut_behind_a_rule : to asks (cut_to (take 252 (lines line_model)))
-      ≡ complains 8 (codes "no true rule: line(0,0) at 00:00:00:100")
+      ≡ complains NoTrueRule (codes "no true rule: line(0,0) at 00:00:00:100")
       ((codes "log.txt", take 135 line_log) ∷ []) just_model
   pub inertial : to asks_more (counting (codes "delay : inertial"))
       ≡ shows (codes "end 00:00:00:200 cycles 4")
@@ -85,7 +86,7 @@ pub record RulesRun : Type 0 where
       (log (ends_change ++ y (codes "110") right (codes "1") ∷ y (codes "130") right (codes "2")
       ∷ [])) just_model
   pub too_large : to asks (of_size (codes "(1024,1025)"))
-      ≡ complains 6 (codes "model refused: line 3: 26 TooLarge") [] just_model
+      ≡ complains ModelRefused (codes "model refused: line 3: 26 TooLarge") [] just_model
   pub planes : to (codes "cdpp -m m.ma -t 00:00:00:000 -l log.txt") (model_and solid solid_values)
       ≡ shows (codes "end 00:00:00:000 cycles 1") (log solid_log)
       (codes "m.ma" ∷ codes "v.val" ∷ [])

@@ -16,6 +16,8 @@ use Rattle.text_forms.specs.LogLine.{leaf_text}
 use Rattle.text_forms.specs.Lines.{leaf_name, ended}
 use Rattle.served_tree.specs.Order.{mark_of}
 use Rattle.answer_model.specs.Asked.{Asked, file, made}
+use Rattle.answer_model.specs.declared.status.Status.{Status}
+use Rattle.answer_model.specs.declared.status.Status.TheVariants as exit
 
 -- ---- of a run that is done
 
@@ -70,10 +72,10 @@ stop_line tree leaf t (BadDelay d) =
     stopped_at (codes "bad delay") tree leaf t ++ codes ": " ++ text5 d
 
 -- the status of a run that a rule stopped
-abbrev pub stop_status : RuleStop → ℕ
-stop_status NoTrueRule = 8
-stop_status Overflow = 9
-stop_status (BadDelay d) = 10
+abbrev pub stop_status : RuleStop → Status
+stop_status NoTrueRule = exit.NoTrueRule
+stop_status Overflow = exit.Overflow
+stop_status (BadDelay d) = exit.BadDelay
 
 -- the complaint of too many cycles at one time
 abbrev pub many_line : ℕ → ℕ → Bytes
@@ -83,21 +85,21 @@ many_line limit t = codes "too many cycles: limit " ++ decimal limit ++ codes " 
 
 -- what a run's end says: status, shown line, complaint
 pub record Said : Type 0 where
-  pub status : ℕ
+  pub status : Status
   pub shown : Bytes
   pub complained : Bytes
 
 -- a good end
 abbrev pub shows : Bytes → Said
-shows line = record { status = 0; shown = ended line; complained = [] }
+shows line = record { status = exit.Done; shown = ended line; complained = [] }
 
 -- an early end
-abbrev pub complains : ℕ → Bytes → Said
+abbrev pub complains : Status → Bytes → Said
 complains status line = record { status = status; shown = []; complained = ended line }
 
 -- what a run with this verdict says
 abbrev pub said : Asked → Tree → List Event → List Cycle → Verdict → Said
 said a tree events cycles done = shows (done_line a tree cycles ++ mark_text a tree events)
-said a tree events cycles (too_many t) = complains 11 (many_line a.limit t)
+said a tree events cycles (too_many t) = complains exit.TooManyCycles (many_line a.limit t)
 said a tree events cycles (stop leaf t why) =
     complains (stop_status why) (stop_line tree leaf t why)

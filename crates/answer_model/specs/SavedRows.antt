@@ -8,6 +8,7 @@ use Rattle.answer_model.specs.Answer.{MadeFiles, Answer}
 use Rattle.answer_model.specs.WholeFiles.{to, to_all, holding, model, model_and, just_model, log, shows, complains, y, x, s}
 use Rattle.answer_model.specs.PortRows.{blinker_log, blinker_frames}
 use Rattle.answer_model.specs.CellRows.{left, right, third, cell, out_of_order, taken_in_order, model_and_events, with_port_rules, two_events, events}
+use Rattle.answer_model.specs.declared.status.Status.TheVariants.{Done, Missing, BadDelay, StateRefused}
 
 abbrev pub with_state : List Bytes → Bytes → MadeFiles
 with_state ls bytes = model ls ++ (codes "s.txt", bytes) ∷ []
@@ -19,7 +20,8 @@ resumed end state =
 
 abbrev pub state_refused : Bytes → Answer
 state_refused line =
-    complains 14 (codes "state refused: line " ++ line) [] (codes "m.ma" ∷ codes "s.txt" ∷ [])
+    complains StateRefused (codes "state refused: line " ++ line) []
+    (codes "m.ma" ∷ codes "s.txt" ∷ [])
 
 abbrev pub later_log : List Bytes
 later_log =
@@ -80,7 +82,7 @@ three_events = model_and with_port_rules (events (two_events ++ codes "00:00:00:
 
 abbrev pub too_late : Answer
 too_late =
-    complains 10 (codes "bad delay: g(0,0) at 00:00:00:120: -10.00000")
+    complains BadDelay (codes "bad delay: g(0,0) at 00:00:00:120: -10.00000")
     (log (cell (codes "000") (codes "0") ∷ cell (codes "110") (codes "2") ∷ [])) model_and_events
 
 abbrev pub until_late : Bytes
@@ -106,7 +108,7 @@ pub record RunsAreServed : Type 0 where
   pub stop : served_by (codes "1") until_late three_events ≡ too_late
   pub stop_of_other_seed : served_by (codes "2147483647") until_late three_events ≡ too_late
   pub files_of_queue : (served_by (codes "1") both_files queue).made ≡ queue_files
-  pub status_of_queue : (served_by (codes "1") both_files queue).status ≡ 0
+  pub status_of_queue : (served_by (codes "1") both_files queue).status ≡ Done
   pub life : (served_by (codes "1") blinks (model blinker)).made ≡ blinker_files
   pub life_of_other_seed : (served_by (codes "2147483647") blinks (model blinker)).made
       ≡ blinker_files
@@ -129,7 +131,7 @@ pub record RunsAreSaved : Type 0 where
       (saved (codes "cell line(0,1) 1.00000 0.00000 1 100 0.00000") (codes "end\n"))
       ≡ state_refused (codes "4: 1 BadStateLine")
   pub no_state : to_all (codes "cdpp -m m.ma -t 00:00:00:200 -R s.txt") (model line_model)
-      ≡ complains 3 (codes "missing: s.txt") [] (codes "m.ma" ∷ codes "s.txt" ∷ [])
+      ≡ complains Missing (codes "missing: s.txt") [] (codes "m.ma" ∷ codes "s.txt" ∷ [])
   pub queue_joins : joined queue (codes "cdpp -m m.ma -t 00:00:00:000 -l log.txt -L YXS -S s.txt")
       (codes "cdpp -m m.ma -t 00:00:02:000 -l log.txt -L YXS -R s.txt") ≡ queue_log
   pub queue_run : whole queue (codes "cdpp -m m.ma -t 00:00:02:000 -l log.txt -L YXS") ≡ queue_log

@@ -1,5 +1,5 @@
 -- Words and whole files, and what is answered to them.
-use Rattle.std.specs.Prelude.{ℕ, List, [], ◌∷◌, ◌++◌}
+use Rattle.std.specs.Prelude.{List, [], ◌∷◌, ◌++◌}
 use Rattle.std.specs.List.{find}
 use Rattle.std.specs.Option.{option_map}
 use Rattle.std.specs.Str.{bytes_eq}
@@ -14,6 +14,8 @@ use Rattle.answer_model.specs.Asked.{all_letters}
 use Rattle.answer_model.specs.AskedRows.{words}
 use Rattle.answer_model.specs.Answer.{MadeFiles, Answer}
 use Rattle.answer_model.specs.Cdpp.{answer, answer_by}
+use Rattle.answer_model.specs.declared.status.Status.{Status}
+use Rattle.answer_model.specs.declared.status.Status.TheVariants.{Done}
 
 -- files by their names
 abbrev pub folder : MadeFiles → Files
@@ -51,10 +53,16 @@ log ls = holding (codes "log.txt") ls ∷ []
 -- one line is shown
 abbrev pub shows : Bytes → MadeFiles → List Word → Answer
 shows line made inputs =
-    record { made = made; shown = lines (line ∷ []); complained = []; status = 0; inputs = inputs }
+    record {
+      made = made;
+      shown = lines (line ∷ []);
+      complained = [];
+      status = Done;
+      inputs = inputs;
+    }
 
 -- one line is complained
-abbrev pub complains : ℕ → Bytes → MadeFiles → List Word → Answer
+abbrev pub complains : Status → Bytes → MadeFiles → List Word → Answer
 complains status line made inputs =
     record {
       made = made;

@@ -18,7 +18,7 @@ use std::marker::Brand;
 use std::process::ExitCode;
 use std::sync::ledger::{Blank, Ledger};
 use std::{env, io};
-use told_lines::status::NO_MEMORY;
+use told_lines::Status;
 
 /// How many boxes there are of each class.
 const BOXES: usize = 4096;
@@ -30,7 +30,7 @@ fn counted<L: Ledger>(
     boxes: Vec<Box<dyn AtomicModel>>,
     room: &mut FolderRoom<HostRuntime>,
     blank: Blank,
-) -> u8
+) -> Status
     requires few { length boxes.items < 2 ^ 32 }
     requires name { blank.name ≡ L.name }
     requires parts { blank.parts ≡ L.parts }
@@ -51,7 +51,7 @@ fn run_with_boxes(
     alloc: Global,
     words: &[String],
     room: &mut FolderRoom<HostRuntime>,
-) -> Result<u8, OutOfMemory> {
+) -> Result<Status, OutOfMemory> {
     let mut boxes: Vec<Box<dyn AtomicModel>> = Vec::new(alloc);
     for number in 0..Class::ALL.len() * BOXES {
         let made: Box<dyn AtomicModel> = match Class::ALL[number / BOXES] {
@@ -72,11 +72,11 @@ fn run_with_boxes(
 fn main(rt: HostRuntime) -> ExitCode {
     let alloc = rt.alloc();
     let Ok(words) = given_words(alloc, env::args(&rt), "cdpp") else {
-        return ExitCode::from(NO_MEMORY);
+        return ExitCode::from(Status::NoMemory.number());
     };
     let stand_ins = stand_ins(&rt);
     let mut room = FolderRoom::new(rt);
-    let status = run_with_boxes(alloc, &words, &mut room).unwrap_or(NO_MEMORY);
+    let status = run_with_boxes(alloc, &words, &mut room).unwrap_or(Status::NoMemory);
     drop(stand_ins);
-    ExitCode::from(status)
+    ExitCode::from(status.number())
 }

@@ -21,6 +21,8 @@ use Rattle.asked_words.specs.Shown.{text_of_name, asked_of}
 use Rattle.answer_model.specs.Answer.{Answer, with_file, only_complains, unless_refused}
 use Rattle.answer_model.specs.Asked.{Asked}
 use Rattle.answer_model.specs.Cdpp.{with_events, with_state, answer_from, answer_with}
+use Rattle.answer_model.specs.declared.status.Status.{Status}
+use Rattle.answer_model.specs.declared.status.Status.TheVariants.{EventsRefused, NoMemory}
 use Rattle.answer_model.specs.Endings.{looked_for, EndsWith}
 use Rattle.answer_model.specs.Headline.{Begins}
 use Rattle.answer_model.specs.Refusals.{events_refused}
@@ -37,7 +39,7 @@ with_those a files tree inputs None = answer_from a tree [] inputs None
 with_those a files tree inputs (Some name) = answer_by_file a tree name inputs (files name)
 
 bytes_are : (x : code.Asked) (files : Files) (tree : Tree) (inputs : List Word) (name : Word) (o : Option Bytes)
-    → with_file (λ n. o) name inputs (λ bytes looked. unless_refused 7 events_refused looked (events_of bytes (ins_of tree)) (λ events. with_state (asked_of x) files tree looked (λ from inputs. answer_from (asked_of x) tree events inputs from)))
+    → with_file (λ n. o) name inputs (λ bytes looked. unless_refused EventsRefused events_refused looked (events_of bytes (ins_of tree)) (λ events. with_state (asked_of x) files tree looked (λ from inputs. answer_from (asked_of x) tree events inputs from)))
     ≡ answer_by_file (asked_of x) tree name inputs o
 bytes_are x files tree inputs name None = refl
 bytes_are x files tree inputs name (Some bytes) = refl
@@ -75,33 +77,33 @@ answer_begins x files tree inputs = subst (λ (a : Answer). Begins inputs a.inpu
 
 -- ---- events that can't be read
 
-refused_ends : (a : Asked) (tree : Tree) (inputs : List Word) (reason : EventRefusal) (read : Result (List Event) EventRefusal) (old new : Outside) (s : ℕ) → ◌≡◌ {A = Result (List Event) EventRefusal} read (Err reason)
-    → EndsWith (only_complains 7 (events_refused reason) inputs) (looked_for inputs) old new s → EndsWith (answer_by_events a tree inputs read) (looked_for inputs) old new s
+refused_ends : (a : Asked) (tree : Tree) (inputs : List Word) (reason : EventRefusal) (read : Result (List Event) EventRefusal) (old new : Outside) (s : Status) → ◌≡◌ {A = Result (List Event) EventRefusal} read (Err reason)
+    → EndsWith (only_complains EventsRefused (events_refused reason) inputs) (looked_for inputs) old new s → EndsWith (answer_by_events a tree inputs read) (looked_for inputs) old new s
 refused_ends a tree inputs reason read old new s is ends =
     subst (λ (r : Result (List Event) EventRefusal). EndsWith (answer_by_events a tree inputs r) (looked_for inputs) old new s) (sym is) ends
 
-pub events_stop : (a : Asked) (tree : Tree) (inputs : List Word) (reason : EventRefusal) (read : Result (List Event) EventRefusal) (old new : Outside) (s : ℕ) → (reason ≢ E.Memory → ◌≡◌ {A = Result (List Event) EventRefusal} read (Err reason))
+pub events_stop : (a : Asked) (tree : Tree) (inputs : List Word) (reason : EventRefusal) (read : Result (List Event) EventRefusal) (old new : Outside) (s : Status) → (reason ≢ E.Memory → ◌≡◌ {A = Result (List Event) EventRefusal} read (Err reason))
     → TellsEvents reason old new s → EndsWith (answer_by_events a tree inputs read) (looked_for inputs) old new s
 events_stop a tree inputs (E.BadEventLine line) read old new s is says =
-    refused_ends a tree inputs (E.BadEventLine line) read old new s (is (λ e. cc)) (endings_follow.said (only_complains 7 (events_refused (E.BadEventLine line)) inputs) (looked_for inputs) old new s refl refl says)
+    refused_ends a tree inputs (E.BadEventLine line) read old new s (is (λ e. cc)) (endings_follow.said (only_complains EventsRefused (events_refused (E.BadEventLine line)) inputs) (looked_for inputs) old new s refl refl says)
 events_stop a tree inputs (E.UnknownPort line) read old new s is says =
-    refused_ends a tree inputs (E.UnknownPort line) read old new s (is (λ e. cc)) (endings_follow.said (only_complains 7 (events_refused (E.UnknownPort line)) inputs) (looked_for inputs) old new s refl refl says)
+    refused_ends a tree inputs (E.UnknownPort line) read old new s (is (λ e. cc)) (endings_follow.said (only_complains EventsRefused (events_refused (E.UnknownPort line)) inputs) (looked_for inputs) old new s refl refl says)
 events_stop a tree inputs (E.TooLarge line) read old new s is says =
-    refused_ends a tree inputs (E.TooLarge line) read old new s (is (λ e. cc)) (endings_follow.said (only_complains 7 (events_refused (E.TooLarge line)) inputs) (looked_for inputs) old new s refl refl says)
+    refused_ends a tree inputs (E.TooLarge line) read old new s (is (λ e. cc)) (endings_follow.said (only_complains EventsRefused (events_refused (E.TooLarge line)) inputs) (looked_for inputs) old new s refl refl says)
 events_stop a tree inputs E.Memory read old new s is (own, same) =
     let x = answer_by_events a tree inputs read in
     let ends = endings_follow.memory x (looked_for inputs) old (none_begun x (looked_for inputs) refl refl) in
-    subst (λ n. EndsWith x (looked_for inputs) old new n) (sym own) (subst (λ (o : Outside). EndsWith x (looked_for inputs) old o 12) (sym same) ends)
+    subst (λ n. EndsWith x (looked_for inputs) old new n) (sym own) (subst (λ (o : Outside). EndsWith x (looked_for inputs) old o NoMemory) (sym same) ends)
 
 -- ---- with a file of events, and without
 
-pub no_events : (x : code.Asked) (files : Files) (tree : Tree) (inputs : List Word) (events : List Event) (old new : Outside) (s : ℕ) → text_of_name x.events ≡ None → events ≡ []
+pub no_events : (x : code.Asked) (files : Files) (tree : Tree) (inputs : List Word) (events : List Event) (old new : Outside) (s : Status) → text_of_name x.events ≡ None → events ≡ []
     → EndsWith (answer_from (asked_of x) tree events inputs None) (looked_for inputs) old new s → EndsWith (answer_with (asked_of x) files tree inputs) (looked_for inputs) old new s
 no_events x files tree inputs events old new s is none ends =
     subst (λ (a : Answer). EndsWith a (looked_for inputs) old new s) (sym (answer_is x files tree inputs ∙ ap (with_those (asked_of x) files tree inputs) is))
     (subst (λ (es : List Event). EndsWith (answer_from (asked_of x) tree es inputs None) (looked_for inputs) old new s) none ends)
 
-pub some_events : (x : code.Asked) (files : Files) (tree : Tree) (inputs : List Word) (name : Word) (old new : Outside) (s : ℕ) → text_of_name x.events ≡ Some name
+pub some_events : (x : code.Asked) (files : Files) (tree : Tree) (inputs : List Word) (name : Word) (old new : Outside) (s : Status) → text_of_name x.events ≡ Some name
     → EndsWith (answer_by_file (asked_of x) tree name inputs (files name)) (looked_for inputs) old new s → EndsWith (answer_with (asked_of x) files tree inputs) (looked_for inputs) old new s
 some_events x files tree inputs name old new s is ends =
     subst (λ (a : Answer). EndsWith a (looked_for inputs) old new s) (sym (answer_is x files tree inputs ∙ ap (with_those (asked_of x) files tree inputs) is)) ends

@@ -20,6 +20,8 @@ use Rattle.answer_model.specs.Answer as A
 use Rattle.answer_model.specs.Answer.{Answer, only_complains, with_file}
 use Rattle.answer_model.specs.Asked.{Source, file, made, Asked}
 use Rattle.answer_model.specs.Cdpp.{with_source, if_model, drawing_of, answer_with, answer_to}
+use Rattle.answer_model.specs.declared.status.Status.{Status}
+use Rattle.answer_model.specs.declared.status.Status.TheVariants.{ModelRefused, NoMemory}
 use Rattle.answer_model.specs.Endings.{looked_for, EndsWith}
 use Rattle.answer_model.specs.Headline.{Begins}
 use Rattle.answer_model.specs.Refusals.{model_refused}
@@ -38,7 +40,7 @@ Going = Tree → List Word → Answer
 abbrev pub after : ModelOf → List Word → Going → Answer
 after (model t) looked go = go t looked
 after (missing name) looked go = A.missing name looked
-after (refused r) looked go = only_complains 6 (model_refused r) looked
+after (refused r) looked go = only_complains ModelRefused (model_refused r) looked
 
 found_after : (found : ModelOf) (looked front : List Word) (go : Going) → if_model (record { looked = looked; found = found }) front go ≡ after found (front ++ looked) go
 found_after (model t) looked front go = refl
@@ -74,14 +76,14 @@ after_begins (missing name) looked go begun = begins_all looked
 after_begins (refused r) looked go begun = begins_all looked
 
 -- there is a model, and the program goes on
-pub read_runs : (found : ModelOf) (looked : List Word) (go : Going) (t : Tree) (old mid new : Outside) (s : ℕ) → Begun go → found ≡ model t → mid.tried ≡ old.tried ++ looked → OnlyInput old mid → KeepsReadFaults old mid
+pub read_runs : (found : ModelOf) (looked : List Word) (go : Going) (t : Tree) (old mid new : Outside) (s : Status) → Begun go → found ≡ model t → mid.tried ≡ old.tried ++ looked → OnlyInput old mid → KeepsReadFaults old mid
     → EndsWith (go t looked) (looked_for looked) mid new s → EndsWith (after found looked go) (looked_for []) old new s
 read_runs found looked go t old mid new s begun is tried only keeps ends =
     subst (λ (f : ModelOf). EndsWith (after f looked go) (looked_for []) old new s) (sym is)
     (then_ends (go t looked) (looked_for []) (looked_for looked) old mid new s (tried_all (go t looked) looked old mid (begun t looked) tried only keeps) ends)
 
 -- there is none, and a line tells why
-pub read_stops : (T : Type 0) (reason : ModelRefusal) (stock : List Stocked) (found : ModelOf) (looked : List Word) (go : Going) (old mid new : Outside) (s : ℕ) → Begun go
+pub read_stops : (T : Type 0) (reason : ModelRefusal) (stock : List Stocked) (found : ModelOf) (looked : List Word) (go : Going) (old mid new : Outside) (s : Status) → Begun go
     → ModelGives found stock (Err reason) → Tried {T = T} (Err reason) looked old.tried mid.tried → Counted {T = T} (Err reason) old mid → OnlyInput old mid → KeepsReadFaults old mid
     → TellsModel reason mid new s → EndsWith (after found looked go) (looked_for []) old new s
 read_stops T (why.Missing name) stock found looked go old mid new s begun gives tried counted only keeps says =
@@ -89,7 +91,7 @@ read_stops T (why.Missing name) stock found looked go old mid new s begun gives 
     subst (λ (f : ModelOf). EndsWith (after f looked go) (looked_for []) old new s) (sym gives)
     (then_ends x (looked_for []) (looked_for looked) old mid new s (tried_all x looked old mid (begins_all looked) tried only keeps) (endings_follow.said x (looked_for looked) mid new s refl refl says))
 read_stops T (why.Refused line kind) stock found looked go old mid new s begun gives tried counted only keeps says =
-    let x = only_complains 6 (model_refused (refusal line kind)) looked in
+    let x = only_complains ModelRefused (model_refused (refusal line kind)) looked in
     subst (λ (f : ModelOf). EndsWith (after f looked go) (looked_for []) old new s) (sym gives)
     (then_ends x (looked_for []) (looked_for looked) old mid new s (tried_all x looked old mid (begins_all looked) tried only keeps) (endings_follow.said x (looked_for looked) mid new s refl refl says))
 read_stops T (why.ReadFault name) stock found looked go old mid new s begun gives (part, begins, tried) counted only keeps says =
@@ -100,5 +102,5 @@ read_stops T (why.ReadFault name) stock found looked go old mid new s begun give
 read_stops T why.Memory stock found looked go old mid new s begun gives (part, begins, tried) counted only keeps (own, same) =
     let x = after found looked go in
     let leads = tried_all x part old mid (begins_more part looked x.inputs begins (after_begins found looked go begun)) tried only keeps in
-    let ends = then_ends x (looked_for []) (looked_for part) old mid mid 12 leads (endings_follow.memory x (looked_for part) mid (none_begun x (looked_for part) refl refl)) in
-    subst (λ n. EndsWith x (looked_for []) old new n) (sym own) (subst (λ (o : Outside). EndsWith x (looked_for []) old o 12) (sym same) ends)
+    let ends = then_ends x (looked_for []) (looked_for part) old mid mid NoMemory leads (endings_follow.memory x (looked_for part) mid (none_begun x (looked_for part) refl refl)) in
+    subst (λ n. EndsWith x (looked_for []) old new n) (sym own) (subst (λ (o : Outside). EndsWith x (looked_for []) old o NoMemory) (sym same) ends)

@@ -18,6 +18,8 @@ use Rattle.asked_words.specs.declared.asked.Asked as code
 use Rattle.asked_words.specs.Shown.{asked_of, source_of}
 use Rattle.answer_model.specs.Answer.{Answer}
 use Rattle.answer_model.specs.Cdpp.{drawing_of, answer_with, answer_to, answer}
+use Rattle.answer_model.specs.declared.status.Status.{Status}
+use Rattle.answer_model.specs.declared.status.Status.TheVariants.{NoMemory}
 use Rattle.answer_model.specs.Headline.{Writes}
 use Rattle.answer_model.specs.Programs.{CdppEnds}
 use Rattle.answer_model.proofs.Endings.{endings_follow}
@@ -49,7 +51,7 @@ abbrev pub ReadsAsked : code.Asked → List Class → List Stocked → Result (M
 ReadsAsked x classes stock result old new = Reads (source_read (source_of x.source) classes (drawing_of (asked_of x).frames)) (drawing_of (asked_of x).frames) stock result old new
 
 -- there is a model, and the program goes on
-pub runs_on : (x : code.Asked) (classes : List Class) (stock : List Stocked) (m : Model) (routes : Routes) (old mid new : Outside) (s : ℕ) → ReadsAsked x classes stock (Ok (m, routes)) old mid
+pub runs_on : (x : code.Asked) (classes : List Class) (stock : List Stocked) (m : Model) (routes : Routes) (old mid new : Outside) (s : Status) → ReadsAsked x classes stock (Ok (m, routes)) old mid
     → IfSome mid.files (λ files. (inputs : List Word) → EndsWith (answer_with (asked_of x) files (tree_on m stock) inputs) (looked_for inputs) mid new s)
     → IfSome old.files (λ files. EndsWith (answer_to (asked_of x) files classes) (looked_for []) old new s)
 runs_on x classes stock m routes old mid new s reads ends =
@@ -63,7 +65,7 @@ runs_on x classes stock m routes old mid new s reads ends =
     reads.found reads.tried (subst (λ (o : Option Files). IfSome o Later) reads.only.files ends)
 
 -- there is none
-pub stops_at : (x : code.Asked) (classes : List Class) (stock : List Stocked) (reason : ModelRefusal) (old mid new : Outside) (s : ℕ) → ReadsAsked x classes stock (Err reason) old mid → TellsModel reason mid new s
+pub stops_at : (x : code.Asked) (classes : List Class) (stock : List Stocked) (reason : ModelRefusal) (old mid new : Outside) (s : Status) → ReadsAsked x classes stock (Err reason) old mid → TellsModel reason mid new s
     → IfSome old.files (λ files. EndsWith (answer_to (asked_of x) files classes) (looked_for []) old new s)
 stops_at x classes stock reason old mid new s reads tells =
     let a = asked_of x in
@@ -89,7 +91,7 @@ visits_of_read x classes stock m routes old mid before after reads within =
 -- ---- without faults
 
 -- where no fault of reading or writing was counted, what comes is the answer, or memory ran out
-pub surely_answered : (words : List Word) (classes : List Class) (old new : Outside) (s : ℕ) → ¬ ReadFaultCounted old new → ¬ WriteFaultCounted old new → CdppEnds words classes old new s
-    → IfSome old.files (λ files. (s ≡ 12) ⊎ Writes (answer words files classes) old new s)
+pub surely_answered : (words : List Word) (classes : List Class) (old new : Outside) (s : Status) → ¬ ReadFaultCounted old new → ¬ WriteFaultCounted old new → CdppEnds words classes old new s
+    → IfSome old.files (λ files. (s ≡ NoMemory) ⊎ Writes (answer words files classes) old new s)
 surely_answered words classes old new s no_read no_write ends =
     IfSome_then old.files ends (λ files o. endings_follow.surely (answer words files classes) old new s o no_read no_write)

@@ -19,6 +19,7 @@ use Rattle.flat_run.specs.Changes.{tree_with, StartsFrom}
 use Rattle.flat_run.specs.Standing.{Standing, tree_in}
 use Rattle.asked_words.specs.declared.asked.Asked.{Asked}
 use Rattle.asked_words.specs.Shown.{asked_of, made_names, given_names}
+use Rattle.answer_model.specs.declared.status.Status.TheVariants.{NoMemory}
 use Rattle.answer_model.specs.Answer.{Answer}
 use Rattle.answer_model.specs.Asked as A
 use Rattle.answer_model.specs.Endings.{looked_for, EndsWith}
@@ -112,5 +113,5 @@ run_visits o s m stock events end limit may made =
     ∙ (λ i. visits (tree_made s m stock events end limit made i) (run (tree_made s m stock events end limit made i) (events_made s m stock events end limit made i) (made.end_is i) (made.limit_is i)))
 
 -- memory ran out before anything was made
-pub no_memory : (x : Answer) (inputs : List Word) (now : Outside) → EndsWith x (looked_for inputs) now now 12
+pub no_memory : (x : Answer) (inputs : List Word) (now : Outside) → EndsWith x (looked_for inputs) now now NoMemory
 no_memory x inputs now = endings_follow.memory x (looked_for inputs) now (none_begun x (looked_for inputs) refl refl)

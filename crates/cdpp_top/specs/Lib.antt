@@ -1,4 +1,3 @@
-pub mod Statuses
 pub mod Starting
 pub mod Reading
 pub mod Visits

@@ -1,5 +1,5 @@
 -- What is answered where the reading of a model or of events ends.
-use Rattle.std.specs.Prelude.{◌≡◌, ℕ, Option, Some, None, List, [], ◌∷◌, ◌++◌, codes}
+use Rattle.std.specs.Prelude.{◌≡◌, Option, Some, None, List, [], ◌∷◌, ◌++◌, codes}
 use Rattle.std.specs.declared.result.Result.{Result}
 use Rattle.quantity.specs.Bytes.{Bytes}
 use Rattle.source_text.specs.Lines.{Files}
@@ -23,6 +23,8 @@ use Rattle.answer_model.specs.Asked.{Source, file, made, Asked}
 use Rattle.answer_model.specs.Cdpp.{answer_from}
 use Rattle.answer_model.specs.Endings.{Says}
 use Rattle.answer_model.specs.Refusals.{model_refused, events_refused}
+use Rattle.answer_model.specs.declared.status.Status.{Status}
+use Rattle.answer_model.specs.declared.status.Status.TheVariants.{Missing, ReadFault, ModelRefused, EventsRefused, NoMemory}
 
 -- ---- the model
 
@@ -32,30 +34,30 @@ source_read (file name) classes drawing files = of_name name classes drawing fil
 source_read (made size) classes drawing files = model_of (made_text size) files classes drawing
 
 -- a line tells why there is no model; for want of memory there is none
-abbrev pub TellsModel : ModelRefusal → Outside → Outside → ℕ → Type 0
+abbrev pub TellsModel : ModelRefusal → Outside → Outside → Status → Type 0
 TellsModel (why.Missing name) old new status =
-    Says (ended (codes "missing: " ++ name)) 3 old new status
-TellsModel (why.ReadFault name) old new status = Says (read_fault_line name) 4 old new status
+    Says (ended (codes "missing: " ++ name)) Missing old new status
+TellsModel (why.ReadFault name) old new status = Says (read_fault_line name) ReadFault old new status
 TellsModel (why.Refused line kind) old new status =
-    Says (ended (model_refused (refusal line kind))) 6 old new status
-TellsModel why.Memory old new status = (status ≡ 12) × (new ≡ old)
+    Says (ended (model_refused (refusal line kind))) ModelRefused old new status
+TellsModel why.Memory old new status = (status ≡ NoMemory) × (new ≡ old)
 
 -- ---- the events
 
 -- a line tells why there are no events; for want of memory there is none
-abbrev pub TellsEvents : EventRefusal → Outside → Outside → ℕ → Type 0
+abbrev pub TellsEvents : EventRefusal → Outside → Outside → Status → Type 0
 TellsEvents (E.BadEventLine line) old new status =
-    Says (ended (events_refused (E.BadEventLine line))) 7 old new status
+    Says (ended (events_refused (E.BadEventLine line))) EventsRefused old new status
 TellsEvents (E.UnknownPort line) old new status =
-    Says (ended (events_refused (E.UnknownPort line))) 7 old new status
+    Says (ended (events_refused (E.UnknownPort line))) EventsRefused old new status
 TellsEvents (E.TooLarge line) old new status =
-    Says (ended (events_refused (E.TooLarge line))) 7 old new status
-TellsEvents E.Memory old new status = (status ≡ 12) × (new ≡ old)
+    Says (ended (events_refused (E.TooLarge line))) EventsRefused old new status
+TellsEvents E.Memory old new status = (status ≡ NoMemory) × (new ≡ old)
 
 -- what is answered once a file of events is read, where these files were looked for
 abbrev pub answer_by_events : Asked → Tree → List Word → Result (List Event) EventRefusal → Answer
 answer_by_events a tree inputs read =
-    unless_refused 7 events_refused inputs read (λ events. answer_from a tree events inputs None)
+    unless_refused EventsRefused events_refused inputs read (λ events. answer_from a tree events inputs None)
 
 -- what is answered by the bytes of the file of events, which may be missing
 abbrev pub answer_by_file : Asked → Tree → Word → List Word → Option Bytes → Answer

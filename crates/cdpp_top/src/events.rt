@@ -7,7 +7,8 @@ ghost use Rattle.answer_model.specs.Cdpp.{answer_with};
 ghost use Rattle.answer_model.specs.Endings.{looked_for, EndsWith};
 ghost use Rattle.asked_words.specs.Shown.{asked_of};
 ghost use Rattle.cdpp_top.specs.Starting.{tree_on, MayStart};
-ghost use Rattle.cdpp_top.specs.Statuses.{EndsBy};
+ghost use Rattle.answer_model.specs.Outcome.{EndsBy};
+ghost use Rattle.answer_model.specs.Status.{of_reading};
 ghost use Rattle.cdpp_top.specs.Reading.{answer_by_file, answer_by_events};
 ghost use Rattle.cdpp_top.specs.Visits.{visits_by_events, visits_by_file, visits_with};
 
@@ -23,8 +24,7 @@ use quantity::MAX_FILE_BYTES;
 use room_edge::{ReadWhole, Room, read_whole};
 use std::alloc::Global;
 use std::sync::ledger::Ledger;
-use told_lines::complain_named;
-use told_lines::status::{MISSING, NO_MEMORY, READ_FAULT};
+use told_lines::{Status, complain_named};
 
 // The most bytes that a file of events may have.
 const LONGEST: u32 = MAX_FILE_BYTES as u32;
@@ -36,12 +36,12 @@ pub(crate) fn run_with_events<R: Room, M: AtomicModel, L: Ledger>(
     asked: &Asked<'_>,
     start: Start<M>,
     steps: &mut Steps<L>,
-) -> u8
+) -> Status
     requires { MayStart asked.now start.stock start.model start.routes }
     ensures ends { IfSome (R.outside room.old).files (λ files. (inputs : List Word) → EndsWith
         (answer_with (asked_of asked.now) files (tree_on start.model start.stock) inputs)
         (looked_for inputs) (R.outside room.old) (R.outside room.new) result) }
-    ensures causes { EndsBy (R.outside room.old) (R.outside room.new) result }
+    ensures causes { EndsBy of_reading (R.outside room.old) (R.outside room.new) result }
     ensures visits { IfSome (R.outside room.old).files (λ files. steps.new ≤ steps.old
         + visits_with (asked_of asked.now) files (tree_on start.model start.stock)) }
 {
@@ -62,13 +62,13 @@ fn run_with_file<R: Room, M: AtomicModel, L: Ledger>(
     name: &str,
     start: Start<M>,
     steps: &mut Steps<L>,
-) -> u8
+) -> Status
     requires { MayStart asked.now start.stock start.model start.routes }
     ensures ends { IfSome (R.outside room.old).files (λ files. (inputs : List Word) → EndsWith
         (answer_by_file (asked_of asked.now) (tree_on start.model start.stock) name.now inputs
         (files name.now))
         (looked_for inputs) (R.outside room.old) (R.outside room.new) result) }
-    ensures causes { EndsBy (R.outside room.old) (R.outside room.new) result }
+    ensures causes { EndsBy of_reading (R.outside room.old) (R.outside room.new) result }
     ensures visits { IfSome (R.outside room.old).files (λ files. steps.new ≤ steps.old
         + visits_by_file (asked_of asked.now) (tree_on start.model start.stock) (files name.now)) }
 {
@@ -77,12 +77,12 @@ fn run_with_file<R: Room, M: AtomicModel, L: Ledger>(
         Err(why) => {
             drop(start);
             match why {
-                ReadWhole::Missing => complain_named(alloc, room, b"missing: ", name, MISSING),
+                ReadWhole::Missing => complain_named(alloc, room, b"missing: ", name, Status::Missing),
                 ReadWhole::ReadFault => {
-                    complain_named(alloc, room, b"read fault: ", name, READ_FAULT)
+                    complain_named(alloc, room, b"read fault: ", name, Status::ReadFault)
                 }
                 ReadWhole::TooLong(_) => tell_events(alloc, room, EventRefusal::TooLarge(0)),
-                ReadWhole::Memory => NO_MEMORY,
+                ReadWhole::Memory => Status::NoMemory,
             }
         }
     }
@@ -96,14 +96,14 @@ fn run_with_bytes<R: Room, M: AtomicModel, L: Ledger>(
     bytes: &[u8],
     start: Start<M>,
     steps: &mut Steps<L>,
-) -> u8
+) -> Status
     requires start { MayStart asked.now start.stock start.model start.routes }
     requires short { length bytes.now ≤ MAX_FILE_BYTES }
     ensures ends { (inputs : List Word) → EndsWith
         (answer_by_events (asked_of asked.now) (tree_on start.model start.stock) inputs
         (events_of bytes.now (ins_of (tree_on start.model start.stock))))
         (looked_for inputs) (R.outside room.old) (R.outside room.new) result }
-    ensures causes { EndsBy (R.outside room.old) (R.outside room.new) result }
+    ensures causes { EndsBy of_reading (R.outside room.old) (R.outside room.new) result }
     ensures visits { let tree = tree_on start.model start.stock in
         steps.new ≤ steps.old
         + visits_by_events (asked_of asked.now) tree (events_of bytes.now (ins_of tree)) }

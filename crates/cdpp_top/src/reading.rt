@@ -11,7 +11,8 @@ ghost use Rattle.answer_model.specs.Cdpp.{drawing_of, answer_to};
 ghost use Rattle.answer_model.specs.Endings.{looked_for, EndsWith};
 ghost use Rattle.asked_words.specs.Shown.{asked_of, source_of, frames_of, IsInBounds, IsOfSize};
 ghost use Rattle.cdpp_top.specs.Starting.{tree_on};
-ghost use Rattle.cdpp_top.specs.Statuses.{EndsBy};
+ghost use Rattle.answer_model.specs.Outcome.{EndsBy};
+ghost use Rattle.answer_model.specs.Status.{of_reading};
 ghost use Rattle.cdpp_top.specs.Reading.{source_read};
 ghost use Rattle.cdpp_top.specs.Visits.{visits_to};
 
@@ -28,6 +29,7 @@ use room_edge::Room;
 use route_flat::Routes;
 use std::alloc::{AllocError, Global};
 use std::sync::ledger::Ledger;
+use told_lines::Status;
 
 /// Reads the model and runs it.
 pub(crate) fn read_asked<R: Room, M: AtomicModel, L: Ledger>(
@@ -36,13 +38,13 @@ pub(crate) fn read_asked<R: Room, M: AtomicModel, L: Ledger>(
     asked: &Asked<'_>,
     stock: Stock<M>,
     steps: &mut Steps<L>,
-) -> u8
+) -> Status
     requires bounds { IsInBounds asked.now }
     requires free { IsTrue (list_all (λ s. not s.taken) stock) }
     ensures ends { IfSome (R.outside room.old).files (λ files. EndsWith
         (answer_to (asked_of asked.now) files (classes_of stock)) (looked_for [])
         (R.outside room.old) (R.outside room.new) result) }
-    ensures causes { EndsBy (R.outside room.old) (R.outside room.new) result }
+    ensures causes { EndsBy of_reading (R.outside room.old) (R.outside room.new) result }
     ensures visits { IfSome (R.outside room.old).files (λ files. steps.new ≤ steps.old
         + visits_to (asked_of asked.now) files (classes_of stock)) }
 {

@@ -8,7 +8,8 @@ ghost use Rattle.answer_model.specs.Cdpp.{answer_from};
 ghost use Rattle.answer_model.specs.Endings.{looked_for, EndsWith};
 ghost use Rattle.asked_words.specs.Shown.{asked_of};
 ghost use Rattle.cdpp_top.specs.Starting.{tree_on, MayStart};
-ghost use Rattle.cdpp_top.specs.Statuses.{EndsBy};
+ghost use Rattle.answer_model.specs.Outcome.{EndsBy};
+ghost use Rattle.answer_model.specs.Status.{of_reading};
 
 use crate::outputs::outputs_of;
 use crate::start::Start;
@@ -21,7 +22,7 @@ use room_edge::Room;
 use run_loop::run_and_tell;
 use std::alloc::Global;
 use std::sync::ledger::Ledger;
-use told_lines::status::NO_MEMORY;
+use told_lines::Status;
 
 /// Runs a model with these events, and tells how that went.
 pub(crate) fn run_from<R: Room, M: AtomicModel, L: Ledger>(
@@ -31,20 +32,20 @@ pub(crate) fn run_from<R: Room, M: AtomicModel, L: Ledger>(
     start: Start<M>,
     events: Events,
     steps: &mut Steps<L>,
-) -> u8
+) -> Status
     requires start { MayStart asked.now start.stock start.model start.routes }
     requires at_inputs { AreAtInputs (ins_of (tree_on start.model start.stock)) events }
     ensures ends { (inputs : List Word) → EndsWith
         (answer_from (asked_of asked.now) (tree_on start.model start.stock) events inputs None)
         (looked_for inputs) (R.outside room.old) (R.outside room.new) result }
-    ensures causes { EndsBy (R.outside room.old) (R.outside room.new) result }
+    ensures causes { EndsBy of_reading (R.outside room.old) (R.outside room.new) result }
     // The visits that the reference run may cost.
     ensures visits { let tree = tree_on start.model start.stock in
         steps.new ≤ steps.old + visits tree (run_of tree events asked.now.end asked.now.limit) }
 {
     let Ok(queue) = LinkedQueue::with_leaves(alloc, start.model.leaves()) else {
         drop((start, events));
-        return NO_MEMORY;
+        return Status::NoMemory;
     };
     let run = FlatRun::new(
         alloc,
@@ -57,7 +58,7 @@ pub(crate) fn run_from<R: Room, M: AtomicModel, L: Ledger>(
         asked.limit,
     );
     let Ok(mut run) = run else {
-        return NO_MEMORY;
+        return Status::NoMemory;
     };
     let outputs = outputs_of(asked);
     let status = run_and_tell(alloc, room, &outputs, &mut run, steps);

@@ -4,7 +4,7 @@ ghost use Rattle.std.specs.String.{string_bytes};
 ghost use Rattle.room_edge.specs.Sure.{sure_outside};
 ghost use Rattle.answer_model.specs.Cdpp.{answer};
 ghost use Rattle.answer_model.specs.Headline.{Writes};
-ghost use Rattle.told_lines.specs.declared.status.TheConstants.{NO_MEMORY};
+ghost use Rattle.answer_model.specs.declared.status.Status.TheVariants.{NoMemory};
 ghost use Rattle.cdpp_top.specs.Starting.{classes_by};
 
 use crate::program::cdpp;
@@ -13,6 +13,7 @@ use flat_run::Steps;
 use room_edge::SureRoom;
 use std::alloc::Global;
 use std::sync::ledger::Ledger;
+use told_lines::Status;
 
 /// Runs the program over a room that never fails: what comes is the answer, but for want of memory.
 pub fn cdpp_surely<L: Ledger>(
@@ -21,9 +22,9 @@ pub fn cdpp_surely<L: Ledger>(
     boxes: Vec<Box<dyn AtomicModel>>,
     room: &mut SureRoom,
     steps: &mut Steps<L>,
-) -> u8
+) -> Status
     requires few { length boxes.items < 2 ^ 32 }
-    ensures { IfSome (sure_outside room.old).files (λ files. (result ≡ NO_MEMORY) ⊎ Writes
+    ensures { IfSome (sure_outside room.old).files (λ files. (result ≡ NoMemory) ⊎ Writes
         (answer (map string_bytes words.now) files
         (classes_by (λ b. (AtomicModel-box b).held b.value) boxes.items))
         (sure_outside room.old) (sure_outside room.new) result) }

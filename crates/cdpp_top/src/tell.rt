@@ -3,7 +3,7 @@ ghost use Rattle.std.specs.Prelude.{◌++◌, codes};
 ghost use Rattle.text_forms.specs.Lines.{ended};
 ghost use Rattle.answer_model.specs.Answer.{refused_text};
 ghost use Rattle.answer_model.specs.Endings.{Says};
-ghost use Rattle.told_lines.specs.declared.status.TheConstants.{EVENTS_REFUSED};
+ghost use Rattle.answer_model.specs.declared.status.Status.TheVariants.{EventsRefused};
 ghost use Rattle.cdpp_top.specs.Reading.{TellsModel, TellsEvents};
 
 use crate::lines::refused_line;
@@ -11,19 +11,18 @@ use event_list::EventRefusal;
 use model_read::ModelRefusal;
 use room_edge::Room;
 use std::alloc::Global;
-use told_lines::status::{EVENTS_REFUSED, MISSING, MODEL_REFUSED, NO_MEMORY, READ_FAULT};
-use told_lines::{complain, complain_of};
+use told_lines::{Status, complain, complain_of};
 
 /// Tells why there is no model, as far as it can.
-pub(crate) fn tell_model<R: Room>(alloc: Global, room: &mut R, why: ModelRefusal) -> u8
+pub(crate) fn tell_model<R: Room>(alloc: Global, room: &mut R, why: ModelRefusal) -> Status
     ensures { TellsModel why (R.outside room.old) (R.outside room.new) result }
 {
     match why {
         ModelRefusal::Missing(name) => {
-            complain_of(alloc, room, b"missing: ", name.as_bytes(), MISSING)
+            complain_of(alloc, room, b"missing: ", name.as_bytes(), Status::Missing)
         }
         ModelRefusal::ReadFault(name) => {
-            complain_of(alloc, room, b"read fault: ", name.as_bytes(), READ_FAULT)
+            complain_of(alloc, room, b"read fault: ", name.as_bytes(), Status::ReadFault)
         }
         ModelRefusal::Refused { line, kind } => tell_refused(
             alloc,
@@ -31,30 +30,30 @@ pub(crate) fn tell_model<R: Room>(alloc: Global, room: &mut R, why: ModelRefusal
             b"model",
             line,
             kind.text().as_bytes(),
-            MODEL_REFUSED,
+            Status::ModelRefused,
         ),
-        ModelRefusal::Memory => NO_MEMORY,
+        ModelRefusal::Memory => Status::NoMemory,
     }
 }
 
 /// Tells why there are no events, as far as it can.
-pub(crate) fn tell_events<R: Room>(alloc: Global, room: &mut R, why: EventRefusal) -> u8
+pub(crate) fn tell_events<R: Room>(alloc: Global, room: &mut R, why: EventRefusal) -> Status
     ensures { TellsEvents why (R.outside room.old) (R.outside room.new) result }
 {
     match why {
         EventRefusal::BadEventLine(line) => { refuse_events(alloc, room, line, b"1 BadEventLine") }
         EventRefusal::UnknownPort(line) => refuse_events(alloc, room, line, b"2 UnknownPort"),
         EventRefusal::TooLarge(line) => refuse_events(alloc, room, line, b"3 TooLarge"),
-        EventRefusal::Memory => NO_MEMORY,
+        EventRefusal::Memory => Status::NoMemory,
     }
 }
 
 /// Tells at which line the events are refused, and why.
-fn refuse_events<R: Room>(alloc: Global, room: &mut R, line: u32, why: &[u8]) -> u8
-    ensures { Says (ended (refused_text (codes "events") line why.now)) EVENTS_REFUSED
+fn refuse_events<R: Room>(alloc: Global, room: &mut R, line: u32, why: &[u8]) -> Status
+    ensures { Says (ended (refused_text (codes "events") line why.now)) EventsRefused
         (R.outside room.old) (R.outside room.new) result }
 {
-    tell_refused(alloc, room, b"events", line, why, EVENTS_REFUSED)
+    tell_refused(alloc, room, b"events", line, why, Status::EventsRefused)
 }
 
 /// Complains of what is refused.
@@ -64,13 +63,13 @@ fn tell_refused<R: Room>(
     what: &[u8],
     number: u32,
     why: &[u8],
-    status: u8,
-) -> u8
+    status: Status,
+) -> Status
     ensures { Says (ended (refused_text what.now number why.now)) status
         (R.outside room.old) (R.outside room.new) result }
 {
     let Ok(line) = refused_line(alloc, what, number, why) else {
-        return NO_MEMORY;
+        return Status::NoMemory;
     };
     complain(room, &line, status)
 }

@@ -7,13 +7,13 @@ use drawlog_top::drawlog;
 use room_edge::FolderRoom;
 use std::env;
 use std::process::ExitCode;
-use told_lines::status::NO_MEMORY;
+use told_lines::Status;
 
 fn main(rt: HostRuntime) -> ExitCode {
     let alloc = rt.alloc();
     let Ok(words) = given_words(alloc, env::args(&rt), "drawlog") else {
-        return ExitCode::from(NO_MEMORY);
+        return ExitCode::from(Status::NoMemory.number());
     };
     let mut room = FolderRoom::new(rt);
-    ExitCode::from(drawlog(alloc, &words, &mut room))
+    ExitCode::from(drawlog(alloc, &words, &mut room).number())
 }

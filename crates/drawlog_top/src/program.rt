@@ -1,14 +1,15 @@
 // The drawing program.
-ghost use Rattle.std.specs.Prelude.{◌≡◌, [], map, Contains, IfSome};
+ghost use Rattle.std.specs.Prelude.{◌≡◌, [], map, IfSome};
 ghost use Rattle.std.specs.String.{string_bytes};
-ghost use Rattle.room_edge.specs.Faults.{MissCounted, ReadFaultCounted, WriteFaultCounted};
 ghost use Rattle.frame_draw.specs.Drawing.{CanDraw};
 ghost use Rattle.answer_model.specs.Endings.{looked_for, EndsWith};
+ghost use Rattle.answer_model.specs.declared.status.Status.TheVariants.{ReadFault};
 ghost use Rattle.answer_model.specs.Headline.{WritesNothing};
+ghost use Rattle.answer_model.specs.Outcome.{EndsBy};
 ghost use Rattle.answer_model.specs.Programs.{DrawlogEnds, DrawlogCauses};
+ghost use Rattle.answer_model.specs.Status.{of_log};
 ghost use Rattle.asked_words.specs.Shown.{drawing_of};
-ghost use Rattle.told_lines.specs.declared.status.TheConstants.{MISSING, READ_FAULT, WRITE_FAULT};
-ghost use Rattle.drawlog_top.specs.Ends.{answer_to_file, read_statuses};
+ghost use Rattle.drawlog_top.specs.Ends.{answer_to_file};
 
 use crate::draw::draw;
 use crate::refuse::refuse;
@@ -16,52 +17,44 @@ use asked_words::{AskedDrawing, read_drawing_words};
 use quantity::MAX_LOG_BYTES;
 use room_edge::{ReadWhole, Room, read_whole};
 use std::alloc::Global;
-use told_lines::status::{MISSING, NO_MEMORY, READ_FAULT, USAGE};
-use told_lines::{complain, complain_named};
+use told_lines::{Status, complain, complain_named};
 
 // The most bytes that a log may have.
 const MOST_BYTES: u32 = MAX_LOG_BYTES as u32;
 
 // Reads the log and draws it.
-fn draw_asked<R: Room>(alloc: Global, room: &mut R, asked: &AskedDrawing<'_>) -> u8
+fn draw_asked<R: Room>(alloc: Global, room: &mut R, asked: &AskedDrawing<'_>) -> Status
     requires { CanDraw asked.now.space asked.now.plane asked.now.width asked.now.decimals }
     ensures ends { IfSome (R.outside room.old).files
         (λ files. EndsWith (answer_to_file (drawing_of asked.now) (files asked.now.log.now))
         (looked_for []) (R.outside room.old) (R.outside room.new) result) }
-    ensures known { Contains read_statuses result }
-    ensures missing { result ≡ MISSING → MissCounted (R.outside room.old) (R.outside room.new) }
-    ensures read_fault { result ≡ READ_FAULT
-        → ReadFaultCounted (R.outside room.old) (R.outside room.new) }
-    ensures write_fault { result ≡ WRITE_FAULT
-        → WriteFaultCounted (R.outside room.old) (R.outside room.new) }
-    ensures nothing { result ≡ READ_FAULT
-        → WritesNothing (R.outside room.old) (R.outside room.new) }
+    ensures causes { EndsBy of_log (R.outside room.old) (R.outside room.new) result }
 {
     match read_whole(alloc, room, asked.log, MOST_BYTES) {
         Ok(log) => draw(alloc, room, asked, &log),
-        Err(ReadWhole::Missing) => complain_named(alloc, room, b"missing: ", asked.log, MISSING),
+        Err(ReadWhole::Missing) => complain_named(alloc, room, b"missing: ", asked.log, Status::Missing),
         Err(ReadWhole::ReadFault) => {
-            complain_named(alloc, room, b"read fault: ", asked.log, READ_FAULT)
+            complain_named(alloc, room, b"read fault: ", asked.log, Status::ReadFault)
         }
         Err(ReadWhole::TooLong(_)) => refuse(alloc, room, 0),
-        Err(ReadWhole::Memory) => NO_MEMORY,
+        Err(ReadWhole::Memory) => Status::NoMemory,
     }
 }
 
 /// Runs the drawing program for the words of a command line, of which the first is its name:
 /// `drawlog -l LOG -g GROUP -s SIZE [-w WIDTH] [-p DECIMALS] [-f PLANE]`. Answers what a process
-/// ends with, one of `told_lines::status`: the frames are shown; the words are refused; the log is
+/// ends with: the frames are shown; the words are refused; the log is
 /// missing; a read failed; a write failed; the log is refused; want of memory.
-pub fn drawlog<R: Room>(alloc: Global, words: &[String], room: &mut R) -> u8
+pub fn drawlog<R: Room>(alloc: Global, words: &[String], room: &mut R) -> Status
     // Where the files are told: the answer whole, or what a fault or want of memory leaves of it,
     // with the line of that fault.
     ensures ends { DrawlogEnds (map string_bytes words.now) (R.outside room.old)
         (R.outside room.new) result }
-    // Over every room: each status only where its cause was counted, and 2 just where the words
-    // are refused and the complaint didn't fail.
+    // Over every room: each status only where its cause was counted, and that of refused words just
+    // where they are refused and the complaint didn't fail.
     ensures causes { DrawlogCauses (map string_bytes words.now) (R.outside room.old)
         (R.outside room.new) result }
-    ensures nothing { result ≡ READ_FAULT
+    ensures nothing { result ≡ ReadFault
         → WritesNothing (R.outside room.old) (R.outside room.new) }
 {
     match read_drawing_words(alloc, words) {
@@ -69,8 +62,8 @@ pub fn drawlog<R: Room>(alloc: Global, words: &[String], room: &mut R) -> u8
         Ok(None) => complain(
             room,
             b"usage: drawlog -l LOG -g GROUP -s SIZE [-w WIDTH] [-p DECIMALS] [-f PLANE]\n",
-            USAGE,
+            Status::Usage,
         ),
-        Err(_) => NO_MEMORY,
+        Err(_) => Status::NoMemory,
     }
 }

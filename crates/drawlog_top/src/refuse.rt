@@ -1,15 +1,14 @@
 // What is said of a log that is refused.
 ghost use Rattle.std.specs.Prelude.{◌≡◌, IfOk};
 ghost use Rattle.text_forms.specs.Lines.{ended};
+ghost use Rattle.answer_model.specs.declared.status.Status.TheVariants.{LogRefused};
 ghost use Rattle.answer_model.specs.Drawlog.{log_refused};
 ghost use Rattle.answer_model.specs.Endings.{Says};
-ghost use Rattle.told_lines.specs.declared.status.TheConstants.{LOG_REFUSED};
 
 use quantity::OutOfMemory;
 use room_edge::Room;
 use std::alloc::Global;
-use told_lines::complain;
-use told_lines::status::{LOG_REFUSED, NO_MEMORY};
+use told_lines::{Status, complain};
 
 /// The line that names the first line that is refused, or 0 for a log that is too long.
 fn refused_line(alloc: Global, line: u32) -> Result<Vec<u8>, OutOfMemory>
@@ -22,12 +21,12 @@ fn refused_line(alloc: Global, line: u32) -> Result<Vec<u8>, OutOfMemory>
 }
 
 /// Tells that the log is refused at a line.
-pub(crate) fn refuse<R: Room>(alloc: Global, room: &mut R, line: u32) -> u8
-    ensures { Says (ended (log_refused line)) LOG_REFUSED
+pub(crate) fn refuse<R: Room>(alloc: Global, room: &mut R, line: u32) -> Status
+    ensures { Says (ended (log_refused line)) LogRefused
         (R.outside room.old) (R.outside room.new) result }
 {
     let Ok(text) = refused_line(alloc, line) else {
-        return NO_MEMORY;
+        return Status::NoMemory;
     };
-    complain(room, &text, LOG_REFUSED)
+    complain(room, &text, Status::LogRefused)
 }

@@ -8,6 +8,9 @@ use Rattle.quantity.specs.Bytes.{Bytes}
 use Rattle.model_tree.specs.Tree.{Word}
 use Rattle.room_edge.specs.Faults.{WriteFaultCounted, KeepsWriteFaults}
 use Rattle.room_edge.specs.Outside.{Outside, OnlyMade, puts}
+use Rattle.answer_model.specs.declared.status.Status.{Status}
+use Rattle.answer_model.specs.declared.status.Status.TheVariants.{WriteFault, NoMemory}
+use Rattle.answer_model.specs.Status.{Part, IsOf}
 use Rattle.answer_model.specs.Answer.{MadeFiles, Answer, write_fault_line}
 use Rattle.answer_model.specs.Headline.{Begins, BeginFiles}
 use Rattle.answer_model.specs.Outcome.{Lacks}
@@ -202,7 +205,7 @@ if_some : {A : Type 0} (o : Option A) (P : A → Type 0) (x : A) → o ≡ Some 
 if_some {A} o P x is h = subst (λ (p : Option A). IfSome p P) is h
 
 -- a file lacks bytes, or memory ran out
-pub fell_ends : (a : Answer) (n : Names) (whole : Texts) (why : Unwritten) (inputs : List Word) (old mid new : Outside) (status : ℕ) → a.made ≡ files n whole → AreApart n → Falls n why whole old mid → Tells n why mid new status
+pub fell_ends : (a : Answer) (n : Names) (whole : Texts) (why : Unwritten) (inputs : List Word) (old mid new : Outside) (status : Status) → a.made ≡ files n whole → AreApart n → Falls n why whole old mid → Tells n why mid new status
     → EndsWith a (made_after inputs (files n no_texts)) old new status
 fell_ends a n whole (Fault file) inputs old mid new status made apart f tells =
     let s = some_of (name_at n file) f.lacks.0 in
@@ -210,15 +213,15 @@ fell_ends a n whole (Fault file) inputs old mid new status made apart f tells =
     write_failed a (made_after inputs (files n no_texts)) there old mid new s.0 status (f.adds.leads no_texts a inputs) f.fault
     (subst (BeginFiles (files n f.part)) (sym made) (begins_files n.log n.out n.frames f.part whole f.begins), none_begins a.shown)
     (lacks_file a n.log n.out n.frames inputs f.part whole file s.0 made apart s.1 f.lacks.1)
-    (if_some (name_at n file) (λ name. Says (write_fault_line name) 5 mid new status) s.0 s.1 tells)
+    (if_some (name_at n file) (λ name. Says (write_fault_line name) WriteFault mid new status) s.0 s.1 tells)
 fell_ends a n whole Memory inputs old mid new status made apart f (own, same) =
     let there = made_after inputs (files n f.part) in
-    let ends : EndsWith a (made_after inputs (files n no_texts)) old mid 12 = then_ends a (made_after inputs (files n no_texts)) there old mid mid 12 (f.adds.leads no_texts a inputs)
+    let ends : EndsWith a (made_after inputs (files n no_texts)) old mid NoMemory = then_ends a (made_after inputs (files n no_texts)) there old mid mid NoMemory (f.adds.leads no_texts a inputs)
     (endings_follow.memory a there mid (subst (BeginFiles (files n f.part)) (sym made) (begins_files n.log n.out n.frames f.part whole f.begins), none_begins a.shown)) in
-    subst (λ s. EndsWith a (made_after inputs (files n no_texts)) old new s) (sym own) (subst (λ o. EndsWith a (made_after inputs (files n no_texts)) old o 12) (sym same) ends)
+    subst (λ s. EndsWith a (made_after inputs (files n no_texts)) old new s) (sym own) (subst (λ o. EndsWith a (made_after inputs (files n no_texts)) old o NoMemory) (sym same) ends)
 
 -- a file could not be made, or memory ran out
-pub unmade_ends : (a : Answer) (n : Names) (whole : Texts) (why : Unwritten) (inputs : List Word) (old mid new : Outside) (status : ℕ) → a.made ≡ files n whole → AreApart n → FallsMaking n why old mid → Tells n why mid new status
+pub unmade_ends : (a : Answer) (n : Names) (whole : Texts) (why : Unwritten) (inputs : List Word) (old mid new : Outside) (status : Status) → a.made ≡ files n whole → AreApart n → FallsMaking n why old mid → Tells n why mid new status
     → EndsWith a (looked_for inputs) old new status
 unmade_ends a n whole (Fault file) inputs old mid new status made apart f tells =
     let s = some_of (name_at n file) f.there.0 in
@@ -227,12 +230,12 @@ unmade_ends a n whole (Fault file) inputs old mid new status made apart f tells 
     write_failed a (looked_for inputs) there old mid new s.0 status (f.leads a inputs) f.fault
     (subst (BeginFiles (made_before n f.file)) (sym made) (begins_before n.log n.out n.frames f.file whole), none_begins a.shown)
     (lacks_unmade a there s.0 (text_at whole f.file) (wanted a n.log n.out n.frames whole f.file s.0 made is) (unmade_before n.log n.out n.frames f.file s.0 apart is))
-    (if_some (name_at n file) (λ name. Says (write_fault_line name) 5 mid new status) s.0 s.1 tells)
+    (if_some (name_at n file) (λ name. Says (write_fault_line name) WriteFault mid new status) s.0 s.1 tells)
 unmade_ends a n whole Memory inputs old mid new status made apart f (own, same) =
     let there = made_after inputs (made_before n f.file) in
-    let ends : EndsWith a (looked_for inputs) old mid 12 = then_ends a (looked_for inputs) there old mid mid 12 (f.leads a inputs)
+    let ends : EndsWith a (looked_for inputs) old mid NoMemory = then_ends a (looked_for inputs) there old mid mid NoMemory (f.leads a inputs)
     (endings_follow.memory a there mid (subst (BeginFiles (made_before n f.file)) (sym made) (begins_before n.log n.out n.frames f.file whole), none_begins a.shown)) in
-    subst (λ s. EndsWith a (looked_for inputs) old new s) (sym own) (subst (λ o. EndsWith a (looked_for inputs) old o 12) (sym same) ends)
+    subst (λ s. EndsWith a (looked_for inputs) old new s) (sym own) (subst (λ o. EndsWith a (looked_for inputs) old o NoMemory) (sym same) ends)
 
 -- ---- statuses
 
@@ -244,14 +247,14 @@ pub making_blames : (n : Names) (why : Unwritten) (old new : Outside) → FallsM
 making_blames n (Fault file) old new f = f.there.0
 making_blames n Memory old new f = tt
 
-pub tells_among : (statuses : List ℕ) (n : Names) (why : Unwritten) (old new : Outside) (status : ℕ) → Blames n why → Contains statuses 5 → Contains statuses 12 → Tells n why old new status → Contains statuses status
-tells_among statuses n (Fault file) old new status blames fault memory tells =
+pub tells_among : (of : Part → Bool) (n : Names) (why : Unwritten) (old new : Outside) (status : Status) → Blames n why → IsOf of WriteFault → IsOf of NoMemory → Tells n why old new status → IsOf of status
+tells_among of n (Fault file) old new status blames fault memory tells =
     let s = some_of (name_at n file) blames in
-    said_among statuses (write_fault_line s.0) 5 old new status fault fault memory (if_some (name_at n file) (λ name. Says (write_fault_line name) 5 old new status) s.0 s.1 tells)
-tells_among statuses n Memory old new status blames fault memory (own, same) = subst (Contains statuses) (sym own) memory
+    said_among of (write_fault_line s.0) WriteFault old new status fault fault memory (if_some (name_at n file) (λ name. Says (write_fault_line name) WriteFault old new status) s.0 s.1 tells)
+tells_among of n Memory old new status blames fault memory (own, same) = subst (IsOf of) (sym own) memory
 
-pub tells_rose : (n : Names) (why : Unwritten) (old mid new : Outside) (status : ℕ) → Blames n why → KeepsWriteFaults old mid → FaultCounted why old mid → Tells n why mid new status → status ≡ 5 → WriteFaultCounted old new
+pub tells_rose : (n : Names) (why : Unwritten) (old mid new : Outside) (status : Status) → Blames n why → KeepsWriteFaults old mid → FaultCounted why old mid → Tells n why mid new status → status ≡ WriteFault → WriteFaultCounted old new
 tells_rose n (Fault file) old mid new status blames keeps rose tells five =
     let s = some_of (name_at n file) blames in
-    rose_by_said (write_fault_line s.0) 5 old mid new status keeps (λ e. rose) (if_some (name_at n file) (λ name. Says (write_fault_line name) 5 mid new status) s.0 s.1 tells) five
-tells_rose n Memory old mid new status blames keeps rose (own, same) five = absurd (omega (arith, own, five))
+    rose_by_said (write_fault_line s.0) WriteFault old mid new status keeps (λ e. rose) (if_some (name_at n file) (λ name. Says (write_fault_line name) WriteFault mid new status) s.0 s.1 tells) five
+tells_rose n Memory old mid new status blames keeps rose (own, same) five = absurd cc

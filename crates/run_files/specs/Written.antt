@@ -1,10 +1,12 @@
 -- What writing comes to: all of the texts, or a beginning of them where a write failed or memory
 -- ran out.
-use Rattle.std.specs.Prelude.{◌≡◌, ◌≢◌, ℕ, Option, List, [], ◌++◌, ⊤, IsSome, IfSome, Result, Ok, Err}
+use Rattle.std.specs.Prelude.{◌≡◌, ◌≢◌, Option, List, [], ◌++◌, ⊤, IsSome, IfSome, Result, Ok, Err}
 use Rattle.std.specs.Option.{option_to_list}
 use Rattle.model_tree.specs.Tree.{Word}
 use Rattle.room_edge.specs.Faults.{WriteFaultCounted, KeepsWriteFaults}
 use Rattle.room_edge.specs.Outside.{Outside}
+use Rattle.answer_model.specs.declared.status.Status.{Status}
+use Rattle.answer_model.specs.declared.status.Status.TheVariants.{WriteFault, NoMemory}
 use Rattle.answer_model.specs.Answer.{MadeFiles, Answer, write_fault_line}
 use Rattle.answer_model.specs.Endings.{Says, made_after, looked_for, LeadsTo}
 use Rattle.answer_model.specs.RunFiles.{file_if}
@@ -92,10 +94,10 @@ pub record MakesAll (n : Names) (old new : Outside) : Type 0 where
 -- ---- what is told of it
 
 -- a line tells of the file that lacks bytes; for want of memory there is none
-abbrev pub Tells : Names → Unwritten → Outside → Outside → ℕ → Type 0
+abbrev pub Tells : Names → Unwritten → Outside → Outside → Status → Type 0
 Tells n (Fault file) old new status =
-    IfSome (name_at n file) (λ name. Says (write_fault_line name) 5 old new status)
-Tells n Memory old new status = (status ≡ 12) × (new ≡ old)
+    IfSome (name_at n file) (λ name. Says (write_fault_line name) WriteFault old new status)
+Tells n Memory old new status = (status ≡ NoMemory) × (new ≡ old)
 
 -- all files were made, or those before one that wasn't
 abbrev pub MakesFiles : {T : Type 0} → Names → Outside → Outside → Result T Unwritten → Type 0

@@ -5,11 +5,15 @@ ghost use Rattle.run_files.specs.Written.{Tells, Blames};
 use crate::outputs::{Named, Unwritten};
 use room_edge::Room;
 use std::alloc::Global;
-use told_lines::status::NO_MEMORY;
-use told_lines::write_fault;
+use told_lines::{Status, write_fault};
 
 /// Tells of the file that could not be written. For want of memory there is no line.
-pub fn tell_unwritten<R: Room>(alloc: Global, room: &mut R, named: &Named<'_>, why: Unwritten) -> u8
+pub fn tell_unwritten<R: Room>(
+    alloc: Global,
+    room: &mut R,
+    named: &Named<'_>,
+    why: Unwritten,
+) -> Status
     requires { Blames (names_of named.now) why }
     ensures { Tells (names_of named.now) why (R.outside room.old) (R.outside room.new) result }
 {
@@ -20,6 +24,6 @@ pub fn tell_unwritten<R: Room>(alloc: Global, room: &mut R, named: &Named<'_>, w
             };
             write_fault(alloc, room, name)
         }
-        Unwritten::Memory => NO_MEMORY,
+        Unwritten::Memory => Status::NoMemory,
     }
 }

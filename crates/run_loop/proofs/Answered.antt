@@ -27,6 +27,7 @@ use Rattle.text_forms.specs.Lines.{ended, cycle_lines, log_bytes, out_bytes}
 use Rattle.answer_model.specs.Asked.{Source, file, made, Asked, is_among, differ_all}
 use Rattle.answer_model.specs.Answer.{MadeFiles}
 use Rattle.answer_model.specs.Cdpp.{run_on}
+use Rattle.answer_model.specs.declared.status.Status.TheVariants.{TooManyCycles}
 use Rattle.answer_model.specs.RunEnd.{Said, said, shows, complains, done_line, end_line, made_line, mark_text, many_line}
 use Rattle.answer_model.specs.RunFiles.{file_if, group_at, emitted_before, frames_if, saved_text, made_files}
 use Rattle.flat_run.specs.Standing.{Standing, tree_in}
@@ -62,7 +63,7 @@ said_same a o tree events cycles done are =
   where
     no_mark : (seed : Option ℕ) → a.seed ≡ None → mark_text a tree events ≡ []
     no_mark seed is = ap (λ (s : Option ℕ). mark_text (record a { seed = s }) tree events) is
-said_same a o tree events cycles (too_many t) are = ap (λ l. complains 11 (many_line l t)) are.limit
+said_same a o tree events cycles (too_many t) are = ap (λ l. complains TooManyCycles (many_line l t)) are.limit
 said_same a o tree events cycles (stop leaf t why) are = refl
 
 -- ---- the files

@@ -1,6 +1,6 @@
 -- What is told of a run that ended, and the outcome.
-use Rattle.std.proofs.Common.{◌≡◌, ℕ, ◌+◌, ◌<◌, ◌≤◌, Option, Some, None, List, [], ◌++◌, length, refl, sym, ap, ◌∙◌, subst, arith, lit<}
-use Rattle.std.specs.Prelude.{Contains, decimal, codes, slice_get, OnOk, Result, Ok, Err}
+use Rattle.std.proofs.Common.{◌≡◌, ℕ, ◌+◌, ◌<◌, ◌≤◌, Option, Some, None, List, [], ◌++◌, length, refl, sym, ap, ◌∙◌, subst, arith}
+use Rattle.std.specs.Prelude.{decimal, codes, slice_get, OnOk, Result, Ok, Err}
 use Rattle.std.specs.Option.{option_map, unwrap_or}
 use Rattle.std.proofs.lemmas.List.{append-nil}
 use Rattle.std.proofs.lemmas.Option.{slice_get_past}
@@ -17,6 +17,9 @@ use Rattle.run_model.specs.Run.{Cycle, Run, Verdict, done, too_many, stop}
 use Rattle.text_forms.specs.Lines.{ended}
 use Rattle.room_edge.specs.Faults.{WriteFaultCounted, KeepsWriteFaults}
 use Rattle.room_edge.specs.Outside.{Outside}
+use Rattle.answer_model.specs.declared.status.Status.{Status}
+use Rattle.answer_model.specs.declared.status.Status.TheVariants as exit
+use Rattle.answer_model.specs.Status.{of_run, IsOf}
 use Rattle.answer_model.specs.Answer.{Answer}
 use Rattle.answer_model.specs.Endings.{Says, ShowsEnd, made_after, EndsWith}
 use Rattle.answer_model.specs.RunEnd.{made_line, many_line, stop_line, stop_status}
@@ -28,7 +31,6 @@ use Rattle.run_files.specs.Texts.{Names, Texts, no_texts, files}
 use Rattle.run_files.specs.Written.{Adds}
 use Rattle.run_files.specs.Counts.{Counts, no_counts, counts_of}
 use Rattle.run_files.proofs.Counting.{counts_y, counts_s, ones_counted}
-use Rattle.run_loop.specs.Answers.{run_statuses}
 use Rattle.run_loop.specs.declared.going.Going.{Going}
 use Rattle.run_files.specs.Showing.{left_texts}
 use Rattle.run_loop.specs.declared.ending.Ending.{Ending}
@@ -75,7 +77,7 @@ made_told o tree cycles going line size cells k some counted all has is =
 -- ---- the outcome
 
 -- all is written, and what is to be said was said
-pub told_ends : (a : Answer) (n : Names) (texts : Texts) (o : Outputs) (tree : Tree) (cycles : List Cycle) (v : Verdict) (inputs : List Word) (old mid new : Outside) (status : ℕ) → IsAnswerOf n texts (said_by o tree cycles v) a → Adds n texts old mid → TellsEnd o tree cycles v mid new status
+pub told_ends : (a : Answer) (n : Names) (texts : Texts) (o : Outputs) (tree : Tree) (cycles : List Cycle) (v : Verdict) (inputs : List Word) (old mid new : Outside) (status : Status) → IsAnswerOf n texts (said_by o tree cycles v) a → Adds n texts old mid → TellsEnd o tree cycles v mid new status
     → EndsWith a (made_after inputs (files n no_texts)) old new status
 told_ends a n texts o tree cycles done inputs old mid new status is adds tells =
     then_ends a (made_after inputs (files n no_texts)) (made_after inputs (files n texts)) old mid new status (adds.leads no_texts a inputs)
@@ -93,21 +95,21 @@ told_ends a n texts o tree cycles (stop leaf t why) inputs old mid new status is
 -- ---- statuses
 
 abbrev IsOwn : RuleStop → Type 0
-IsOwn why = Contains run_statuses (stop_status why) × (stop_status why ≡ 5 → ⊥)
+IsOwn why = IsOf of_run (stop_status why) × (stop_status why ≡ exit.WriteFault → ⊥)
 
 own : (why : RuleStop) → IsOwn why
-own NoTrueRule = ((2, lit< tt, refl), λ e. absurd (omega (arith, e)))
-own Overflow = ((3, lit< tt, refl), λ e. absurd (omega (arith, e)))
-own (BadDelay d) = ((4, lit< tt, refl), λ e. absurd (omega (arith, e)))
+own NoTrueRule = (refl, λ e. absurd cc)
+own Overflow = (refl, λ e. absurd cc)
+own (BadDelay d) = (refl, λ e. absurd cc)
 
-pub told_known : (o : Outputs) (tree : Tree) (cycles : List Cycle) (v : Verdict) (old new : Outside) (status : ℕ) → TellsEnd o tree cycles v old new status → Contains run_statuses status
-told_known o tree cycles done old new status tells = shown_among run_statuses (ended (done_text o.made o.end tree cycles)) 0 old new status (0, lit< tt, refl) (1, lit< tt, refl) (6, lit< tt, refl) tells
-told_known o tree cycles (too_many t) old new status tells = said_among run_statuses (ended (many_line o.limit t)) 11 old new status (5, lit< tt, refl) (1, lit< tt, refl) (6, lit< tt, refl) tells
-told_known o tree cycles (stop leaf t why) old new status tells = said_among run_statuses (ended (stop_line tree leaf t why)) (stop_status why) old new status (own why).0 (1, lit< tt, refl) (6, lit< tt, refl) tells
+pub told_known : (o : Outputs) (tree : Tree) (cycles : List Cycle) (v : Verdict) (old new : Outside) (status : Status) → TellsEnd o tree cycles v old new status → IsOf of_run status
+told_known o tree cycles done old new status tells = shown_among of_run (ended (done_text o.made o.end tree cycles)) exit.Done old new status refl refl refl tells
+told_known o tree cycles (too_many t) old new status tells = said_among of_run (ended (many_line o.limit t)) exit.TooManyCycles old new status refl refl refl tells
+told_known o tree cycles (stop leaf t why) old new status tells = said_among of_run (ended (stop_line tree leaf t why)) (stop_status why) old new status (own why).0 refl refl tells
 
-pub told_rose : (o : Outputs) (tree : Tree) (cycles : List Cycle) (v : Verdict) (old mid new : Outside) (status : ℕ) → KeepsWriteFaults old mid → TellsEnd o tree cycles v mid new status → status ≡ 5 → WriteFaultCounted old new
-told_rose o tree cycles done old mid new status keeps tells five = rose_by_shown (ended (done_text o.made o.end tree cycles)) 0 old mid new status keeps (λ e. absurd (omega (arith, e))) tells five
-told_rose o tree cycles (too_many t) old mid new status keeps tells five = rose_by_said (ended (many_line o.limit t)) 11 old mid new status keeps (λ e. absurd (omega (arith, e))) tells five
+pub told_rose : (o : Outputs) (tree : Tree) (cycles : List Cycle) (v : Verdict) (old mid new : Outside) (status : Status) → KeepsWriteFaults old mid → TellsEnd o tree cycles v mid new status → status ≡ exit.WriteFault → WriteFaultCounted old new
+told_rose o tree cycles done old mid new status keeps tells five = rose_by_shown (ended (done_text o.made o.end tree cycles)) exit.Done old mid new status keeps (λ e. absurd cc) tells five
+told_rose o tree cycles (too_many t) old mid new status keeps tells five = rose_by_said (ended (many_line o.limit t)) exit.TooManyCycles old mid new status keeps (λ e. absurd cc) tells five
 told_rose o tree cycles (stop leaf t why) old mid new status keeps tells five = rose_by_said (ended (stop_line tree leaf t why)) (stop_status why) old mid new status keeps (λ e. absurd ((own why).1 e)) tells five
 
 -- ---- a run whose files are made
@@ -124,20 +126,20 @@ has_counted o tree r was going ending begins has =
     }
 
 -- what is told of a verdict and of the cycles that were counted
-abbrev pub TellsAny : Outputs → Tree → Going → Ending → Outside → Outside → ℕ → Type 0
+abbrev pub TellsAny : Outputs → Tree → Going → Ending → Outside → Outside → Status → Type 0
 TellsAny o tree going ending old new status = (cycles : List Cycle) (v : Verdict) → IsVerdict ending v → HasCounted o tree cycles going → TellsEnd o tree cycles v old new status
 
-module _ (n : Names) (letters : List ℕ) (o : Outputs) (tree : Tree) (r : Run) (old mid new : Outside) (was going : Going) (ending : Ending) (status : ℕ) (begins : BeginsWith o tree was) (has : HasEnded r was going ending) (adds : Adds n (left_texts tree letters was.drawn r.cycles) old mid) (tells : TellsAny o tree going ending mid new status) where
+module _ (n : Names) (letters : List ℕ) (o : Outputs) (tree : Tree) (r : Run) (old mid new : Outside) (was going : Going) (ending : Ending) (status : Status) (begins : BeginsWith o tree was) (has : HasEnded r was going ending) (adds : Adds n (left_texts tree letters was.drawn r.cycles) old mid) (tells : TellsAny o tree going ending mid new status) where
   told : TellsEnd o tree r.cycles r.verdict mid new status
   told = tells r.cycles r.verdict has.verdict (has_counted o tree r was going ending begins has)
 
   pub created_ends : (a : Answer) (inputs : List Word) → IsAnswerOf n (left_texts tree letters was.drawn r.cycles) (said_by o tree r.cycles r.verdict) a → EndsWith a (made_after inputs (files n no_texts)) old new status
   created_ends a inputs is = told_ends a n (left_texts tree letters was.drawn r.cycles) o tree r.cycles r.verdict inputs old mid new status is adds told
 
-  pub created_known : Contains run_statuses status
+  pub created_known : IsOf of_run status
   created_known = told_known o tree r.cycles r.verdict mid new status told
 
-  pub created_rose : status ≡ 5 → WriteFaultCounted old new
+  pub created_rose : status ≡ exit.WriteFault → WriteFaultCounted old new
   created_rose five = told_rose o tree r.cycles r.verdict old mid new status adds.keeps told five
 
 -- ---- how a leaf is called

@@ -1,5 +1,5 @@
 -- What a run is to be, and what is answered to it.
-use Rattle.std.specs.Prelude.{◌≡◌, ℕ, None, List, [], ◌∷◌, IsTrue}
+use Rattle.std.specs.Prelude.{◌≡◌, None, List, IsTrue}
 use Rattle.model_tree.specs.Tree.{Word}
 use Rattle.model_tree.specs.Sound.{is_sound_model}
 use Rattle.run_model.specs.Run.{start}
@@ -28,8 +28,3 @@ abbrev pub answer_to : Asked → Standing → List Word → Answer
 answer_to a s inputs =
     answer_of_run a (tree_in s) s.state.events None inputs
     (run_on (tree_in s) s.state.events a.end a.limit None)
-
--- the statuses that a run may end with: done, a write fault, a stop of a cell, too many cycles,
--- want of memory
-abbrev pub run_statuses : List ℕ
-run_statuses = 0 ∷ 5 ∷ 8 ∷ 9 ∷ 10 ∷ 11 ∷ 12 ∷ []

@@ -9,6 +9,8 @@ use Rattle.run_model.specs.Run.{Cycle, Verdict, done, too_many, stop}
 use Rattle.text_forms.specs.LogLine.{leaf_text}
 use Rattle.text_forms.specs.Lines.{leaf_name, ended}
 use Rattle.room_edge.specs.Outside.{Outside}
+use Rattle.answer_model.specs.declared.status.Status.{Status}
+use Rattle.answer_model.specs.declared.status.Status.TheVariants as exit
 use Rattle.answer_model.specs.RunEnd.{end_line, made_line, many_line, stop_line, stop_status, Said, shows, complains}
 use Rattle.answer_model.specs.Endings.{Says, ShowsEnd}
 use Rattle.flat_run.specs.declared.progress.Stop.TheVariants.{NoTrueRule, Overflow, BadDelay, TooManyCycles, Memory}
@@ -56,15 +58,15 @@ done_text (Some size) end tree cycles = made_line size tree cycles
 -- what is shown and complained, and the status
 abbrev pub said_by : Outputs → Tree → List Cycle → Verdict → Said
 said_by o tree cycles done = shows (done_text o.made o.end tree cycles)
-said_by o tree cycles (too_many t) = complains 11 (many_line o.limit t)
+said_by o tree cycles (too_many t) = complains exit.TooManyCycles (many_line o.limit t)
 said_by o tree cycles (stop leaf t why) = complains (stop_status why) (stop_line tree leaf t why)
 
 -- it is said, as far as it can be
-abbrev pub TellsEnd : Outputs → Tree → List Cycle → Verdict → Outside → Outside → ℕ → Type 0
+abbrev pub TellsEnd : Outputs → Tree → List Cycle → Verdict → Outside → Outside → Status → Type 0
 TellsEnd o tree cycles done old new status =
-    ShowsEnd (ended (done_text o.made o.end tree cycles)) 0 old new status
+    ShowsEnd (ended (done_text o.made o.end tree cycles)) exit.Done old new status
 TellsEnd o tree cycles (too_many t) old new status =
-    Says (ended (many_line o.limit t)) 11 old new status
+    Says (ended (many_line o.limit t)) exit.TooManyCycles old new status
 TellsEnd o tree cycles (stop leaf t why) old new status =
     Says (ended (stop_line tree leaf t why)) (stop_status why) old new status
 

@@ -4,9 +4,9 @@ ghost use Rattle.quantity.specs.ValueTexts.{text5};
 ghost use Rattle.model_tree.specs.Leaves.{OfTree};
 ghost use Rattle.run_model.specs.Run.{Cycle, Verdict};
 ghost use Rattle.text_forms.specs.Lines.{ended};
+ghost use Rattle.answer_model.specs.declared.status.Status.TheVariants as exit;
 ghost use Rattle.answer_model.specs.Endings.{Says, ShowsEnd};
 ghost use Rattle.answer_model.specs.RunEnd.{many_line, stopped_at};
-ghost use Rattle.told_lines.specs.declared.status.TheConstants.{BAD_DELAY, DONE, TOO_MANY_CYCLES};
 ghost use Rattle.run_loop.specs.declared.ending.Ending.TheVariants.{Stopped};
 ghost use Rattle.run_loop.specs.Ends.{IsVerdict, TellsEnd, HasCounted, done_text};
 
@@ -18,8 +18,7 @@ use quantity::{OutOfMemory, Time, Value};
 use room_edge::Room;
 use run_files::Outputs;
 use std::alloc::Global;
-use told_lines::status::{BAD_DELAY, NO_MEMORY, NO_TRUE_RULE, OVERFLOW, TOO_MANY_CYCLES};
-use told_lines::{complain, show};
+use told_lines::{Status, complain, show};
 
 /// The run is done, or it stopped.
 #[derive(Clone, Copy)]
@@ -36,7 +35,7 @@ pub(crate) fn tell_ending<R: Room>(
     model: &Model,
     going: &Going,
     ending: Ending,
-) -> u8
+) -> Status
     // For the cycles and the verdict of the run.
     ensures { OfTree model.now (λ tree. (cycles : List Cycle) (v : Verdict) → IsVerdict ending v
         → HasCounted outputs.now tree cycles going.now
@@ -55,14 +54,14 @@ fn show_done<R: Room>(
     outputs: &Outputs<'_>,
     model: &Model,
     going: &Going,
-) -> u8
+) -> Status
     ensures { OfTree model.now (λ tree. (cycles : List Cycle)
         → HasCounted outputs.now tree cycles going.now
-        → ShowsEnd (ended (done_text outputs.now.made outputs.now.end tree cycles)) DONE
+        → ShowsEnd (ended (done_text outputs.now.made outputs.now.end tree cycles)) exit.Done
         (R.outside room.old) (R.outside room.new) result) }
 {
     let Ok(line) = done_line(alloc, outputs, model, going) else {
-        return NO_MEMORY;
+        return Status::NoMemory;
     };
     show(alloc, room, &line)
 }
@@ -95,21 +94,21 @@ fn complain_stop<R: Room>(
     outputs: &Outputs<'_>,
     model: &Model,
     stop: Stop,
-) -> u8
+) -> Status
     ensures { OfTree model.now (λ tree. (cycles : List Cycle) (v : Verdict)
         → IsVerdict (Stopped stop) v
         → TellsEnd outputs.now tree cycles v (R.outside room.old) (R.outside room.new) result) }
 {
     match stop {
         Stop::NoTrueRule(leaf, t) => {
-            complain_at(alloc, room, model, b"no true rule", leaf, t, NO_TRUE_RULE)
+            complain_at(alloc, room, model, b"no true rule", leaf, t, Status::NoTrueRule)
         }
         Stop::Overflow(leaf, t) => {
-            complain_at(alloc, room, model, b"overflow", leaf, t, OVERFLOW)
+            complain_at(alloc, room, model, b"overflow", leaf, t, Status::Overflow)
         }
         Stop::BadDelay(leaf, t, delay) => complain_delay(alloc, room, model, leaf, t, delay),
         Stop::TooManyCycles(t) => complain_many(alloc, room, outputs.limit, t),
-        Stop::Memory => NO_MEMORY,
+        Stop::Memory => Status::NoMemory,
     }
 }
 
@@ -121,14 +120,14 @@ fn complain_at<R: Room>(
     what: &[u8],
     leaf: u32,
     t: Time,
-    status: u8,
-) -> u8
+    status: Status,
+) -> Status
     ensures { OfTree model.now (λ tree.
         Says (ended (stopped_at what.now tree leaf t)) status (R.outside room.old)
         (R.outside room.new) result) }
 {
     let Ok(line) = stopped_line(alloc, model, what, leaf, t) else {
-        return NO_MEMORY;
+        return Status::NoMemory;
     };
     complain(room, &line, status)
 }
@@ -141,24 +140,24 @@ fn complain_delay<R: Room>(
     leaf: u32,
     t: Time,
     delay: Value,
-) -> u8
+) -> Status
     ensures { OfTree model.now (λ tree.
         Says (ended (stopped_at (codes "bad delay") tree leaf t ++ codes ": " ++ text5 delay))
-        BAD_DELAY (R.outside room.old) (R.outside room.new) result) }
+        exit.BadDelay (R.outside room.old) (R.outside room.new) result) }
 {
     let Ok(line) = delay_line(alloc, model, leaf, t, delay) else {
-        return NO_MEMORY;
+        return Status::NoMemory;
     };
-    complain(room, &line, BAD_DELAY)
+    complain(room, &line, Status::BadDelay)
 }
 
 /// Tells of an instant with too many cycles.
-fn complain_many<R: Room>(alloc: Global, room: &mut R, limit: u32, t: Time) -> u8
-    ensures { Says (ended (many_line limit t)) TOO_MANY_CYCLES
+fn complain_many<R: Room>(alloc: Global, room: &mut R, limit: u32, t: Time) -> Status
+    ensures { Says (ended (many_line limit t)) exit.TooManyCycles
         (R.outside room.old) (R.outside room.new) result }
 {
     let Ok(line) = many_cycles_line(alloc, limit, t) else {
-        return NO_MEMORY;
+        return Status::NoMemory;
     };
-    complain(room, &line, TOO_MANY_CYCLES)
+    complain(room, &line, Status::TooManyCycles)
 }

@@ -1,10 +1,12 @@
 // All of the program after its inputs are read.
-ghost use Rattle.std.specs.Prelude.{◌≡◌, ◌+◌, ◌≤◌, List, Contains};
+ghost use Rattle.std.specs.Prelude.{◌≡◌, ◌+◌, ◌≤◌, List};
 ghost use Rattle.model_tree.specs.Tree.{Word};
 ghost use Rattle.run_model.specs.Run.{most_cycles as most};
 ghost use Rattle.run_model.specs.Visits.{visits};
 ghost use Rattle.record_text.specs.Chosen.{letters_of};
 ghost use Rattle.room_edge.specs.Faults.{WriteFaultCounted};
+ghost use Rattle.answer_model.specs.declared.status.Status.TheVariants.{WriteFault};
+ghost use Rattle.answer_model.specs.Status.{of_run, IsOf};
 ghost use Rattle.answer_model.specs.Answer.{Answer};
 ghost use Rattle.answer_model.specs.Asked.{Asked};
 ghost use Rattle.answer_model.specs.Endings.{made_after, looked_for, EndsWith};
@@ -12,9 +14,8 @@ ghost use Rattle.flat_run.specs.Standing.{tree_in};
 ghost use Rattle.run_files.specs.AskedFiles.{names_of};
 ghost use Rattle.run_files.specs.Texts.{no_texts, files, AreApart, AreCreated};
 ghost use Rattle.run_files.specs.Showing.{left_texts};
-ghost use Rattle.told_lines.specs.declared.status.TheConstants.{WRITE_FAULT};
 ghost use Rattle.run_loop.specs.Asks.{AreOutputsOf};
-ghost use Rattle.run_loop.specs.Answers.{MayRun, answer_to, run_statuses};
+ghost use Rattle.run_loop.specs.Answers.{MayRun, answer_to};
 ghost use Rattle.run_loop.specs.Begins.{BeginsWith};
 ghost use Rattle.run_loop.specs.Ends.{said_by};
 ghost use Rattle.run_loop.specs.Left.{run_of, EndsWithin, AreFit, HaveValues};
@@ -33,7 +34,7 @@ use run_model::laws::a_run_ends;
 use std::alloc::Global;
 use std::sync::ledger::Ledger;
 use time_queue::TimeQueue;
-use told_lines::status::NO_MEMORY;
+use told_lines::Status;
 
 /// Makes the log, the output and the file of frames, runs a model to its end, and tells how that
 /// went: all of the program after its inputs are read. Answers what a process ends with.
@@ -43,14 +44,14 @@ pub fn run_and_tell<R: Room, Q: TimeQueue, M: AtomicModel, L: Ledger>(
     outputs: &Outputs<'_>,
     run: &mut FlatRun<Q, M>,
     steps: &mut Steps<L>,
-) -> u8
+) -> Status
     requires { MayRun outputs.now run.old }
     // For all that is asked for whose outputs these are, with the files that were looked for.
     ensures ends { (a : Asked) (inputs : List Word) → AreOutputsOf a outputs.now →
         EndsWith (answer_to a run.old inputs) (looked_for inputs) (R.outside room.old)
         (R.outside room.new) result }
-    ensures known { Contains run_statuses result }
-    ensures write_fault { result ≡ WRITE_FAULT
+    ensures known { IsOf of_run result }
+    ensures write_fault { result ≡ WriteFault
         → WriteFaultCounted (R.outside room.old) (R.outside room.new) }
     // The visits that the reference run may cost.
     ensures visits { let r = run_of (most outputs.now.end outputs.now.limit) run.old in
@@ -59,7 +60,7 @@ pub fn run_and_tell<R: Room, Q: TimeQueue, M: AtomicModel, L: Ledger>(
     runs_are_fit();
     a_run_ends();
     let Ok(mut going) = begin(alloc, outputs, run.model()) else {
-        return NO_MEMORY;
+        return Status::NoMemory;
     };
     let named = named_of(outputs, going.drawn.is_some());
     match create_files(room, &named) {
@@ -77,7 +78,7 @@ fn run_created<R: Room, Q: TimeQueue, M: AtomicModel, L: Ledger>(
     going: &mut Going,
     run: &mut FlatRun<Q, M>,
     steps: &mut Steps<L>,
-) -> u8
+) -> Status
     requires run { MayRun outputs.now run.old }
     requires apart { AreApart (names_of named.now) }
     requires created { AreCreated (names_of named.now) (R.outside room.old).created }
@@ -93,8 +94,8 @@ fn run_created<R: Room, Q: TimeQueue, M: AtomicModel, L: Ledger>(
         (said_by outputs.now tree r.cycles r.verdict) a →
         EndsWith a (made_after inputs (files (names_of named.now) no_texts)) (R.outside room.old)
         (R.outside room.new) result }
-    ensures known { Contains run_statuses result }
-    ensures write_fault { result ≡ WRITE_FAULT
+    ensures known { IsOf of_run result }
+    ensures write_fault { result ≡ WriteFault
         → WriteFaultCounted (R.outside room.old) (R.outside room.new) }
     // The visits that the reference run may cost.
     ensures visits { let r = run_of (most outputs.now.end outputs.now.limit) run.old in

@@ -1,34 +1,40 @@
 // What is said of a fault or a refusal.
 ghost use Rattle.std.specs.Prelude.{◌++◌};
 ghost use Rattle.text_forms.specs.Lines.{ended};
+ghost use Rattle.answer_model.specs.declared.status.Status.TheVariants.{WriteFault};
 ghost use Rattle.answer_model.specs.Answer.{write_fault_line};
 ghost use Rattle.answer_model.specs.Endings.{Says};
-ghost use Rattle.told_lines.specs.declared.status.TheConstants.{WRITE_FAULT};
 
 use crate::lines::named_line;
-use crate::status::{NO_MEMORY, WRITE_FAULT};
+use answer_model::Status;
 use room_edge::{Room, WriteAll, complain_all};
 use std::alloc::Global;
 
 /// Complains by one line. The status is the given one, or that of a write fault or of want of
 /// memory where the line can't be written.
-pub fn complain<R: Room>(room: &mut R, line: &[u8], status: u8) -> u8
+pub fn complain<R: Room>(room: &mut R, line: &[u8], status: Status) -> Status
     ensures { Says line.now status (R.outside room.old) (R.outside room.new) result }
 {
     match complain_all(room, line) {
         Ok(()) => status,
-        Err(WriteAll::WriteFault(_)) => WRITE_FAULT,
-        Err(WriteAll::Memory(_)) => NO_MEMORY,
+        Err(WriteAll::WriteFault(_)) => Status::WriteFault,
+        Err(WriteAll::Memory(_)) => Status::NoMemory,
     }
 }
 
 /// Complains of a file whose name is these bytes.
-pub fn complain_of<R: Room>(alloc: Global, room: &mut R, what: &[u8], name: &[u8], status: u8) -> u8
+pub fn complain_of<R: Room>(
+    alloc: Global,
+    room: &mut R,
+    what: &[u8],
+    name: &[u8],
+    status: Status,
+) -> Status
     ensures { Says (ended (what.now ++ name.now)) status
         (R.outside room.old) (R.outside room.new) result }
 {
     let Ok(line) = named_line(alloc, what, name) else {
-        return NO_MEMORY;
+        return Status::NoMemory;
     };
     complain(room, &line, status)
 }
@@ -39,8 +45,8 @@ pub fn complain_named<R: Room>(
     room: &mut R,
     what: &[u8],
     name: &str,
-    status: u8,
-) -> u8
+    status: Status,
+) -> Status
     ensures { Says (ended (what.now ++ name.now)) status
         (R.outside room.old) (R.outside room.new) result }
 {
@@ -48,9 +54,9 @@ pub fn complain_named<R: Room>(
 }
 
 /// Tells of a write that failed, as far as it can.
-pub fn write_fault<R: Room>(alloc: Global, room: &mut R, name: &str) -> u8
-    ensures { Says (write_fault_line name.now) WRITE_FAULT
+pub fn write_fault<R: Room>(alloc: Global, room: &mut R, name: &str) -> Status
+    ensures { Says (write_fault_line name.now) WriteFault
         (R.outside room.old) (R.outside room.new) result }
 {
-    complain_named(alloc, room, b"write fault: ", name, WRITE_FAULT)
+    complain_named(alloc, room, b"write fault: ", name, Status::WriteFault)
 }

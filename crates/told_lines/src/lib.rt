@@ -4,7 +4,7 @@
 mod complaints;
 mod lines;
 mod shown;
-pub mod status;
 
+pub use answer_model::Status;
 pub use complaints::{complain, complain_named, complain_of, write_fault};
 pub use shown::show;

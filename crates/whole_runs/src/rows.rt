@@ -47,7 +47,7 @@ fn counted<L: Ledger>(
     requires some { 0 < L.parts }
 {
     let mut steps: Steps<L> = Steps::new(blank);
-    cdpp(alloc, words, boxes, room, &mut steps)
+    cdpp(alloc, words, boxes, room, &mut steps).number()
 }
 
 /// The words of a command line.
@@ -116,7 +116,7 @@ fn run_cdpp(alloc: Global, words: &[String], room: &mut MemoryRoom) -> Result<u8
 pub(crate) fn run(alloc: Global, text: &str, room: &mut MemoryRoom) -> Result<u8, Fail> {
     let words = words_of(alloc, text)?;
     if text.as_bytes().starts_with(b"drawlog") {
-        return Ok(drawlog(alloc, &words, room));
+        return Ok(drawlog(alloc, &words, room).number());
     }
     run_cdpp(alloc, &words, room)
 }

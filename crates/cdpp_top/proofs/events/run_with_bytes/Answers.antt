@@ -10,7 +10,8 @@ use Rattle.answer_model.specs.Endings.{looked_for, EndsWith}
 use Rattle.cdpp_top.specs.Starting.{tree_on}
 use Rattle.cdpp_top.specs.Reading.{answer_by_events}
 use Rattle.cdpp_top.specs.Visits.{visits_by_events}
-use Rattle.cdpp_top.proofs.Causing.{nothing_read, events_told}
+use Rattle.answer_model.proofs.Causing.{nothing_read}
+use Rattle.cdpp_top.proofs.Causing.{events_told}
 use Rattle.cdpp_top.proofs.Files.{events_stop}
 use Rattle.cdpp_top.proofs.Groups.{sound_is}
 use Rattle.cdpp_top.proofs.events.run_with_bytes.Goals as goal

@@ -1,4 +1,4 @@
-use Rattle.std.proofs.Common.{ℕ, ◌+◌, ◌≤◌, Option, List, Some, None, [], ◌∷◌, ◌++◌, refl, sym, ◌∙◌, ap, subst, arith, lit<}
+use Rattle.std.proofs.Common.{ℕ, ◌+◌, ◌≤◌, Option, List, Some, None, [], ◌∷◌, ◌++◌, refl, sym, ◌∙◌, ap, subst, arith}
 use Rattle.std.proofs.lemmas.List.{append-nil}
 use Rattle.std.proofs.lemmas.Option.{IfSome_then}
 use Rattle.model_tree.specs.Tree.{Word, ins_of}
@@ -13,7 +13,10 @@ use Rattle.cdpp_top.specs.Starting.{tree_on}
 use Rattle.cdpp_top.specs.Reading.{answer_by_events, answer_by_file}
 use Rattle.cdpp_top.specs.Visits.{visits_by_events, visits_by_file}
 use Rattle.quantity.specs.Bytes.{Bytes}
-use Rattle.cdpp_top.proofs.Causing.{later_ends, said_ends, events_told, memory_ends}
+use Rattle.answer_model.specs.declared.status.Status.TheVariants.{Missing, ReadFault, EventsRefused}
+use Rattle.answer_model.specs.Status.{of_reading}
+use Rattle.answer_model.proofs.Causing.{later_ends, said_ends, memory_ends}
+use Rattle.cdpp_top.proofs.Causing.{events_told}
 use Rattle.cdpp_top.proofs.Files.{file_begins, long_refused}
 use Rattle.cdpp_top.proofs.Reached.{if_some_all}
 use Rattle.cdpp_top.proofs.events.run_with_file.Goals as goal
@@ -38,7 +41,7 @@ returns-in-Ok-clause-ends g c =
 pub returns-in-Ok-clause-causes : goal.returns-in-Ok-clause-causes
 returns-in-Ok-clause-causes g c =
     let e = c.in-Ok.ensures in
-    later_ends _ _ _ c.run_with_bytes.result e.only e.misses e.faults c.run_with_bytes.ensures.causes
+    later_ends of_reading _ _ _ c.run_with_bytes.result e.only e.misses e.faults c.run_with_bytes.ensures.causes
 
 pub returns-in-Missing-clause-ends : goal.returns-in-Missing-clause-ends
 returns-in-Missing-clause-ends g c =
@@ -57,7 +60,7 @@ returns-in-Missing-clause-ends g c =
 pub returns-in-Missing-clause-causes : goal.returns-in-Missing-clause-causes
 returns-in-Missing-clause-causes g c =
     let e = rw c.in-Missing.is at c.in-Err.ensures in
-    said_ends _ 3 _ _ _ c.complain_named.result (0, lit< tt, refl) (λ e. omega (arith, e)) (λ three. e.missing refl) (λ four. absurd (omega (arith, four))) e.only c.complain_named.ensures
+    said_ends of_reading _ Missing _ _ _ c.complain_named.result refl refl (e.missing refl) e.only c.complain_named.ensures
 
 pub returns-in-ReadFault-clause-ends : goal.returns-in-ReadFault-clause-ends
 returns-in-ReadFault-clause-ends g c =
@@ -75,7 +78,7 @@ returns-in-ReadFault-clause-ends g c =
 pub returns-in-ReadFault-clause-causes : goal.returns-in-ReadFault-clause-causes
 returns-in-ReadFault-clause-causes g c =
     let e = rw c.in-ReadFault.is at c.in-Err.ensures in
-    said_ends _ 4 _ _ _ c.complain_named-in-ReadFault.result (1, lit< tt, refl) (λ e. omega (arith, e)) (λ three. absurd (omega (arith, three))) (λ four. e.fault refl) e.only c.complain_named-in-ReadFault.ensures
+    said_ends of_reading _ ReadFault _ _ _ c.complain_named-in-ReadFault.result refl refl (e.fault refl) e.only c.complain_named-in-ReadFault.ensures
 
 pub returns-in-TooLong-clause-ends : goal.returns-in-TooLong-clause-ends
 returns-in-TooLong-clause-ends g c =
@@ -88,7 +91,7 @@ returns-in-TooLong-clause-ends g c =
     let given = c.tell_events.result in
     let e = rw c.in-TooLong.is at c.in-Err.ensures in
     IfSome_then old.files {Q = λ files. (inputs : List Word) → EndsWith (answer_by_file a tree name inputs (files name)) (looked_for inputs) old new given} e.bytes (λ files f inputs.
-    let x = only_complains 7 (events_refused (E.TooLarge 0)) (inputs ++ name ∷ []) in
+    let x = only_complains EventsRefused (events_refused (E.TooLarge 0)) (inputs ++ name ∷ []) in
     let is = ap (answer_by_file a tree name inputs) f.1 ∙ ap (answer_by_events a tree (inputs ++ name ∷ [])) (long_refused f.0 (ins_of tree) (omega (arith, f.2, f.3))) in
     subst (λ (o : Answer). EndsWith o (looked_for inputs) old new given) (sym is)
     (read_and_said x inputs old mid new name given ([], sym (append-nil (inputs ++ name ∷ []))) refl refl e.tried e.only e.faults c.tell_events.ensures))
@@ -110,7 +113,7 @@ returns-in-Memory-clause-ends g c =
     read_unread (answer_by_file a tree name inputs (files name)) inputs old mid name (file_begins a tree name inputs (files name)) e.tried e.only e.faults)
 
 pub returns-in-Memory-clause-causes : goal.returns-in-Memory-clause-causes
-returns-in-Memory-clause-causes g c = memory_ends _ _
+returns-in-Memory-clause-causes g c = memory_ends of_reading _ _ refl
 
 -- ---- visits
 

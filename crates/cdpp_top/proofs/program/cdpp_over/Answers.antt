@@ -1,24 +1,24 @@
-use Rattle.std.proofs.Common.{◌≡◌, ℕ, ◌+◌, ◌≤◌, Option, map, Some, None, [], ◌∷◌, ◌++◌, refl, sym, ◌∙◌, subst, arith, lit<}
+use Rattle.std.proofs.Common.{◌≡◌, ℕ, ◌+◌, ◌≤◌, Option, map, Some, None, [], ◌++◌, refl, sym, ◌∙◌, subst, arith}
 use Rattle.std.specs.Prelude.{codes}
 use Rattle.std.specs.String.{string_bytes}
-use Rattle.std.proofs.lemmas.List.Elements.{Contains-append_right}
 use Rattle.std.proofs.lemmas.Option.{IfSome_then}
 use Rattle.answer_model.specs.Answer.{Answer, only_complains}
 use Rattle.answer_model.specs.Asked.{Asked, asked, usage}
 use Rattle.answer_model.specs.Cdpp.{answer_to, answer}
 use Rattle.answer_model.specs.Outcome.{Outcome}
-use Rattle.answer_model.specs.Programs.{cdpp_statuses}
+use Rattle.answer_model.specs.declared.status.Status.TheVariants.{Usage, NoMemory}
+use Rattle.answer_model.specs.Status.{row_of, of_words, of_cdpp}
 use Rattle.answer_model.specs.Endings.{looked_for, Says, EndsWith}
 use Rattle.answer_model.proofs.Outcomes.{none_begun}
 use Rattle.answer_model.proofs.Endings.{endings_follow}
 use Rattle.answer_model.proofs.Said.{said_among}
-use Rattle.answer_model.proofs.Stages.{at_start, rose_by_said}
+use Rattle.answer_model.proofs.Causing.{read_known, cause_for, said_caused, nothing_read, nothing_written}
+use Rattle.answer_model.proofs.Stages.{at_start}
 use Rattle.asked_words.specs.Shown.{asked_of}
 use Rattle.cdpp_top.specs.Starting.{classes_by}
 use Rattle.cdpp_top.specs.Visits.{visits_to, visits_if, visits_for}
-use Rattle.cdpp_top.specs.Statuses.{read_statuses}
 use Rattle.cdpp_top.proofs.Reached.{if_some_all}
-use Rattle.cdpp_top.proofs.Words.{asked_answer, refused_answer, usage_is, not_usage, only_refused}
+use Rattle.cdpp_top.proofs.Words.{asked_answer, refused_answer, usage_is}
 use Rattle.cdpp_top.proofs.program.cdpp_over.Goals as goal
 
 pub returns-in-Ok-Some-clause-ends : goal.returns-in-Ok-Some-clause-ends
@@ -39,11 +39,8 @@ returns-in-Ok-Some-clause-causes g c =
     let is : Some (asked_of c.in-Ok-Some.asked) ≡ asked words = rw c.in-Ok-Some.field-0-is at c.in-Ok-Some.ensures.value in
     let w = c.run_asked.ensures.causes in
     record {
-      known = Contains-append_right (2 ∷ []) read_statuses c.run_asked.result w.known;
-      missing = w.missing;
-      read_fault = w.read_fault;
-      write_fault = w.write_fault;
-      usage = λ two. absurd (not_usage c.run_asked.result w.known two);
+      known = read_known c.run_asked.result w.known;
+      cause = cause_for ⊥ (asked words ≡ None) _ _ (row_of c.run_asked.result).cause (λ e. absurd e) w.cause;
       refused = λ none. let both = is ∙ none in let no : ⊥ = cc in absurd no;
     }
 
@@ -58,9 +55,9 @@ returns-in-Ok-None-clause-ends g c =
     let new = g.R.Room.outside c.complain.new.room in
     let given = c.complain.result in
     let is : None ≡ asked words = rw c.in-Ok-None.field-0-is at c.in-Ok-None.ensures.value in
-    let says = subst (λ line. Says line 2 old new given) (sym usage_is) c.complain.ensures in
+    let says = subst (λ line. Says line Usage old new given) (sym usage_is) c.complain.ensures in
     if_some_all old.files (λ files. Outcome (answer words files classes) old new given) (λ files.
-    let x = only_complains 2 (codes "usage: " ++ usage) [] in
+    let x = only_complains Usage (codes "usage: " ++ usage) [] in
     subst (λ (o : Answer). Outcome o old new given) (sym (refused_answer words files classes is))
     (at_start x old new given (endings_follow.said x (looked_for []) old new given refl refl says)))
 
@@ -71,31 +68,25 @@ returns-in-Ok-None-clause-causes g c =
     let new = g.R.Room.outside c.complain.new.room in
     let is : None ≡ asked words = rw c.in-Ok-None.field-0-is at c.in-Ok-None.ensures.value in
     let says = c.complain.ensures in
-    let refused = said_among (2 ∷ 5 ∷ 12 ∷ []) _ 2 old new c.complain.result (0, lit< tt, refl) (1, lit< tt, refl) (2, lit< tt, refl) says in
     record {
-      known = said_among cdpp_statuses _ 2 old new c.complain.result (0, lit< tt, refl) (6, lit< tt, refl) (11, lit< tt, refl) says;
-      missing = λ e. absurd (only_refused c.complain.result refused (omega (arith, e)) (omega (arith, e)));
-      read_fault = λ e. absurd (only_refused c.complain.result refused (omega (arith, e)) (omega (arith, e)));
-      write_fault = rose_by_said _ 2 old old new c.complain.result (omega arith) (λ e. absurd (omega (arith, e))) says;
-      usage = λ e. sym is;
-      refused = λ e. refused;
+      known = said_among of_cdpp _ Usage old new c.complain.result refl refl refl says;
+      cause = said_caused (asked words ≡ None) _ Usage old old new c.complain.result (omega arith) (sym is) says;
+      refused = λ e. said_among of_words _ Usage old new c.complain.result refl refl refl says;
     }
 
 pub returns-in-Ok-None-clause-nothing : goal.returns-in-Ok-None-clause-nothing
 returns-in-Ok-None-clause-nothing g c =
     let old = g.R.Room.outside c.args.room.now in
-    let new = g.R.Room.outside c.complain.new.room in
-    let refused = said_among (2 ∷ 5 ∷ 12 ∷ []) _ 2 old new c.complain.result (0, lit< tt, refl) (1, lit< tt, refl) (2, lit< tt, refl) c.complain.ensures in
-    λ e. absurd (only_refused c.complain.result refused (omega (arith, e)) (omega (arith, e)))
+    λ e. nothing_written _ Usage old old (g.R.Room.outside c.complain.new.room) c.complain.result (nothing_read old) c.complain.ensures
 
 pub returns-in-Err-clause-ends : goal.returns-in-Err-clause-ends
 returns-in-Err-clause-ends g c =
     let words = map string_bytes c.args.words.now in
     let classes = classes_by (λ m. g.M.AtomicModel.held m) c.args.boxes.items in
     let old = g.R.Room.outside c.args.room.now in
-    if_some_all old.files (λ files. Outcome (answer words files classes) old old 12) (λ files.
+    if_some_all old.files (λ files. Outcome (answer words files classes) old old NoMemory) (λ files.
     let x = answer words files classes in
-    at_start x old old 12 (endings_follow.memory x (looked_for []) old (none_begun x (looked_for []) refl refl)))
+    at_start x old old NoMemory (endings_follow.memory x (looked_for []) old (none_begun x (looked_for []) refl refl)))
 
 -- ---- visits
 
@@ -117,3 +108,9 @@ returns-in-Ok-None-clause-visits g c =
 pub returns-in-Err-clause-visits : goal.returns-in-Err-clause-visits
 returns-in-Err-clause-visits g c =
     if_some_all (g.R.Room.outside c.args.room.now).files _ (λ files. omega arith)
+
+pub returns-in-Err-clause-causes : goal.returns-in-Err-clause-causes
+returns-in-Err-clause-causes g c = record { known = refl; cause = tt; refused = λ e. refl }
+
+pub returns-in-Err-clause-nothing : goal.returns-in-Err-clause-nothing
+returns-in-Err-clause-nothing g c = λ e. absurd cc

@@ -9,7 +9,9 @@ use Rattle.answer_model.specs.Endings.{looked_for, EndsWith}
 use Rattle.asked_words.specs.Shown.{asked_of}
 use Rattle.cdpp_top.specs.Starting.{classes_by}
 use Rattle.cdpp_top.specs.Visits.{visits_to}
-use Rattle.cdpp_top.proofs.Causing.{memory_ends}
+use Rattle.answer_model.specs.declared.status.Status.TheVariants.{NoMemory}
+use Rattle.answer_model.specs.Status.{of_reading}
+use Rattle.answer_model.proofs.Causing.{memory_ends}
 use Rattle.cdpp_top.proofs.Reached.{if_some_all}
 use Rattle.cdpp_top.proofs.Boxes.{none_taken, classes_are}
 use Rattle.cdpp_top.proofs.Started.{no_memory}
@@ -20,10 +22,10 @@ returns-in_default-clause-ends g c =
     let a = asked_of c.args.asked.now in
     let classes = classes_by (λ m. g.M.AtomicModel.held m) c.args.boxes.items in
     let old = g.R.Room.outside c.args.room.now in
-    if_some_all old.files (λ files. EndsWith (answer_to a files classes) (looked_for []) old old 12) (λ files. no_memory (answer_to a files classes) [] old)
+    if_some_all old.files (λ files. EndsWith (answer_to a files classes) (looked_for []) old old NoMemory) (λ files. no_memory (answer_to a files classes) [] old)
 
 pub returns-in_default-clause-causes : goal.returns-in_default-clause-causes
-returns-in_default-clause-causes g c = memory_ends _ _
+returns-in_default-clause-causes g c = memory_ends of_reading _ _ refl
 
 pub read_asked-requires-clause-free : goal.read_asked-requires-clause-free
 read_asked-requires-clause-free g c =

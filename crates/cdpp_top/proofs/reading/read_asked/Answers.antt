@@ -2,7 +2,9 @@ use Rattle.std.proofs.Common.{arith}
 use Rattle.model_tree.specs.declared.table.Model.{Model}
 use Rattle.route_flat.specs.declared.routes.Routes.{Routes}
 use Rattle.model_stock.specs.Settled.{classes_of}
-use Rattle.cdpp_top.proofs.Causing.{later_ends, model_told}
+use Rattle.answer_model.specs.Status.{of_reading}
+use Rattle.answer_model.proofs.Causing.{later_ends}
+use Rattle.cdpp_top.proofs.Causing.{model_told}
 use Rattle.cdpp_top.proofs.Reached.{if_some_all, runs_on, stops_at, visits_of_read}
 use Rattle.cdpp_top.proofs.reading.read_asked.Goals as goal
 
@@ -16,7 +18,7 @@ returns-in-Ok-clause-ends g c =
 pub returns-in-Ok-clause-causes : goal.returns-in-Ok-clause-causes
 returns-in-Ok-clause-causes g c =
     let e = c.in-Ok.ensures.reads in
-    later_ends _ _ _ c.run_with_events.result e.only e.misses e.faults c.run_with_events.ensures.causes
+    later_ends of_reading _ _ _ c.run_with_events.result e.only e.misses e.faults c.run_with_events.ensures.causes
 
 pub returns-in-Err-clause-ends : goal.returns-in-Err-clause-ends
 returns-in-Err-clause-ends g c =

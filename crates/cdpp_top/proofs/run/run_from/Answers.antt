@@ -4,7 +4,8 @@ use Rattle.answer_model.specs.Answer.{Answer}
 use Rattle.answer_model.specs.Cdpp.{answer_from}
 use Rattle.answer_model.specs.Endings.{looked_for, EndsWith}
 use Rattle.cdpp_top.specs.Starting.{tree_on}
-use Rattle.cdpp_top.proofs.Causing.{memory_ends, run_ends}
+use Rattle.answer_model.specs.Status.{of_reading}
+use Rattle.answer_model.proofs.Causing.{memory_ends, run_ends}
 use Rattle.cdpp_top.proofs.Started.{IsMadeOf, starts_from, may_run, same_answer, run_visits, no_memory}
 use Rattle.cdpp_top.proofs.run.run_from.Goals as goal
 
@@ -13,7 +14,7 @@ returns-in_default-clause-ends g c = λ inputs.
     no_memory (answer_from (asked_of c.args.asked.now) (tree_on c.args.start.model c.args.start.stock) c.args.events inputs None) inputs (g.R.Room.outside c.args.room.now)
 
 pub returns-in_default-clause-causes : goal.returns-in_default-clause-causes
-returns-in_default-clause-causes g c = memory_ends _ _
+returns-in_default-clause-causes g c = memory_ends of_reading _ _ refl
 
 pub new-run-requires-clause-starts : goal.new-run-requires-clause-starts
 new-run-requires-clause-starts g c =
@@ -24,7 +25,7 @@ returns-in_default-run-clause-ends g c = λ inputs.
     no_memory (answer_from (asked_of c.args.asked.now) (tree_on c.args.start.model c.args.start.stock) c.args.events inputs None) inputs (g.R.Room.outside c.args.room.now)
 
 pub returns-in_default-run-clause-causes : goal.returns-in_default-run-clause-causes
-returns-in_default-run-clause-causes g c = memory_ends _ _
+returns-in_default-run-clause-causes g c = memory_ends of_reading _ _ refl
 
 pub run_and_tell-status-requires : goal.run_and_tell-status-requires
 run_and_tell-status-requires g c =

@@ -1,5 +1,6 @@
 use Rattle.std.proofs.Common.{sym, subst}
 use Rattle.model_files.specs.declared.refusal.ModelRefusal.{ModelRefusal}
+use Rattle.answer_model.specs.declared.status.Status.TheVariants.{ReadFault}
 use Rattle.answer_model.specs.Answer.{read_fault_line}
 use Rattle.answer_model.specs.Endings.{Says}
 use Rattle.cdpp_top.specs.Reading.{TellsModel}
@@ -11,4 +12,4 @@ returns-in-ReadFault g c =
     let new = g.R.Room.outside c.complain_of-in-ReadFault.new.room in
     let given = c.complain_of-in-ReadFault.result in
     subst (λ (reason : ModelRefusal). TellsModel reason old new given) (sym c.in-ReadFault.is)
-    (subst (λ name. Says (read_fault_line name) 4 old new given) c.as_bytes-in-ReadFault.ensures c.complain_of-in-ReadFault.ensures)
+    (subst (λ name. Says (read_fault_line name) ReadFault old new given) c.as_bytes-in-ReadFault.ensures c.complain_of-in-ReadFault.ensures)

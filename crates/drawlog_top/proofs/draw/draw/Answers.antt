@@ -1,13 +1,14 @@
-use Rattle.std.proofs.Common.{[], ◌∷◌, refl, sym, subst, lit<}
+use Rattle.std.proofs.Common.{[], ◌∷◌, refl, sym, subst}
 use Rattle.answer_model.specs.Answer.{Answer, only_complains, only_shows}
 use Rattle.answer_model.specs.Drawlog.{drawn_answer, log_refused}
+use Rattle.answer_model.specs.declared.status.Status.TheVariants.{Done, LogRefused}
+use Rattle.answer_model.specs.Status.{of_drawing}
 use Rattle.answer_model.specs.Endings.{ShowsEnd, looked_for, EndsWith}
 use Rattle.answer_model.proofs.Outcomes.{none_begun}
 use Rattle.answer_model.proofs.Endings.{endings_follow}
-use Rattle.answer_model.proofs.Said.{said_among, shown_among}
+use Rattle.answer_model.proofs.Causing.{memory_ends, nothing_read, said_ends}
 use Rattle.asked_words.specs.Shown.{drawing_of}
-use Rattle.drawlog_top.specs.Ends.{drawn_statuses}
-use Rattle.drawlog_top.proofs.DrawnAnswers.{drawn_shows, drawn_refuses}
+use Rattle.drawlog_top.proofs.DrawnAnswers.{drawn_shows, drawn_refuses, shown_ends}
 use Rattle.drawlog_top.proofs.draw.draw.Goals as goal
 
 pub returns-in-Ok-clause-ends : goal.returns-in-Ok-clause-ends
@@ -20,10 +21,10 @@ returns-in-Ok-clause-ends g c =
     let frames = c.in-Ok.frames.items in
     let is = drawn_shows a c.args.log.now frames inputs c.requires.short c.in-Ok.ensures in
     subst (λ (o : Answer). EndsWith o (looked_for inputs) old new given) (sym is)
-    (endings_follow.ended (only_shows frames inputs) (looked_for inputs) old new frames given refl refl refl (subst (λ bytes. ShowsEnd bytes 0 old new given) c.deref.ensures.value c.show.ensures))
+    (endings_follow.ended (only_shows frames inputs) (looked_for inputs) old new frames given refl refl refl (subst (λ bytes. ShowsEnd bytes Done old new given) c.deref.ensures.value c.show.ensures))
 
-pub returns-in-Ok-clause-known : goal.returns-in-Ok-clause-known
-returns-in-Ok-clause-known g c = shown_among drawn_statuses _ 0 _ _ c.show.result (0, lit< tt, refl) (1, lit< tt, refl) (2, lit< tt, refl) c.show.ensures
+pub returns-in-Ok-clause-causes : goal.returns-in-Ok-clause-causes
+returns-in-Ok-clause-causes g c = shown_ends _ _ _ c.show.result c.show.ensures
 
 pub returns-in-Err-LogRefused-clause-ends : goal.returns-in-Err-LogRefused-clause-ends
 returns-in-Err-LogRefused-clause-ends g c =
@@ -36,10 +37,12 @@ returns-in-Err-LogRefused-clause-ends g c =
     let e = rw c.in-Err-LogRefused.field-0-is at c.in-Err-LogRefused.ensures in
     let is = drawn_refuses a c.args.log.now line inputs c.requires.short e in
     subst (λ (o : Answer). EndsWith o (looked_for inputs) old new given) (sym is)
-    (endings_follow.said (only_complains 13 (log_refused line) inputs) (looked_for inputs) old new given refl refl c.refuse.ensures)
+    (endings_follow.said (only_complains LogRefused (log_refused line) inputs) (looked_for inputs) old new given refl refl c.refuse.ensures)
 
-pub returns-in-Err-LogRefused-clause-known : goal.returns-in-Err-LogRefused-clause-known
-returns-in-Err-LogRefused-clause-known g c = said_among drawn_statuses _ 13 _ _ c.refuse.result (3, lit< tt, refl) (1, lit< tt, refl) (2, lit< tt, refl) c.refuse.ensures
+pub returns-in-Err-LogRefused-clause-causes : goal.returns-in-Err-LogRefused-clause-causes
+returns-in-Err-LogRefused-clause-causes g c =
+    let old = g.R.Room.outside c.args.room.now in
+    said_ends of_drawing _ LogRefused old old _ c.refuse.result refl refl tt (nothing_read old) c.refuse.ensures
 
 pub returns-in-Err-Memory-clause-ends : goal.returns-in-Err-Memory-clause-ends
 returns-in-Err-Memory-clause-ends g c =
@@ -48,5 +51,5 @@ returns-in-Err-Memory-clause-ends g c =
     let x = drawn_answer a c.args.log.now inputs in
     endings_follow.memory x (looked_for inputs) (g.R.Room.outside c.args.room.now) (none_begun x (looked_for inputs) refl refl)
 
-pub returns-in-Err-Memory-clause-known : goal.returns-in-Err-Memory-clause-known
-returns-in-Err-Memory-clause-known g c = (2, lit< tt, refl)
+pub returns-in-Err-Memory-clause-causes : goal.returns-in-Err-Memory-clause-causes
+returns-in-Err-Memory-clause-causes g c = memory_ends of_drawing _ _ refl

@@ -1,21 +1,22 @@
-use Rattle.std.proofs.Common.{◌≡◌, map, Some, None, [], ◌∷◌, refl, sym, ◌∙◌, ap, subst, arith, inl, inr, lit<}
+use Rattle.std.proofs.Common.{◌≡◌, map, Some, None, [], refl, sym, ◌∙◌, ap, subst, arith}
 use Rattle.std.specs.String.{string_bytes}
-use Rattle.std.proofs.lemmas.List.Elements.{Contains-append_right}
 use Rattle.std.proofs.lemmas.Option.{IfSome_then}
 use Rattle.answer_model.specs.Answer.{Answer, if_asked}
 use Rattle.answer_model.specs.AskedDrawing.{asked_drawing, drawing_usage}
 use Rattle.answer_model.specs.Drawlog.{drawing_answer}
 use Rattle.answer_model.specs.Outcome.{Outcome}
-use Rattle.answer_model.specs.Programs.{drawlog_statuses}
+use Rattle.answer_model.specs.declared.status.Status.TheVariants.{Usage, NoMemory}
+use Rattle.answer_model.specs.Status.{row_of, of_words, of_drawlog}
 use Rattle.answer_model.specs.Endings.{looked_for}
 use Rattle.answer_model.proofs.Outcomes.{none_begun}
 use Rattle.answer_model.proofs.Endings.{endings_follow}
 use Rattle.answer_model.proofs.Said.{said_among}
-use Rattle.answer_model.proofs.Stages.{at_start, rose_by_said}
+use Rattle.answer_model.proofs.Causing.{cause_for, said_caused, nothing_read, nothing_written}
+use Rattle.answer_model.proofs.Stages.{at_start}
 use Rattle.asked_words.specs.Shown.{drawing_of}
-use Rattle.drawlog_top.specs.Ends.{answer_to_file, read_statuses}
+use Rattle.drawlog_top.specs.Ends.{answer_to_file}
 use Rattle.drawlog_top.proofs.AskedPictures.{asked_drawable}
-use Rattle.drawlog_top.proofs.DrawnAnswers.{if_some_all, not_usage, only_refused}
+use Rattle.drawlog_top.proofs.DrawnAnswers.{if_some_all, log_known}
 use Rattle.drawlog_top.proofs.program.drawlog.Goals as goal
 
 pub draw_asked-requires : goal.draw_asked-requires
@@ -40,15 +41,15 @@ pub returns-in-Ok-Some-clause-causes : goal.returns-in-Ok-Some-clause-causes
 returns-in-Ok-Some-clause-causes g c =
     let words = map string_bytes c.args.words.now in
     let is : Some (drawing_of c.in-Ok-Some.asked) ≡ asked_drawing words = rw c.in-Ok-Some.field-0-is at c.in-Ok-Some.ensures in
-    let w = c.draw_asked.ensures in
+    let w = c.draw_asked.ensures.causes in
     record {
-      known = Contains-append_right (2 ∷ []) read_statuses c.draw_asked.result w.known;
-      missing = w.missing;
-      read_fault = w.read_fault;
-      write_fault = w.write_fault;
-      usage = λ two. absurd (not_usage c.draw_asked.result w.known two);
+      known = log_known c.draw_asked.result w.known;
+      cause = cause_for ⊥ (asked_drawing words ≡ None) _ _ (row_of c.draw_asked.result).cause (λ e. absurd e) w.cause;
       refused = λ none. let both = is ∙ none in let no : ⊥ = cc in absurd no;
     }
+
+pub returns-in-Ok-Some-clause-nothing : goal.returns-in-Ok-Some-clause-nothing
+returns-in-Ok-Some-clause-nothing g c = c.draw_asked.ensures.causes.nothing
 
 pub returns-in-Ok-None-clause-ends : goal.returns-in-Ok-None-clause-ends
 unfolding drawing_answer
@@ -70,31 +71,27 @@ returns-in-Ok-None-clause-causes g c =
     let new = g.R.Room.outside c.complain.new.room in
     let is : None ≡ asked_drawing words = rw c.in-Ok-None.field-0-is at c.in-Ok-None.ensures in
     let says = c.complain.ensures in
-    let refused = said_among (2 ∷ 5 ∷ 12 ∷ []) _ 2 old new c.complain.result (0, lit< tt, refl) (1, lit< tt, refl) (2, lit< tt, refl) says in
     record {
-      known = said_among drawlog_statuses _ 2 old new c.complain.result (0, lit< tt, refl) (4, lit< tt, refl) (5, lit< tt, refl) says;
-      missing = λ e. absurd (only_refused c.complain.result 3 refused e (inl refl));
-      read_fault = λ e. absurd (only_refused c.complain.result 4 refused e (inr refl));
-      write_fault = rose_by_said _ 2 old old new c.complain.result (omega arith) (λ e. absurd (omega arith)) says;
-      usage = λ e. sym is;
-      refused = λ e. refused;
+      known = said_among of_drawlog _ Usage old new c.complain.result refl refl refl says;
+      cause = said_caused (asked_drawing words ≡ None) _ Usage old old new c.complain.result (omega arith) (sym is) says;
+      refused = λ e. said_among of_words _ Usage old new c.complain.result refl refl refl says;
     }
+
+pub returns-in-Ok-None-clause-nothing : goal.returns-in-Ok-None-clause-nothing
+returns-in-Ok-None-clause-nothing g c =
+    let old = g.R.Room.outside c.args.room.now in
+    λ e. nothing_written _ Usage old old (g.R.Room.outside c.complain.new.room) c.complain.result (nothing_read old) c.complain.ensures
 
 pub returns-in-Err-clause-ends : goal.returns-in-Err-clause-ends
 returns-in-Err-clause-ends g c =
     let words = map string_bytes c.args.words.now in
     let old = g.R.Room.outside c.args.room.now in
-    if_some_all old.files (λ files. Outcome (drawing_answer words files) old old 12) (λ files.
+    if_some_all old.files (λ files. Outcome (drawing_answer words files) old old NoMemory) (λ files.
     let x = drawing_answer words files in
     at_start x old old 12 (endings_follow.memory x (looked_for []) old (none_begun x (looked_for []) refl refl)))
 
 pub returns-in-Err-clause-causes : goal.returns-in-Err-clause-causes
-returns-in-Err-clause-causes g c =
-    record {
-      known = (5, lit< tt, refl);
-      missing = λ e. absurd (omega (arith, e));
-      read_fault = λ e. absurd (omega (arith, e));
-      write_fault = λ e. absurd (omega (arith, e));
-      usage = λ e. absurd (omega (arith, e));
-      refused = λ e. (2, lit< tt, refl);
-    }
+returns-in-Err-clause-causes g c = record { known = refl; cause = tt; refused = λ e. refl }
+
+pub returns-in-Err-clause-nothing : goal.returns-in-Err-clause-nothing
+returns-in-Err-clause-nothing g c = λ e. absurd cc

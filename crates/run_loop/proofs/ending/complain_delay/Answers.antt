@@ -1,4 +1,5 @@
 use Rattle.std.proofs.Common.{◌∙◌, subst}
+use Rattle.answer_model.specs.declared.status.Status.TheVariants.{BadDelay}
 use Rattle.answer_model.specs.Endings.{Says}
 use Rattle.answer_model.proofs.Said.{said_nothing}
 use Rattle.run_loop.proofs.ending.complain_delay.Goals as goal
@@ -8,4 +9,4 @@ returns-in_default g c = λ settings. said_nothing _ _ _
 
 pub returns : goal.returns
 returns g c = λ settings.
-    subst (λ line. Says line 10 (g.R.Room.outside c.args.room.now) (g.R.Room.outside c.complain.new.room) c.complain.result) (c.deref.ensures.value ∙ c.in-Ok.ensures settings) c.complain.ensures
+    subst (λ line. Says line BadDelay (g.R.Room.outside c.args.room.now) (g.R.Room.outside c.complain.new.room) c.complain.result) (c.deref.ensures.value ∙ c.in-Ok.ensures settings) c.complain.ensures

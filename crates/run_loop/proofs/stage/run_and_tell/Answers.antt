@@ -1,7 +1,8 @@
-use Rattle.std.proofs.Common.{refl, sym, ap, subst, lit<}
+use Rattle.std.proofs.Common.{refl, sym, ap, subst}
 use Rattle.record_text.specs.Chosen.{letters_of}
 use Rattle.model_tree.specs.declared.table.Model.{Model}
 use Rattle.model_tree.specs.Models.{tree_of}
+use Rattle.answer_model.specs.Status.{of_run}
 use Rattle.answer_model.specs.Endings.{looked_for, made_after}
 use Rattle.answer_model.proofs.Endings.{endings_follow, rose_later}
 use Rattle.answer_model.proofs.Outcomes.{none_begun}
@@ -12,7 +13,7 @@ use Rattle.run_files.specs.Texts.{no_texts, files, AreApart}
 use Rattle.run_files.specs.AskedFiles.{names_of}
 use Rattle.run_files.specs.Groups.{CanShowIn}
 use Rattle.run_files.proofs.Making.{all_created, unmade_ends, making_blames, tells_among, tells_rose}
-use Rattle.run_loop.specs.Answers.{answer_to, run_statuses}
+use Rattle.run_loop.specs.Answers.{answer_to}
 use Rattle.run_loop.specs.Begins.{BeginsWith}
 use Rattle.run_loop.proofs.Costs.{ends_whole}
 use Rattle.run_loop.proofs.Answered.{names_are, names_apart, answer_as, run_fit, have_values}
@@ -29,7 +30,7 @@ returns-in_default-clause-ends g c = λ a inputs are.
     endings_follow.memory x (looked_for inputs) (g.R.Room.outside c.args.room.now) (none_begun x (looked_for inputs) refl refl)
 
 pub returns-in_default-clause-known : goal.returns-in_default-clause-known
-returns-in_default-clause-known g c = (6, lit< tt, refl)
+returns-in_default-clause-known g c = refl
 
 pub run_created-requires-clause-apart : goal.run_created-requires-clause-apart
 run_created-requires-clause-apart g c = subst AreApart (sym c.named_of-named.ensures.names) (names_apart c.args.outputs.now c.is_some.result c.requires.names)
@@ -96,7 +97,7 @@ returns-clause-ends g c = λ a inputs are.
 pub returns-clause-known : goal.returns-clause-known
 returns-clause-known g c =
     let n = names_of c.named_of-named.result in
-    tells_among run_statuses n c.in-Err.why (g.R.Room.outside c.create_files.new.room) (g.R.Room.outside c.tell_unwritten.new.room) c.tell_unwritten.result (making_blames n c.in-Err.why _ _ c.in-Err.ensures) (1, lit< tt, refl) (6, lit< tt, refl) c.tell_unwritten.ensures
+    tells_among of_run n c.in-Err.why (g.R.Room.outside c.create_files.new.room) (g.R.Room.outside c.tell_unwritten.new.room) c.tell_unwritten.result (making_blames n c.in-Err.why _ _ c.in-Err.ensures) refl refl c.tell_unwritten.ensures
 
 pub returns-clause-write_fault : goal.returns-clause-write_fault
 returns-clause-write_fault g c = λ five.

@@ -1,10 +1,11 @@
-use Rattle.std.proofs.Common.{ℕ, ◌+◌, ◌≤◌, ◌∙◌, List, sym, subst, arith, lit<, refl}
+use Rattle.std.proofs.Common.{ℕ, ◌+◌, ◌≤◌, ◌∙◌, List, sym, subst, arith, refl}
 use Rattle.run_model.specs.Visits.{visits}
 use Rattle.record_text.specs.Chosen.{letters_of}
 use Rattle.model_tree.specs.declared.table.Model.{Model}
 use Rattle.model_tree.specs.Tree.{Word}
 use Rattle.model_tree.specs.Models.{tree_of}
 use Rattle.answer_model.specs.Answer.{Answer}
+use Rattle.answer_model.specs.Status.{of_run}
 use Rattle.answer_model.specs.Endings.{made_after, EndsWith}
 use Rattle.run_leaves.specs.Seated.{settings_at}
 use Rattle.flat_run.specs.Standing.{tree_in}
@@ -12,7 +13,6 @@ use Rattle.run_files.specs.Texts.{no_texts, files}
 use Rattle.run_files.specs.Showing.{left_texts}
 use Rattle.run_files.specs.AskedFiles.{names_of}
 use Rattle.run_files.proofs.Making.{fell_ends, falls_blames, tells_among, tells_rose}
-use Rattle.run_loop.specs.Answers.{run_statuses}
 use Rattle.run_loop.specs.Ends.{said_by}
 use Rattle.run_loop.specs.Left.{run_of, EndsWithin, AreFit}
 use Rattle.run_loop.specs.ToBe.{IsAnswerOf}
@@ -87,7 +87,7 @@ returns-in-Err-clause-ends g c =
 pub returns-in-Err-clause-known : goal.returns-in-Err-clause-known
 returns-in-Err-clause-known g c =
     let n = names_of c.args.named.now in
-    tells_among run_statuses n c.in-Err.why (g.R.Room.outside c.run_all.new.room) (g.R.Room.outside c.tell_unwritten.new.room) c.tell_unwritten.result (falls_blames n c.in-Err.why _ _ _ c.in-Err.ensures.runs) (1, lit< tt, refl) (6, lit< tt, refl) c.tell_unwritten.ensures
+    tells_among of_run n c.in-Err.why (g.R.Room.outside c.run_all.new.room) (g.R.Room.outside c.tell_unwritten.new.room) c.tell_unwritten.result (falls_blames n c.in-Err.why _ _ _ c.in-Err.ensures.runs) refl refl c.tell_unwritten.ensures
 
 pub returns-in-Err-clause-write_fault : goal.returns-in-Err-clause-write_fault
 returns-in-Err-clause-write_fault g c = λ five.
