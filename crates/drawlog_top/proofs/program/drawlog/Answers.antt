@@ -41,10 +41,12 @@ pub returns-in-Ok-Some-clause-causes : goal.returns-in-Ok-Some-clause-causes
 returns-in-Ok-Some-clause-causes g c =
     let words = map string_bytes c.args.words.now in
     let is : Some (drawing_of c.in-Ok-Some.asked) ≡ asked_drawing words = rw c.in-Ok-Some.field-0-is at c.in-Ok-Some.ensures in
+    let old = g.R.Room.outside c.args.room.now in
+    let new = g.R.Room.outside c.draw_asked.new.room in
     let w = c.draw_asked.ensures.causes in
     record {
       known = log_known c.draw_asked.result w.known;
-      cause = cause_for ⊥ (asked_drawing words ≡ None) _ _ (row_of c.draw_asked.result).cause (λ e. absurd e) w.cause;
+      cause = cause_for ⊥ (asked_drawing words ≡ None) old new (row_of c.draw_asked.result).cause (λ e. absurd e) w.cause;
       refused = λ none. let both = is ∙ none in let no : ⊥ = cc in absurd no;
     }
 
@@ -88,7 +90,7 @@ returns-in-Err-clause-ends g c =
     let old = g.R.Room.outside c.args.room.now in
     if_some_all old.files (λ files. Outcome (drawing_answer words files) old old NoMemory) (λ files.
     let x = drawing_answer words files in
-    at_start x old old 12 (endings_follow.memory x (looked_for []) old (none_begun x (looked_for []) refl refl)))
+    at_start x old old NoMemory (endings_follow.memory x (looked_for []) old (none_begun x (looked_for []) refl refl)))
 
 pub returns-in-Err-clause-causes : goal.returns-in-Err-clause-causes
 returns-in-Err-clause-causes g c = record { known = refl; cause = tt; refused = λ e. refl }
