@@ -37,10 +37,12 @@ pub returns-in-Ok-Some-clause-causes : goal.returns-in-Ok-Some-clause-causes
 returns-in-Ok-Some-clause-causes g c =
     let words = map string_bytes c.args.words.now in
     let is : Some (asked_of c.in-Ok-Some.asked) ≡ asked words = rw c.in-Ok-Some.field-0-is at c.in-Ok-Some.ensures.value in
+    let old = g.R.Room.outside c.args.room.now in
+    let new = g.R.Room.outside c.run_asked.new.room in
     let w = c.run_asked.ensures.causes in
     record {
       known = read_known c.run_asked.result w.known;
-      cause = cause_for ⊥ (asked words ≡ None) _ _ (row_of c.run_asked.result).cause (λ e. absurd e) w.cause;
+      cause = cause_for ⊥ (asked words ≡ None) old new (row_of c.run_asked.result).cause (λ e. absurd e) w.cause;
       refused = λ none. let both = is ∙ none in let no : ⊥ = cc in absurd no;
     }
 

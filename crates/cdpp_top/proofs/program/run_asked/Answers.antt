@@ -1,4 +1,4 @@
-use Rattle.std.proofs.Common.{◌+◌, ◌≤◌, arith, List, [], ap, sym, ◌∙◌, subst}
+use Rattle.std.proofs.Common.{◌+◌, ◌≤◌, arith, List, [], ap, sym, ◌∙◌, subst, refl}
 use Rattle.std.specs.Prelude.{IsTrue, IfSome, not}
 use Rattle.std.specs.List.{list_all}
 use Rattle.atomic_face.specs.StockView.{Stocked}

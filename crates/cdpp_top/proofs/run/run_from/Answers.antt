@@ -1,4 +1,4 @@
-use Rattle.std.proofs.Common.{ℕ, ◌+◌, ◌≤◌, None, subst}
+use Rattle.std.proofs.Common.{ℕ, ◌+◌, ◌≤◌, None, subst, refl}
 use Rattle.asked_words.specs.Shown.{asked_of}
 use Rattle.answer_model.specs.Answer.{Answer}
 use Rattle.answer_model.specs.Cdpp.{answer_from}
