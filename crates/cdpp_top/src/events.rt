@@ -77,7 +77,13 @@ fn run_with_file<R: Room, M: AtomicModel, L: Ledger>(
         Err(why) => {
             drop(start);
             match why {
-                ReadWhole::Missing => complain_named(alloc, room, b"missing: ", name, Status::Missing),
+                ReadWhole::Missing => complain_named(
+                    alloc,
+                    room,
+                    b"missing: ",
+                    name,
+                    Status::Missing,
+                ),
                 ReadWhole::ReadFault => {
                     complain_named(alloc, room, b"read fault: ", name, Status::ReadFault)
                 }

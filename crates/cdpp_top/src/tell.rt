@@ -22,7 +22,13 @@ pub(crate) fn tell_model<R: Room>(alloc: Global, room: &mut R, why: ModelRefusal
             complain_of(alloc, room, b"missing: ", name.as_bytes(), Status::Missing)
         }
         ModelRefusal::ReadFault(name) => {
-            complain_of(alloc, room, b"read fault: ", name.as_bytes(), Status::ReadFault)
+            complain_of(
+                alloc,
+                room,
+                b"read fault: ",
+                name.as_bytes(),
+                Status::ReadFault,
+            )
         }
         ModelRefusal::Refused { line, kind } => tell_refused(
             alloc,

@@ -32,7 +32,13 @@ fn draw_asked<R: Room>(alloc: Global, room: &mut R, asked: &AskedDrawing<'_>) ->
 {
     match read_whole(alloc, room, asked.log, MOST_BYTES) {
         Ok(log) => draw(alloc, room, asked, &log),
-        Err(ReadWhole::Missing) => complain_named(alloc, room, b"missing: ", asked.log, Status::Missing),
+        Err(ReadWhole::Missing) => complain_named(
+            alloc,
+            room,
+            b"missing: ",
+            asked.log,
+            Status::Missing,
+        ),
         Err(ReadWhole::ReadFault) => {
             complain_named(alloc, room, b"read fault: ", asked.log, Status::ReadFault)
         }

@@ -101,7 +101,15 @@ fn complain_stop<R: Room>(
 {
     match stop {
         Stop::NoTrueRule(leaf, t) => {
-            complain_at(alloc, room, model, b"no true rule", leaf, t, Status::NoTrueRule)
+            complain_at(
+                alloc,
+                room,
+                model,
+                b"no true rule",
+                leaf,
+                t,
+                Status::NoTrueRule,
+            )
         }
         Stop::Overflow(leaf, t) => {
             complain_at(alloc, room, model, b"overflow", leaf, t, Status::Overflow)
