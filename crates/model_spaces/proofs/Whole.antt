@@ -39,7 +39,7 @@ groups_end ss i old all past h = sym (append-nil old) ∙ ap (λ (rs : List (Bor
 two_parts : (xs ys : List Refusal) (ox oy : Option Refusal) → ox ≡ least_refusal xs → oy ≡ least_refusal ys → merged ox oy ≡ least_refusal (xs ++ ys)
 two_parts xs ys ox oy ex ey = ap (λ o. merged o oy) ex ∙ ap (merged (least_refusal xs)) ey ∙ sym (least_of_both xs ys)
 
--- the least_refusal of six parts
+-- the least of six parts
 pub six_parts : (a b c d e f : List Refusal) (oa ob oc od oe of' : Option Refusal) → oa ≡ least_refusal a → ob ≡ least_refusal b → oc ≡ least_refusal c → od ≡ least_refusal d → oe ≡ least_refusal e → of' ≡ least_refusal f
     → merged (merged (merged (merged (merged oa ob) oc) od) oe) of' ≡ least_refusal (((((a ++ b) ++ c) ++ d) ++ e) ++ f)
 six_parts a b c d e f oa ob oc od oe of' ea eb ec ed ee ef =

@@ -40,7 +40,7 @@ pub each_empty : {X A : Type 0} (f : X → List A) (xs : List X) → flat_map f 
 each_empty f [] e = tt
 each_empty f (x ∷ xs) e = let p = both_empty (f x) (flat_map f xs) e in (p.0, each_empty f xs p.1)
 
--- what a phase that takes the least_refusal of all says of each
+-- what a phase that takes the least of all says of each
 pub each_of_phase : {X : Type 0} (f : X → List Refusal) (xs : List X) → least_refusal (flat_map f xs) ≡ None → AllByRecursion (λ x. f x ≡ []) xs
 each_of_phase f xs e = each_empty f xs (least_none (flat_map f xs) e)
 

@@ -45,7 +45,7 @@ items_of key s =
 abbrev pub texts_of : Bytes → Section → List Bytes
 texts_of key s = map (λ (i : Item). i.text) (items_of key s)
 
--- ---- refusals of a phase: the least_refusal line, and there the least_refusal number
+-- ---- refusals of a phase: the least line, and there the least number
 
 -- on a lesser line, or on the same one with a lesser number
 abbrev pub comes_before : Refusal → Refusal → Bool

@@ -132,7 +132,7 @@ parameters_again class s = []
 abbrev pub of_atomic : List Section → Item → List Refusal
 of_atomic ss i = parameters_again (class_named (class_of i)) (section_named ss (item_name i))
 
--- the least_refusal refusal of all keys
+-- the least refusal of all keys
 abbrev pub keys_refused : List Section → Option Refusal
 keys_refused ss =
     least_refusal (flat_map of_section (reached ss) ++ flat_map (of_atomic ss) (atomics ss))

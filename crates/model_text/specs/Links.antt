@@ -153,7 +153,7 @@ links_refused_after f s before (e ∷ es) =
 abbrev pub of_links : List Section → Section → List Refusal
 of_links ss s = links_refused_after (face_of ss s) s [] (link_entries s)
 
--- the least_refusal refusal of all links
+-- the least refusal of all links
 abbrev pub links_refused : List Section → Option Refusal
 links_refused ss = least_refusal (flat_map (of_links ss) (reached ss))
 

@@ -96,7 +96,7 @@ of_group_rules ss s =
     flat_map (absent ss) (rules_named s)
     ++ flat_map (of_rules (names_of s)) (sections_named ss (rule_sets_named s))
 
--- the least_refusal refusal of all rules
+-- the least refusal of all rules
 abbrev pub rules_refused : List Section → Option Refusal
 rules_refused ss = least_refusal (flat_map (of_group_rules ss) (groups ss))
 

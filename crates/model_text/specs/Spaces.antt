@@ -166,6 +166,6 @@ of_space s =
     ++ each_entry (codes "initialrow") s (λ e. at_entry e BadInitial (is_some (row_in s e)))
     ++ too_many_offsets s
 
--- the least_refusal refusal of all spaces
+-- the least refusal of all spaces
 abbrev pub spaces_refused : List Section → Option Refusal
 spaces_refused ss = least_refusal (flat_map of_space (groups ss))

@@ -1,4 +1,4 @@
--- The least_refusal of refusals that are met one after another.
+-- The least of refusals that are met one after another.
 use Rattle.std.specs.Prelude.{◌≡◌, Option, Some, None, List, ◌++◌}
 use Rattle.model_text.specs.Refusals.{Refusal}
 use Rattle.model_text.specs.Keyed.{lesser, least_refusal}
@@ -8,7 +8,7 @@ abbrev pub merged : Option Refusal → Option Refusal → Option Refusal
 merged None b = b
 merged (Some a) b = Some (lesser a b)
 
--- the least_refusal of two parts' refusals is that of their least_refusal ones
+-- the least of two parts' refusals is that of their least ones
 abbrev pub LeastOfBoth : Type 0
 LeastOfBoth =
     (xs ys : List Refusal) → least_refusal (xs ++ ys) ≡ merged (least_refusal xs) (least_refusal ys)

@@ -1,4 +1,4 @@
-// Evaluation of rules on a stack.
+// Evaluation of rules, form by form.
 ghost use Rattle.std.specs.Prelude.{◌≡◌, ◌≤◌, List, All, IfOk, map, length};
 ghost use Rattle.std.specs.Prelude.{vec_capacity, slice_set};
 ghost use Rattle.quantity.specs.declared.bounds.TheConstants.{MAX_DELAY};

@@ -162,7 +162,7 @@ fn compared(alloc: Global, how: Compare, left: Form, right: Form) -> Result<Form
     }
 }
 
-/// The test of left neighbour's value.
+/// The test of a neighbour's value.
 fn neighbour_is(how: Compare, k: u8, port: u8, value: &Value) -> PlainTest
     ensures { expr_of_plain result
         ≡ E.two (Binary.Cmp how) (E.neighbour k port) (E.number value.now) }
@@ -173,7 +173,7 @@ fn neighbour_is(how: Compare, k: u8, port: u8, value: &Value) -> PlainTest
     }
 }
 
-/// The test of left count.
+/// The test of a count.
 fn count_is(how: Compare, count: Count, value: &Value) -> PlainTest
     ensures { expr_of_plain result
         ≡ E.two (Binary.Cmp how) (E.counted count) (E.number value.now) }
@@ -184,7 +184,7 @@ fn count_is(how: Compare, count: Count, value: &Value) -> PlainTest
     }
 }
 
-/// The whole number from 0 to 255 that left value is.
+/// The whole number from 0 to 255 that a value is.
 #[tactic(auto, using(crate::proofs::WholeNumbers::whole_again))]
 fn small_number(value: &Value) -> Option<u8>
     ensures { IfSome result (λ n. value.now ≡ whole n) }

@@ -17,7 +17,7 @@ use rule_tree::RuleTree;
 use std::alloc::Global;
 use std::marker::Model;
 
-/// A rule as it is evaluated. It is seen as its postfix code, which is evaluated on a stack.
+/// A rule as it is evaluated: trees of forms. It is seen as the postfix code that stands for them.
 #[derive(Drop)]
 pub struct RuleCode {
     gives: Vec<NumberedForm>,
