@@ -1,0 +1,20 @@
+//! The drawing program once more, which the gate runs with words that are refused (plane 4 of planes
+//! 0 to 3), since a program has one stored run. Its `main` passes status 2 on and shows nothing on
+//! the standard output.
+#![tactic(auto)]
+
+use asked_words::given_words;
+use drawlog_top::drawlog;
+use room_edge::FolderRoom;
+use std::env;
+use std::process::ExitCode;
+use told_lines::Status;
+
+fn main(rt: HostRuntime) -> ExitCode {
+    let alloc = rt.alloc();
+    let Ok(words) = given_words(alloc, env::args(&rt), "drawlog") else {
+        return ExitCode::from(Status::NoMemory.number());
+    };
+    let mut room = FolderRoom::new(rt);
+    ExitCode::from(drawlog(alloc, &words, &mut room).number())
+}
