@@ -19,6 +19,7 @@ use Rattle.answer_model.specs.RunFiles.{file_if, group_at, emitted_before, frame
 use Rattle.answer_model.specs.RunFiles.{answer_of_run}
 use Rattle.answer_model.specs.Cdpp.{run_on}
 use Rattle.answer_model.specs.Resume.{saved_at, FilesJoin}
+use Rattle.answer_model.specs.declared.status.Status.TheVariants.{Done}
 use Rattle.saved_runs.specs.Joined.{RunsAreOne, RunsJoin}
 use Rattle.saved_runs.specs.Answered.{to_end, joined, Tells, AnswerAsOne, AnswersAsOne}
 
@@ -138,12 +139,12 @@ module _ (tree : Tree) (saved : Saved) (here rest whole : Run) (files : FilesJoi
 -- ---- what is said
 
 status_done : (a : Asked) (tree : Tree) (events : List Event) (cycles : List Cycle) (v : Verdict)
-    → (said a tree events cycles v).status ≡ 0 → v ≡ done
+    → (said a tree events cycles v).status ≡ Done → v ≡ done
 status_done a tree events cycles done e = refl
-status_done a tree events cycles (too_many t) e = absurd (omega (arith, e))
-status_done a tree events cycles (stop leaf t NoTrueRule) e = absurd (omega (arith, e))
-status_done a tree events cycles (stop leaf t Overflow) e = absurd (omega (arith, e))
-status_done a tree events cycles (stop leaf t (BadDelay d)) e = absurd (omega (arith, e))
+status_done a tree events cycles (too_many t) e = absurd cc
+status_done a tree events cycles (stop leaf t NoTrueRule) e = absurd cc
+status_done a tree events cycles (stop leaf t Overflow) e = absurd cc
+status_done a tree events cycles (stop leaf t (BadDelay d)) e = absurd cc
 
 -- the answer to a run of a file's model with this end
 abbrev answered : Asked → Tree → List Event → Word → ℕ → Option Word → Option Word → Option Saved

@@ -15,6 +15,7 @@ use Rattle.answer_model.specs.Answer.{MadeFiles, Answer}
 use Rattle.answer_model.specs.Asked.{Asked, file}
 use Rattle.answer_model.specs.RunEnd.{end_line}
 use Rattle.answer_model.specs.Cdpp.{run_on, answer_from}
+use Rattle.answer_model.specs.declared.status.Status.TheVariants.{Done}
 use Rattle.saved_runs.specs.Accepted.{IsAccepted}
 
 -- ---- three commands with the same options but for their ends and states
@@ -32,10 +33,10 @@ joined (s ∷ []) gs = gs
 joined (f ∷ fs) [] = f ∷ fs
 joined (f ∷ fs) (g ∷ gs) = (f.0, f.1 ++ g.1) ∷ joined fs gs
 
--- the line of a run that is done, with its end and its number of cycles, where the status is 0
+-- the line of a run that is done, with its end and its number of cycles, where that is its status
 abbrev pub Tells : ℕ → ℕ → Answer → Type 0
 Tells end cycles a =
-    a.status ≡ 0 → (r : Run) × (length r.cycles ≡ cycles)
+    a.status ≡ Done → (r : Run) × (length r.cycles ≡ cycles)
     × (a.shown ≡ ended (end_line end r.cycles))
 
 -- the answers to the two runs are, one behind the other, the answer to the one: log, output and
@@ -63,7 +64,7 @@ AnswersAsOne =
     (a : Asked) (tree : Tree) (events : List Event) (model name : Word) (save : Option Word)
     (first last : ℕ) (i j k : List Word)
     → IsAccepted tree → All IsBoundedEvent events → first ≤ last → IsDelay last
-    → (answer_from (to_end a model first (Some name) None) tree events i None).status ≡ 0
+    → (answer_from (to_end a model first (Some name) None) tree events i None).status ≡ Done
     → length (text_left tree events first a.limit) ≤ MAX_LOG_BYTES
     → (s : Saved) × (state_of (text_left tree events first a.limit) tree last ≡ Ok s)
     × AnswerAsOne first last
