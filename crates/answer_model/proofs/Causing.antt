@@ -2,16 +2,19 @@
 use Rattle.std.proofs.Common.{◌≡◌, Bool, true, false, refl, sym, ◌∙◌, subst, arith}
 use Rattle.std.specs.Prelude.{codes}
 use Rattle.quantity.specs.Bytes.{Bytes}
-use Rattle.room_edge.specs.Faults.{Rose, WriteFaultCounted, KeepsMisses, KeepsReadFaults, KeepsWriteFaults}
+use Rattle.model_tree.specs.Tree.{Word}
+use Rattle.room_edge.specs.Faults.{Rose, ReadFaultCounted, WriteFaultCounted, KeepsMisses, KeepsReadFaults, KeepsWriteFaults}
 use Rattle.room_edge.specs.Outside.{Outside, OnlyInput, OnlyComplained}
-use Rattle.answer_model.specs.Answer.{write_fault_line}
+use Rattle.answer_model.specs.Answer.{read_fault_line, write_fault_line}
 use Rattle.answer_model.specs.declared.status.Status.{Status}
 use Rattle.answer_model.specs.declared.status.Status.TheVariants as exit
 use Rattle.answer_model.specs.Status.{Part, at_words, at_files, at_reads, at_inputs, at_state, at_log, in_run, at_end, anywhere, Cause, no_cause, words_refused, a_miss, a_read_fault, a_write_fault, row_of, IsOf, of_run, of_reading, of_cdpp, CameAbout, IsCaused}
 use Rattle.answer_model.specs.Endings.{Says, whole, cut, unsaid, ShowsEnd, all_shown, stopped, unshown}
 use Rattle.answer_model.specs.Headline.{WritesNothing}
 use Rattle.answer_model.specs.Outcome.{EndsBy}
-use Rattle.answer_model.proofs.Endings.{rose_later, rose_kept, le_more}
+use Rattle.answer_model.specs.FaultsAnswered.{NoReadFault, AnswersFaults}
+use Rattle.answer_model.proofs.FaultLemmas.{IsClean, clean_read, clean_answers, then_answers, said_answers, read_answers}
+use Rattle.answer_model.proofs.Endings.{rose_later, rose_kept, le_more, same_kept}
 use Rattle.answer_model.proofs.Said.{said_among, said_only}
 
 -- ---- parts
@@ -77,9 +80,9 @@ cause_kept P old mid new a_write_fault only keeps came = rose_kept old.write_fau
 
 -- of a line: that of its own status, or of the fault of writing it
 pub said_caused : (P : Type 0) (line : Bytes) (own : Status) (old mid new : Outside) (status : Status) → KeepsWriteFaults old mid → IsCaused P old mid own → Says line own mid new status → IsCaused P old new status
-said_caused P line own old mid new _ before came (whole said keeps) = cause_kept P old mid new (row_of own).cause said.1 keeps came
+said_caused P line own old mid new _ before came (whole said writes complaints) = cause_kept P old mid new (row_of own).cause said.1 (same_kept mid.write_faults new.write_faults writes) came
 said_caused P line own old mid new _ before came (cut part short said writes complaints) = rose_later old.write_faults mid.write_faults new.write_faults before writes
-said_caused P line own old mid new _ before came (unsaid part begins said) = tt
+said_caused P line own old mid new _ before came (unsaid part begins said writes complaints) = tt
 
 -- of the last bytes that are shown
 pub shown_caused : (P : Type 0) (bytes : Bytes) (old mid new : Outside) (status : Status) → KeepsWriteFaults old mid → ShowsEnd bytes exit.Done mid new status → IsCaused P old new status
@@ -109,27 +112,29 @@ run_caused P old new exit.StateRefused known write = tt
 -- ---- stages
 
 -- a run
-pub run_ends : (old new : Outside) (status : Status) → IsOf of_run status → (status ≡ exit.WriteFault → WriteFaultCounted old new) → EndsBy of_reading old new status
-run_ends old new status known write =
+pub run_ends : (old new : Outside) (status : Status) → IsOf of_run status → (status ≡ exit.WriteFault → WriteFaultCounted old new) → AnswersFaults old new status → EndsBy of_reading old new status
+run_ends old new status known write faults =
     record {
       known = run_reads (row_of status).part known;
       cause = run_caused ⊥ old new status known write;
+      faults = faults;
       nothing = λ e. absurd (not_of of_run status exit.ReadFault known refl e);
     }
 
 -- memory ran out
-pub memory_ends : (of : Part → Bool) (old new : Outside) → of anywhere ≡ true → EndsBy of old new exit.NoMemory
-memory_ends of old new known = record { known = known; cause = tt; nothing = λ e. absurd cc }
+pub memory_ends : (of : Part → Bool) (old new : Outside) → of anywhere ≡ true → IsClean old new → EndsBy of old new exit.NoMemory
+memory_ends of old new known clean = record { known = known; cause = tt; faults = clean_answers old new exit.NoMemory clean; nothing = λ e. absurd cc }
 
 pub nothing_read : (o : Outside) → OnlyInput o o
 nothing_read o = record { files = refl; made = refl; shown = refl; complained = refl; write_faults = refl; complain_faults = refl; created = refl }
 
 -- after something was read
-pub later_ends : (of : Part → Bool) (old mid new : Outside) (status : Status) → OnlyInput old mid → KeepsMisses old mid → KeepsReadFaults old mid → EndsBy of mid new status → EndsBy of old new status
-later_ends of old mid new status only misses faults ends =
+pub later_ends : (of : Part → Bool) (old mid new : Outside) (status : Status) → OnlyInput old mid → KeepsMisses old mid → NoReadFault old mid → EndsBy of mid new status → EndsBy of old new status
+later_ends of old mid new status only misses sure ends =
     record {
       known = ends.known;
-      cause = cause_later ⊥ old mid new (row_of status).cause only misses faults ends.cause;
+      cause = cause_later ⊥ old mid new (row_of status).cause only misses (same_kept old.read_faults mid.read_faults sure) ends.cause;
+      faults = then_answers old mid new status (clean_read old mid only sure) ends.faults;
       nothing = λ e. nothing_later (ends.nothing e);
     }
   where
@@ -143,10 +148,24 @@ nothing_written line own old mid new status only says =
     record { made = said.made ∙ only.made; created = said.created ∙ only.created; shown = said.shown ∙ only.shown }
 
 -- a line after something was read
-pub said_ends : (of : Part → Bool) (line : Bytes) (own : Status) (old mid new : Outside) (status : Status) → IsOf of own → of anywhere ≡ true → IsCaused ⊥ old mid own → OnlyInput old mid → Says line own mid new status → EndsBy of old new status
-said_ends of line own old mid new status known any came only says =
+pub said_ends : (of : Part → Bool) (line : Bytes) (own : Status) (old mid new : Outside) (status : Status) → IsOf of own → of anywhere ≡ true → IsCaused ⊥ old mid own → OnlyInput old mid → NoReadFault old mid → Says line own mid new status
+    → EndsBy of old new status
+said_ends of line own old mid new status known any came only sure says =
     record {
       known = said_among of line own mid new status known any any says;
       cause = said_caused ⊥ line own old mid new status (omega (arith, only.write_faults)) came says;
+      faults = then_answers old mid new status (clean_read old mid only sure) (said_answers line own mid new status says);
       nothing = λ e. nothing_written line own old mid new status only says;
+    }
+
+-- a line of a read that failed
+pub unread_ends : (of : Part → Bool) (name : Word) (old mid new : Outside) (status : Status) → of at_reads ≡ true → of anywhere ≡ true → ReadFaultCounted old mid → OnlyInput old mid → Says (read_fault_line name) exit.ReadFault mid new status
+    → EndsBy of old new status
+unread_ends of name old mid new status known any rose only says =
+    let line = read_fault_line name in
+    record {
+      known = said_among of line exit.ReadFault mid new status known any any says;
+      cause = said_caused ⊥ line exit.ReadFault old mid new status (omega (arith, only.write_faults)) rose says;
+      faults = read_answers name old mid new status only says;
+      nothing = λ e. nothing_written line exit.ReadFault old mid new status only says;
     }

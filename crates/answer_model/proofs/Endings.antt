@@ -7,8 +7,8 @@ use Rattle.model_tree.specs.Tree.{Word}
 use Rattle.room_edge.specs.Faults.{Rose, ReadFaultCounted, WriteFaultCounted, ComplaintFaultCounted, KeepsReadFaults, KeepsWriteFaults}
 use Rattle.room_edge.specs.Outside.{Outside}
 use Rattle.answer_model.specs.Answer.{Answer, read_fault_line, write_fault_line}
-use Rattle.answer_model.specs.Headline.{Begins, Writes}
-use Rattle.answer_model.specs.Outcome.{Did, HasMore, Ending, as_answered, reading_failed, writing_failed, complaining_failed, memory_failed, Complaint, of_answer, of_reading, of_writing, FallsShort, IsBegun, IsLast, Lacks, a_file, the_output, Outcome}
+use Rattle.answer_model.specs.Headline.{Begins, FallsShort, Writes}
+use Rattle.answer_model.specs.Outcome.{Did, HasMore, Ending, as_answered, reading_failed, writing_failed, complaining_failed, memory_failed, Complaint, of_answer, of_reading, of_writing, IsBegun, IsLast, Lacks, a_file, the_output, Outcome}
 use Rattle.answer_model.specs.Steps.{is_made, did_nothing, and_tried, and_created, and_appended, and_showed, Tried, Created, Appended, Showed, Complained}
 use Rattle.answer_model.specs.Endings.{Says, whole, cut, unsaid, ShowsEnd, all_shown, stopped, unshown, IsOnWay, LeadsTo, EndsWith, StepsLead, EndingsFollow}
 use Rattle.answer_model.specs.declared.status.Status.{Status}
@@ -23,6 +23,9 @@ rose_later a b c le rose = grind (arith)
 
 pub rose_kept : (a b c : ℕ) → Rose a b → b ≤ c → Rose a c
 rose_kept a b c rose le = grind (arith)
+
+pub same_kept : (a b : ℕ) → b ≡ a → a ≤ b
+same_kept a b same = omega (arith, same)
 
 -- ---- what was done, with a line complained
 
@@ -65,18 +68,18 @@ as_shown : (a : Answer) (did : Did) (old now : Outside) → IsOnWay a did old no
 as_shown a did old now way made shown none = record { did = did; more = way.more; inputs = way.inputs; ending = as_answered made shown (way.quiet ∙ sym none) }
 
 said_way : (a : Answer) (did : Did) (old now new : Outside) (status : Status) → IsOnWay a did old now → did.made ≡ a.made → did.shown ≡ a.shown → Says a.complained a.status now new status → Outcome a old new status
-said_way a did old now new _ way made shown (whole said keeps) =
+said_way a did old now new _ way made shown (whole said writes complaints) =
     record { did = with_line a.complained did; more = complained_more a did old now new a.complained way said; inputs = way.inputs; ending = as_answered made shown refl }
 said_way a did old now new _ way made shown (cut part short said writes complaints) =
     short_cut a did old now new a.complained part way (whole_begun a did made shown) (λ more. of_answer) short said writes complaints
-said_way a did old now new _ way made shown (unsaid part begins said) =
-    not_said a did old now new a.complained part way (whole_begun a did made shown) (λ more. of_answer) begins said
+said_way a did old now new _ way made shown (unsaid part short said writes complaints) =
+    not_said a did old now new a.complained part way (whole_begun a did made shown) (λ more. of_answer) short.0 said
 
 as_said : (a : Answer) (did : Did) (now new : Outside) (status : Status) → did.made ≡ a.made → did.shown ≡ a.shown → Says a.complained a.status now new status → EndsWith a did now new status
 as_said a did now new status made shown says = λ start way. said_way a did start now new status way made shown says
 
 after_reading : (a : Answer) (did : Did) (old now new : Outside) (name : Word) (status : Status) → IsOnWay a did old now → did.made ≡ [] → did.shown ≡ [] → IsLast name did.tried → ReadFaultCounted old now → Says (read_fault_line name) ReadFault now new status → Outcome a old new status
-after_reading a did old now new name _ way made shown last rose (whole said keeps) =
+after_reading a did old now new name _ way made shown last rose (whole said writes complaints) =
     record {
       did = with_line (read_fault_line name) did;
       more = complained_more a did old now new (read_fault_line name) way said;
@@ -85,21 +88,21 @@ after_reading a did old now new name _ way made shown last rose (whole said keep
     }
 after_reading a did old now new name _ way made shown last rose (cut part short said writes complaints) =
     short_cut a did old now new (read_fault_line name) part way (none_begun a did made shown) (λ more. of_reading last) short said writes complaints
-after_reading a did old now new name _ way made shown last rose (unsaid part begins said) =
-    not_said a did old now new (read_fault_line name) part way (none_begun a did made shown) (λ more. of_reading last) begins said
+after_reading a did old now new name _ way made shown last rose (unsaid part short said writes complaints) =
+    not_said a did old now new (read_fault_line name) part way (none_begun a did made shown) (λ more. of_reading last) short.0 said
 
 after_writing : (a : Answer) (did : Did) (old now new : Outside) (name : Word) (status : Status) → IsOnWay a did old now → IsBegun a did → Lacks a did name → WriteFaultCounted old now → Says (write_fault_line name) WriteFault now new status → Outcome a old new status
-after_writing a did old now new name _ way begun lacks rose (whole said keeps) =
+after_writing a did old now new name _ way begun lacks rose (whole said writes complaints) =
     record {
       did = with_line (write_fault_line name) did;
       more = complained_more a did old now new (write_fault_line name) way said;
       inputs = way.inputs;
-      ending = writing_failed (rose_kept old.write_faults now.write_faults new.write_faults rose keeps) begun (lacks_too a did (write_fault_line name) name lacks) refl;
+      ending = writing_failed (rose_kept old.write_faults now.write_faults new.write_faults rose (same_kept now.write_faults new.write_faults writes)) begun (lacks_too a did (write_fault_line name) name lacks) refl;
     }
 after_writing a did old now new name _ way begun lacks rose (cut part short said writes complaints) =
     short_cut a did old now new (write_fault_line name) part way begun (λ more. of_writing (lacks_too a did more name lacks)) short said writes complaints
-after_writing a did old now new name _ way begun lacks rose (unsaid part begins said) =
-    not_said a did old now new (write_fault_line name) part way begun (λ more. of_writing (lacks_too a did more name lacks)) begins said
+after_writing a did old now new name _ way begun lacks rose (unsaid part short said writes complaints) =
+    not_said a did old now new (write_fault_line name) part way begun (λ more. of_writing (lacks_too a did more name lacks)) short.0 said
 
 out_of_memory : (a : Answer) (did : Did) (now : Outside) → IsBegun a did → EndsWith a did now now NoMemory
 out_of_memory a did now begun =
@@ -178,13 +181,13 @@ output_lacks : (a : Answer) (did : Did) (bytes part : Bytes) → did.made ≡ a.
 output_lacks a did bytes part made shown short = the_output made (λ e. short.1 (append_cancel_left did.shown part bytes (e ∙ shown)))
 
 ended_way : (a : Answer) (did : Did) (old now new : Outside) (bytes : Bytes) (status : Status) → IsOnWay a did old now → did.made ≡ a.made → a.shown ≡ did.shown ++ bytes → a.complained ≡ [] → ShowsEnd bytes a.status now new status → Outcome a old new status
-ended_way a did old now new bytes _ way made all none (all_shown showed keeps) =
-    as_shown a (and_showed bytes did) old new (show a did now new bytes showed keeps old way) made (sym all) none
+ended_way a did old now new bytes _ way made all none (all_shown showed sure) =
+    as_shown a (and_showed bytes did) old new (show a did now new bytes showed (same_kept now.write_faults new.write_faults sure) old way) made (sym all) none
 ended_way a did old now new bytes status way made all none (stopped part mid short showed keeps rose says) =
     after_writing a (and_showed part did) old mid new (codes "standard output") status (show a did now mid part showed keeps old way) (part_shown a did bytes part made all short.0)
     (output_lacks a did bytes part made all short) (rose_later old.write_faults now.write_faults mid.write_faults way.writes rose) says
-ended_way a did old now new bytes _ way made all none (unshown part begins showed keeps) =
-    out_of_memory a (and_showed part did) new (part_shown a did bytes part made all begins) old (show a did now new part showed keeps old way)
+ended_way a did old now new bytes _ way made all none (unshown part begins showed sure) =
+    out_of_memory a (and_showed part did) new (part_shown a did bytes part made all begins) old (show a did now new part showed (same_kept now.write_faults new.write_faults sure) old way)
 
 as_ended : (a : Answer) (did : Did) (now new : Outside) (bytes : Bytes) (status : Status) → did.made ≡ a.made → a.shown ≡ did.shown ++ bytes → a.complained ≡ [] → ShowsEnd bytes a.status now new status → EndsWith a did now new status
 as_ended a did now new bytes status made all none ends = λ start way. ended_way a did start now new bytes status way made all none ends

@@ -7,7 +7,9 @@ use Rattle.room_edge.specs.Outside.{Outside, streams}
 use Rattle.room_edge.proofs.Adding.{streams-nil}
 use Rattle.answer_model.specs.Answer.{MadeFiles, Answer, names}
 use Rattle.answer_model.specs.Headline.{puts_all, BeginFiles, Writes, WritesPart, WritesNothing}
-use Rattle.answer_model.specs.Outcome.{Did, HasMore, Outcome, Ending, as_answered, reading_failed, writing_failed, complaining_failed, memory_failed, IsBegun, IsOwn, Complains, FollowsAnswer, IsComplete, IsExact, OutcomeLaws}
+use Rattle.answer_model.specs.Outcome.{Did, HasMore, Outcome, Ending, as_answered, reading_failed, writing_failed, complaining_failed, memory_failed, IsBegun, IsOwn, Complains, FollowsAnswer, IsComplete, IsExact, IsSure, OutcomeLaws}
+use Rattle.answer_model.specs.Answer.{read_fault_line, write_fault_line}
+use Rattle.answer_model.specs.FaultsAnswered.{NoReadFault, NoWriteFault, RunsOut, FailsAgain}
 use Rattle.answer_model.specs.declared.status.Status.{Status}
 use Rattle.answer_model.specs.declared.status.Status.TheVariants.{ReadFault, WriteFault, NoMemory}
 use Rattle.answer_model.specs.Status.{row_of, of_faults}
@@ -143,5 +145,24 @@ exact_by a old new did _ more (memory_failed b l c) p q r = absurd (r refl)
 is_exact : IsExact
 is_exact a old new status o = exact_by a old new o.did status o.more o.ending
 
+-- ---- faults
+
+read_sure : (old new : Outside) (status : Status) → IsOwn status → NoReadFault old new ⊎ FailsAgain old new status ⊎ RunsOut read_fault_line old new status → NoReadFault old new
+read_sure old new status own (inl sure) = sure
+read_sure old new status own (inr (inl again)) = not_own status WriteFault own refl again.0
+read_sure old new status own (inr (inr out)) = not_own status NoMemory own refl out.0
+
+write_sure : (old new : Outside) (status : Status) → IsOwn status → NoWriteFault old new ⊎ RunsOut write_fault_line old new status → NoWriteFault old new
+write_sure old new status own (inl sure) = sure
+write_sure old new status own (inr out) = not_own status NoMemory own refl out.0
+
+is_sure : IsSure
+is_sure = λ old new status own a.
+    record {
+      reads = read_sure old new status own (a.read (not_own status ReadFault own refl));
+      writes = write_sure old new status own (a.write (not_own status WriteFault own refl));
+      complaints = a.complaint (not_own status WriteFault own refl);
+    }
+
 pub outcome_laws : OutcomeLaws
-outcome_laws = record { follow = follows; complete = is_complete; exact = is_exact }
+outcome_laws = record { follow = follows; complete = is_complete; exact = is_exact; sure = is_sure }

@@ -19,7 +19,7 @@ use Rattle.answer_model.specs.declared.status.Status.{Status}
 use Rattle.answer_model.specs.declared.status.Status.TheVariants.{ReadFault, WriteFault, NoMemory}
 use Rattle.answer_model.proofs.Outcomes.{none_begun}
 use Rattle.answer_model.proofs.Steps.{steps_add}
-use Rattle.answer_model.proofs.Endings.{steps_lead, endings_follow, rose_later, rose_kept, le_same, le_more}
+use Rattle.answer_model.proofs.Endings.{steps_lead, endings_follow, rose_later, rose_kept, le_same, le_more, same_kept}
 
 -- ---- one stage after another
 
@@ -157,9 +157,9 @@ write_failed a did more old mid new name status leads rose begun lacks says = λ
 
 -- the status of a write fault comes of a counted fault of writing: of the line, or of what it tells
 pub rose_by_said : (line : Bytes) (own : Status) (old mid new : Outside) (status : Status) → KeepsWriteFaults old mid → (own ≡ WriteFault → WriteFaultCounted old mid) → Says line own mid new status → status ≡ WriteFault → WriteFaultCounted old new
-rose_by_said line own old mid new _ before rose (whole said keeps) five = rose_kept old.write_faults mid.write_faults new.write_faults (rose five) keeps
+rose_by_said line own old mid new _ before rose (whole said writes complaints) five = rose_kept old.write_faults mid.write_faults new.write_faults (rose five) (same_kept mid.write_faults new.write_faults writes)
 rose_by_said line own old mid new _ before rose (cut part short said writes complaints) five = rose_later old.write_faults mid.write_faults new.write_faults before writes
-rose_by_said line own old mid new _ before rose (unsaid part begins said) five = absurd cc
+rose_by_said line own old mid new _ before rose (unsaid part begins said writes complaints) five = absurd cc
 
 pub rose_by_shown : (bytes : Bytes) (own : Status) (old mid new : Outside) (status : Status) → KeepsWriteFaults old mid → own ≢ WriteFault → ShowsEnd bytes own mid new status → status ≡ WriteFault → WriteFaultCounted old new
 rose_by_shown bytes own old mid new _ before other (all_shown showed keeps) five = absurd (other five)

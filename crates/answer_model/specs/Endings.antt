@@ -5,32 +5,34 @@ use Rattle.model_tree.specs.Tree.{Word}
 use Rattle.room_edge.specs.Faults.{ReadFaultCounted, WriteFaultCounted, ComplaintFaultCounted, KeepsReadFaults, KeepsWriteFaults, KeepsComplaintFaults}
 use Rattle.room_edge.specs.Outside.{Outside}
 use Rattle.answer_model.specs.Answer.{MadeFiles, Answer, read_fault_line, write_fault_line}
-use Rattle.answer_model.specs.Headline.{Begins, Writes}
+use Rattle.answer_model.specs.Headline.{Begins, FallsShort, Writes}
+use Rattle.answer_model.specs.FaultsAnswered.{NoWriteFault, NoComplaintFault}
 use Rattle.answer_model.specs.declared.status.Status.{Status}
 use Rattle.answer_model.specs.declared.status.Status.TheVariants.{ReadFault, WriteFault, NoMemory}
-use Rattle.answer_model.specs.Outcome.{Did, HasMore, FallsShort, IsBegun, IsLast, Lacks, Outcome}
+use Rattle.answer_model.specs.Outcome.{Did, HasMore, IsBegun, IsLast, Lacks, Outcome}
 use Rattle.answer_model.specs.Steps.{is_made, did_nothing, and_tried, and_created, and_appended, and_showed, Tried, Created, Appended, Showed, Complained}
 
 -- ---- a line, and what it came to
 
--- a line was complained: all of it, with a status of its own; or a part, since a complaint failed
--- or memory ran out
+-- a line was complained: all of it, with a status of its own; or less, since a complaint failed or
+-- memory ran out
 pub data Says (line : Bytes) (own : Status) (old new : Outside) : Status → Type 0 where
-  whole : Complained line old new → KeepsWriteFaults old new → Says line own old new own
+  whole : Complained line old new → NoWriteFault old new → NoComplaintFault old new
+      → Says line own old new own
   cut : (part : Bytes) → FallsShort part line → Complained part old new → WriteFaultCounted old new
       → ComplaintFaultCounted old new → Says line own old new WriteFault
-  unsaid : (part : Bytes) → Begins part line → Complained part old new
-      → Says line own old new NoMemory
+  unsaid : (part : Bytes) → FallsShort part line → Complained part old new → NoWriteFault old new
+      → NoComplaintFault old new → Says line own old new NoMemory
 
 -- bytes were shown: all of them, with a status of its own; or a part, since a write failed, which a
 -- line tells, or memory ran out
 pub data ShowsEnd (bytes : Bytes) (own : Status) (old new : Outside) : Status → Type 0 where
-  all_shown : Showed bytes old new → KeepsWriteFaults old new → ShowsEnd bytes own old new own
+  all_shown : Showed bytes old new → NoWriteFault old new → ShowsEnd bytes own old new own
   stopped : {status : Status} (part : Bytes) (mid : Outside) → FallsShort part bytes
       → Showed part old mid → KeepsWriteFaults old mid → WriteFaultCounted old mid
       → Says (write_fault_line (codes "standard output")) WriteFault mid new status
       → ShowsEnd bytes own old new status
-  unshown : (part : Bytes) → Begins part bytes → Showed part old new → KeepsWriteFaults old new
+  unshown : (part : Bytes) → Begins part bytes → Showed part old new → NoWriteFault old new
       → ShowsEnd bytes own old new NoMemory
 
 -- ---- stages

@@ -1,5 +1,5 @@
 -- What a call of a program changes outside, beside its answer.
-use Rattle.std.specs.Prelude.{◌≡◌, Option, List, [], ◌∷◌, ◌++◌, ⊤}
+use Rattle.std.specs.Prelude.{◌≡◌, ◌≢◌, Option, List, [], ◌∷◌, ◌++◌, ⊤}
 use Rattle.room_edge.specs.Outside.{Files, Outside, puts, streams}
 use Rattle.quantity.specs.Bytes.{Bytes}
 use Rattle.model_tree.specs.Tree.{Word}
@@ -14,6 +14,10 @@ puts_all made (file ∷ files) = puts_all (puts made file.0 file.1) files
 -- a beginning of a list
 abbrev pub Begins : {A : Type 0} → List A → List A → Type 0
 Begins {A} part whole = (rest : List A) × (whole ≡ part ++ rest)
+
+-- a beginning that lacks something
+abbrev pub FallsShort : {A : Type 0} → List A → List A → Type 0
+FallsShort {A} part whole = Begins part whole × (part ≢ whole)
 
 -- the first files, each with its first bytes
 abbrev pub BeginFiles : MadeFiles → MadeFiles → Type 0

@@ -8,10 +8,11 @@ use Rattle.quantity.specs.Bytes.{Bytes}
 use Rattle.room_edge.specs.Faults.{Rose}
 use Rattle.room_edge.specs.Outside.{Outside, streams}
 use Rattle.answer_model.specs.Answer.{MadeFiles, names, Answer, read_fault_line, write_fault_line}
-use Rattle.answer_model.specs.Headline.{puts_all, Begins, BeginFiles, Writes, WritesPart, TriesPart, WritesNothing}
+use Rattle.answer_model.specs.Headline.{puts_all, Begins, FallsShort, BeginFiles, Writes, WritesPart, TriesPart, WritesNothing}
 use Rattle.answer_model.specs.declared.status.Status.{Status}
 use Rattle.answer_model.specs.declared.status.Status.TheVariants.{ReadFault, WriteFault, NoMemory}
 use Rattle.answer_model.specs.Status.{Part, row_of, of_faults, of_words, IsOf, IsCaused}
+use Rattle.answer_model.specs.FaultsAnswered.{CountsNoFault, AnswersFaults}
 
 -- what a call did so far
 pub record Did : Type 0 where
@@ -27,10 +28,6 @@ pub record HasMore (did : Did) (old new : Outside) : Type 0 where
   pub shown : new.shown ≡ streams old.shown did.shown
   pub complained : new.complained ≡ streams old.complained did.complained
   pub tried : new.tried ≡ old.tried ++ did.tried
-
--- a beginning that lacks something
-abbrev pub FallsShort : {A : Type 0} → List A → List A → Type 0
-FallsShort {A} part whole = Begins part whole × (part ≢ whole)
 
 -- what was made and shown begins what the answer makes and shows
 abbrev pub IsBegun : Answer → Did → Type 0
@@ -85,10 +82,12 @@ pub record Causes {A : Type 0} (of : Part → Bool) (words : Option A) (old new 
   pub cause : IsCaused (words ≡ None) old new status
   pub refused : words ≡ None → IsOf of_words status
 
--- the same of a stage after the words are taken; and on a read fault nothing is written
+-- the same of a stage after the words are taken; and each fault shows in the status, and on a read
+-- fault nothing is written
 pub record EndsBy (of : Part → Bool) (old new : Outside) (status : Status) : Type 0 where
   pub known : IsOf of status
   pub cause : IsCaused ⊥ old new status
+  pub faults : AnswersFaults old new status
   pub nothing : status ≡ ReadFault → WritesNothing old new
 
 -- ---- what follows from an outcome
@@ -137,7 +136,14 @@ IsExact =
     (a : Answer) (old new : Outside) (status : Status) → Outcome a old new status
     → status ≢ ReadFault → status ≢ WriteFault → status ≢ NoMemory → Writes a old new status
 
+-- where the status is none of a fault or want of memory, nothing failed
+abbrev pub IsSure : Type 0
+IsSure =
+    (old new : Outside) (status : Status) → IsOwn status → AnswersFaults old new status
+    → CountsNoFault old new
+
 pub record OutcomeLaws : Type 0 where
   pub follow : OutcomesFollow
   pub complete : IsComplete
   pub exact : IsExact
+  pub sure : IsSure

@@ -9,8 +9,9 @@ use Rattle.answer_model.specs.Answer.{MadeFiles, names}
 use Rattle.answer_model.specs.WholeFiles.{folder, boxes, model}
 use Rattle.model_text.specs.Models.{line_model}
 use Rattle.answer_model.specs.Headline.{puts_all}
+use Rattle.answer_model.specs.FaultsAnswered.{AnswersFaults}
 use Rattle.answer_model.specs.Programs.{CdppEnds, CdppCauses}
-use Rattle.answer_model.specs.declared.status.Status.TheVariants.{Done, ReadFault, WriteFault}
+use Rattle.answer_model.specs.declared.status.Status.TheVariants.{Done, ReadFault, WriteFault, NoMemory}
 
 abbrev pub before : Outside
 before =
@@ -86,3 +87,10 @@ pub record EndsAsSaid : Type 0 where
   pub nothing_complained : CdppEnds (words asks_no_time) boxes before no_complaint WriteFault
   pub complete : CdppEnds (words asks) boxes before whole Done
   pub not_read : CdppEnds (words asks) boxes before unread ReadFault
+  -- faults show in the status: no other one answers a read or a complaint that failed, or an append
+  -- that failed and was tried again
+  pub read_answered : AnswersFaults before unread ReadFault
+  pub read_hidden : ¬ AnswersFaults before (record whole { read_faults = 1 }) Done
+  pub complaint_answered : AnswersFaults before no_complaint WriteFault
+  pub complaint_hidden : ¬ AnswersFaults before no_complaint NoMemory
+  pub append_hidden : ¬ AnswersFaults before (record whole { write_faults = 1 }) Done

@@ -7,6 +7,7 @@ pub mod Shown
 pub mod Started
 pub mod Sizes
 pub mod Reached
+pub mod Leaving
 pub mod Boxes
 pub mod Words
 pub mod Names

@@ -37,7 +37,7 @@ pub if_some_all : {X : Type 0} (o : Option X) (P : X → Type 0) → ((x : X) �
 if_some_all None P all = tt
 if_some_all (Some x) P all = all x
 
-if_some_two : {X : Type 0} (o : Option X) (P Q R : X → Type 0) → ((x : X) → P x → Q x → R x) → IfSome o P → IfSome o Q → IfSome o R
+pub if_some_two : {X : Type 0} (o : Option X) (P Q R : X → Type 0) → ((x : X) → P x → Q x → R x) → IfSome o P → IfSome o Q → IfSome o R
 if_some_two None P Q R step p q = tt
 if_some_two (Some x) P Q R step p q = step x p q
 

@@ -79,10 +79,10 @@ pub record IsMadeOf (s : Standing) (m : Model) (stock : List Stocked) (events : 
   pub limit_is : s.limit ≡ limit
   pub goes : s.stopped ≡ None
 
-tree_made : (s : Standing) (m : Model) (stock : List Stocked) (events : List Event) (end limit : ℕ) → IsMadeOf s m stock events end limit → tree_in s ≡ tree_on m stock
+pub tree_made : (s : Standing) (m : Model) (stock : List Stocked) (events : List Event) (end limit : ℕ) → IsMadeOf s m stock events end limit → tree_in s ≡ tree_on m stock
 tree_made s m stock events end limit made = (λ i. tree_of (made.model i) (settings_at (made.settings i))) ∙ same_tree m stock
 
-events_made : (s : Standing) (m : Model) (stock : List Stocked) (events : List Event) (end limit : ℕ) → IsMadeOf s m stock events end limit → s.state.events ≡ events
+pub events_made : (s : Standing) (m : Model) (stock : List Stocked) (events : List Event) (end limit : ℕ) → IsMadeOf s m stock events end limit → s.state.events ≡ events
 events_made s m stock events end limit made = ap (λ (r : RunState). r.events) made.state
 
 pub may_run : (a : Asked) (o : Outputs) (s : Standing) (m : Model) (stock : List Stocked) (routes : Routes) (events : List Event) → MayStart a stock m routes → AreOutputsOf (asked_of a) o → IsMadeOf s m stock events a.end a.limit → MayRun o s

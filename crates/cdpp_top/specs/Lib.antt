@@ -1,3 +1,4 @@
 pub mod Starting
 pub mod Reading
 pub mod Visits
+pub mod Leaving

@@ -1,5 +1,6 @@
 // The events of a run, and the run.
-ghost use Rattle.std.specs.Prelude.{◌≡◌, ◌+◌, ◌≤◌, List, IfSome, length};
+ghost use Rattle.std.specs.Prelude.{◌≡◌, ◌+◌, ◌≤◌, true, List, IfSome, length};
+ghost use Rattle.std.specs.Result.{result_ok};
 ghost use Rattle.quantity.specs.declared.bounds.TheConstants.{MAX_FILE_BYTES};
 ghost use Rattle.model_tree.specs.Tree.{Word, ins_of};
 ghost use Rattle.event_list.specs.Events.{events_of};
@@ -10,7 +11,9 @@ ghost use Rattle.cdpp_top.specs.Starting.{tree_on, MayStart};
 ghost use Rattle.answer_model.specs.Outcome.{EndsBy};
 ghost use Rattle.answer_model.specs.Status.{of_reading};
 ghost use Rattle.cdpp_top.specs.Reading.{answer_by_file, answer_by_events};
+ghost use Rattle.cdpp_top.specs.Leaving.{LeavesWith, events_in, events_for};
 ghost use Rattle.cdpp_top.specs.Visits.{visits_by_events, visits_by_file, visits_with};
+ghost use Rattle.run_loop.specs.Leaves.{spent};
 
 use crate::run::run_from;
 use crate::start::Start;
@@ -44,6 +47,10 @@ pub(crate) fn run_with_events<R: Room, M: AtomicModel, L: Ledger>(
     ensures causes { EndsBy of_reading (R.outside room.old) (R.outside room.new) result }
     ensures visits { IfSome (R.outside room.old).files (λ files. steps.new ≤ steps.old
         + visits_with (asked_of asked.now) files (tree_on start.model start.stock)) }
+    ensures leaves { IfSome (R.outside room.old).files (λ files.
+        let tree = tree_on start.model start.stock in
+        LeavesWith (asked_of asked.now) tree (events_for files tree (asked_of asked.now).events)
+        (R.outside room.old) (R.outside room.new) (spent true steps.old steps.new) result) }
 {
     match asked.events {
         None => {
@@ -71,6 +78,10 @@ fn run_with_file<R: Room, M: AtomicModel, L: Ledger>(
     ensures causes { EndsBy of_reading (R.outside room.old) (R.outside room.new) result }
     ensures visits { IfSome (R.outside room.old).files (λ files. steps.new ≤ steps.old
         + visits_by_file (asked_of asked.now) (tree_on start.model start.stock) (files name.now)) }
+    ensures leaves { IfSome (R.outside room.old).files (λ files.
+        let tree = tree_on start.model start.stock in
+        LeavesWith (asked_of asked.now) tree (events_in tree (files name.now))
+        (R.outside room.old) (R.outside room.new) (spent true steps.old steps.new) result) }
 {
     match read_whole(alloc, room, name, LONGEST) {
         Ok(bytes) => run_with_bytes(alloc, room, asked, &bytes, start, steps),
@@ -113,6 +124,9 @@ fn run_with_bytes<R: Room, M: AtomicModel, L: Ledger>(
     ensures visits { let tree = tree_on start.model start.stock in
         steps.new ≤ steps.old
         + visits_by_events (asked_of asked.now) tree (events_of bytes.now (ins_of tree)) }
+    ensures leaves { let tree = tree_on start.model start.stock in
+        LeavesWith (asked_of asked.now) tree (result_ok (events_of bytes.now (ins_of tree)))
+        (R.outside room.old) (R.outside room.new) (spent true steps.old steps.new) result }
 {
     accepted_events_are_at_ports();
     let read = Events::read(alloc, bytes, &start.model.top().ins);

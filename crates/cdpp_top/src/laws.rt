@@ -1,5 +1,6 @@
 //! Laws of what the program writes.
 ghost use Rattle.answer_model.specs.AcceptedRuns.{RunsAreDrawn, FilesAreDrawn, FramesAreDrawn};
+ghost use Rattle.cdpp_top.specs.Leaving.{OnlyRunsLeave};
 
 use answer_model::drawn::drawn_agrees_for_accepted_models;
 
@@ -13,3 +14,9 @@ pub fn drawn_agrees()
 {
     drawn_agrees_for_accepted_models();
 }
+
+/// Where the status is none that a run ends with, as that of a missing file, of a read fault or of
+/// what is refused, no file is made and no leaf is visited.
+pub fn only_runs_leave()
+    ensures { OnlyRunsLeave }
+{}

@@ -1,8 +1,9 @@
 // The program.
-ghost use Rattle.std.specs.Prelude.{◌≡◌, ◌+◌, ◌<◌, ◌≤◌, ◌^◌, [], length, map, IfSome};
+ghost use Rattle.std.specs.Prelude.{◌≡◌, ◌+◌, ◌<◌, ◌≤◌, ◌^◌, true, [], length, map, IfSome};
 ghost use Rattle.std.specs.String.{string_bytes};
 ghost use Rattle.answer_model.specs.Cdpp.{answer_to};
 ghost use Rattle.answer_model.specs.Endings.{looked_for, EndsWith};
+ghost use Rattle.answer_model.specs.FaultsAnswered.{AnswersFaults};
 ghost use Rattle.answer_model.specs.Headline.{WritesNothing};
 ghost use Rattle.answer_model.specs.Programs.{CdppEnds, CdppCauses};
 ghost use Rattle.asked_words.specs.Shown.{asked_of, IsInBounds};
@@ -10,7 +11,9 @@ ghost use Rattle.answer_model.specs.declared.status.Status.TheVariants.{ReadFaul
 ghost use Rattle.cdpp_top.specs.Starting.{classes_by};
 ghost use Rattle.answer_model.specs.Outcome.{EndsBy};
 ghost use Rattle.answer_model.specs.Status.{of_reading};
+ghost use Rattle.cdpp_top.specs.Leaving.{LeavesFor, LeavesTo};
 ghost use Rattle.cdpp_top.specs.Visits.{visits_for, visits_to};
+ghost use Rattle.run_loop.specs.Leaves.{spent};
 
 use crate::reading::read_asked;
 use asked_words::{Asked, read_words};
@@ -45,11 +48,20 @@ pub fn cdpp<R: Room, L: Ledger>(
         (R.outside room.old) (R.outside room.new) result }
     ensures nothing { result ≡ ReadFault
         → WritesNothing (R.outside room.old) (R.outside room.new) }
+    // Over every room: each fault that was counted shows in the status.
+    ensures faults { AnswersFaults (R.outside room.old) (R.outside room.new) result }
     // At most the visits that the reference run of what is asked for may cost: each leaf once, and
     // then in each cycle only for the values given and for the leaves that move.
     ensures visits { IfSome (R.outside room.old).files (λ files. steps.new ≤ steps.old
         + visits_for (map string_bytes words.now) files
         (classes_by (λ b. (AtomicModel-box b).held b.value) boxes.items)) }
+    // However the run ends, some number of its cycles was begun: the files have pieces of these, in
+    // their order, and the visits are at most those that these cost. Nothing of it is at a status
+    // that no run ends with.
+    ensures leaves { IfSome (R.outside room.old).files (λ files.
+        LeavesFor (map string_bytes words.now) files
+        (classes_by (λ b. (AtomicModel-box b).held b.value) boxes.items)
+        (R.outside room.old) (R.outside room.new) (spent true steps.old steps.new) result) }
 {
     cdpp_over(alloc, words, boxes, room, steps)
 }
@@ -69,8 +81,12 @@ pub fn cdpp_over<R: Room, M: AtomicModel, L: Ledger>(
         (R.outside room.old) (R.outside room.new) result }
     ensures nothing { result ≡ ReadFault
         → WritesNothing (R.outside room.old) (R.outside room.new) }
+    ensures faults { AnswersFaults (R.outside room.old) (R.outside room.new) result }
     ensures visits { IfSome (R.outside room.old).files (λ files. steps.new ≤ steps.old
         + visits_for (map string_bytes words.now) files (classes_by (λ m. M.held m) boxes.items)) }
+    ensures leaves { IfSome (R.outside room.old).files (λ files.
+        LeavesFor (map string_bytes words.now) files (classes_by (λ m. M.held m) boxes.items)
+        (R.outside room.old) (R.outside room.new) (spent true steps.old steps.new) result) }
 {
     match read_words(alloc, words) {
         Ok(Some(asked)) => run_asked(alloc, room, &asked, boxes, steps),
@@ -99,6 +115,9 @@ fn run_asked<R: Room, M: AtomicModel, L: Ledger>(
     ensures causes { EndsBy of_reading (R.outside room.old) (R.outside room.new) result }
     ensures visits { IfSome (R.outside room.old).files (λ files. steps.new ≤ steps.old
         + visits_to (asked_of asked.now) files (classes_by (λ m. M.held m) boxes.items)) }
+    ensures leaves { IfSome (R.outside room.old).files (λ files.
+        LeavesTo (asked_of asked.now) files (classes_by (λ m. M.held m) boxes.items)
+        (R.outside room.old) (R.outside room.new) (spent true steps.old steps.new) result) }
 {
     let Ok(stock) = Stock::new(alloc, boxes) else {
         return Status::NoMemory;

@@ -1,5 +1,5 @@
 // The model that is asked for, and its run.
-ghost use Rattle.std.specs.Prelude.{◌≡◌, ◌+◌, ◌≤◌, None, [], IfSome, IfOk, IsTrue, not};
+ghost use Rattle.std.specs.Prelude.{◌≡◌, ◌+◌, ◌≤◌, true, None, [], IfSome, IfOk, IsTrue, not};
 ghost use Rattle.std.specs.List.{list_all};
 ghost use Rattle.std.specs.Option.{option_map};
 ghost use Rattle.model_stock.specs.Settled.{classes_of};
@@ -14,7 +14,9 @@ ghost use Rattle.cdpp_top.specs.Starting.{tree_on};
 ghost use Rattle.answer_model.specs.Outcome.{EndsBy};
 ghost use Rattle.answer_model.specs.Status.{of_reading};
 ghost use Rattle.cdpp_top.specs.Reading.{source_read};
+ghost use Rattle.cdpp_top.specs.Leaving.{LeavesTo};
 ghost use Rattle.cdpp_top.specs.Visits.{visits_to};
+ghost use Rattle.run_loop.specs.Leaves.{spent};
 
 use crate::events::run_with_events;
 use crate::start::Start;
@@ -47,6 +49,9 @@ pub(crate) fn read_asked<R: Room, M: AtomicModel, L: Ledger>(
     ensures causes { EndsBy of_reading (R.outside room.old) (R.outside room.new) result }
     ensures visits { IfSome (R.outside room.old).files (λ files. steps.new ≤ steps.old
         + visits_to (asked_of asked.now) files (classes_of stock)) }
+    ensures leaves { IfSome (R.outside room.old).files (λ files.
+        LeavesTo (asked_of asked.now) files (classes_of stock) (R.outside room.old)
+        (R.outside room.new) (spent true steps.old steps.new) result) }
 {
     let mut stock = stock;
     match read_source(alloc, room, asked, &mut stock) {

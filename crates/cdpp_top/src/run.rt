@@ -1,5 +1,5 @@
 // The run of a model with its events.
-ghost use Rattle.std.specs.Prelude.{◌≡◌, ◌+◌, ◌≤◌, None, List};
+ghost use Rattle.std.specs.Prelude.{◌≡◌, ◌+◌, ◌≤◌, true, None, List};
 ghost use Rattle.model_tree.specs.Tree.{Word, ins_of};
 ghost use Rattle.run_model.specs.Run.{run as run_of};
 ghost use Rattle.run_model.specs.Visits.{visits};
@@ -7,7 +7,9 @@ ghost use Rattle.sparse_cycle.specs.Feed.{AreAtInputs};
 ghost use Rattle.answer_model.specs.Cdpp.{answer_from};
 ghost use Rattle.answer_model.specs.Endings.{looked_for, EndsWith};
 ghost use Rattle.asked_words.specs.Shown.{asked_of};
+ghost use Rattle.cdpp_top.specs.Leaving.{RunLeaves};
 ghost use Rattle.cdpp_top.specs.Starting.{tree_on, MayStart};
+ghost use Rattle.run_loop.specs.Leaves.{spent};
 ghost use Rattle.answer_model.specs.Outcome.{EndsBy};
 ghost use Rattle.answer_model.specs.Status.{of_reading};
 
@@ -42,6 +44,9 @@ pub(crate) fn run_from<R: Room, M: AtomicModel, L: Ledger>(
     // The visits that the reference run may cost.
     ensures visits { let tree = tree_on start.model start.stock in
         steps.new ≤ steps.old + visits tree (run_of tree events asked.now.end asked.now.limit) }
+    // The files that the run leaves, and the visits of the cycles that were begun.
+    ensures leaves { RunLeaves (asked_of asked.now) (tree_on start.model start.stock) events
+        (R.outside room.old) (R.outside room.new) (spent true steps.old steps.new) result }
 {
     let Ok(queue) = LinkedQueue::with_leaves(alloc, start.model.leaves()) else {
         drop((start, events));

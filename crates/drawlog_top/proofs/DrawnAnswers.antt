@@ -17,6 +17,7 @@ use Rattle.answer_model.specs.Status.{Part, at_words, at_files, at_reads, at_inp
 use Rattle.answer_model.specs.Endings.{ShowsEnd}
 use Rattle.answer_model.specs.Outcome.{EndsBy}
 use Rattle.answer_model.proofs.Said.{shown_among}
+use Rattle.answer_model.proofs.FaultLemmas.{shown_answers}
 use Rattle.answer_model.proofs.Causing.{shown_caused, not_of}
 use Rattle.drawlog_top.specs.Ends.{answer_to_file}
 
@@ -88,7 +89,7 @@ log_known status known = drawlog_reads (row_of status).part known
 
 -- a drawing ends so, and so does the reading before it
 pub drawing_ends : (old new : Outside) (status : Status) → EndsBy of_drawing old new status → EndsBy of_log old new status
-drawing_ends old new status ends = record { known = log_draws (row_of status).part ends.known; cause = ends.cause; nothing = ends.nothing }
+drawing_ends old new status ends = record { known = log_draws (row_of status).part ends.known; cause = ends.cause; faults = ends.faults; nothing = ends.nothing }
 
 -- a drawing that is shown
 pub shown_ends : (bytes : Bytes) (old new : Outside) (status : Status) → ShowsEnd bytes Done old new status → EndsBy of_drawing old new status
@@ -97,5 +98,6 @@ shown_ends bytes old new status says =
     record {
       known = known;
       cause = shown_caused ⊥ bytes old old new status (omega arith) says;
+      faults = shown_answers bytes Done old new status says;
       nothing = λ e. absurd (not_of of_drawing status ReadFault known refl e);
     }

@@ -4,6 +4,7 @@ ghost use Rattle.std.specs.String.{string_bytes};
 ghost use Rattle.frame_draw.specs.Drawing.{CanDraw};
 ghost use Rattle.answer_model.specs.Endings.{looked_for, EndsWith};
 ghost use Rattle.answer_model.specs.declared.status.Status.TheVariants.{ReadFault};
+ghost use Rattle.answer_model.specs.FaultsAnswered.{AnswersFaults};
 ghost use Rattle.answer_model.specs.Headline.{WritesNothing};
 ghost use Rattle.answer_model.specs.Outcome.{EndsBy};
 ghost use Rattle.answer_model.specs.Programs.{DrawlogEnds, DrawlogCauses};
@@ -62,6 +63,8 @@ pub fn drawlog<R: Room>(alloc: Global, words: &[String], room: &mut R) -> Status
         (R.outside room.new) result }
     ensures nothing { result ≡ ReadFault
         → WritesNothing (R.outside room.old) (R.outside room.new) }
+    // Over every room: each fault that was counted shows in the status.
+    ensures faults { AnswersFaults (R.outside room.old) (R.outside room.new) result }
 {
     match read_drawing_words(alloc, words) {
         Ok(Some(asked)) => draw_asked(alloc, room, &asked),

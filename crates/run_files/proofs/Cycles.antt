@@ -1,5 +1,5 @@
 -- What a cycle adds to the files, piece by piece, and to the frames.
-use Rattle.std.proofs.Common.{◌≡◌, ℕ, ◌+◌, ◌<◌, ◌≤◌, length, get_or, drop, ◌==◌, not, Bool, true, false, Option, Some, None, List, [], ◌∷◌, map, refl, sym, ap, ◌∙◌, arith}
+use Rattle.std.proofs.Common.{◌≡◌, ℕ, ◌+◌, ◌<◌, ◌≤◌, length, get_or, drop, ◌==◌, not, Bool, true, false, Option, Some, None, List, [], ◌∷◌, ◌++◌, map, refl, sym, ap, ◌∙◌, arith}
 use Rattle.std.specs.Prelude.{if◌then◌else◌, Result, Ok, Err}
 use Rattle.std.specs.Result.{IsOk, OnOk}
 use Rattle.std.specs.Option.{ForSome, option_map, is_some}
@@ -10,17 +10,19 @@ use Rattle.model_tree.specs.Tree.{Word, Tree}
 use Rattle.run_model.specs.Run.{PortRecord, Cycle}
 use Rattle.record_text.specs.Held.{y_at}
 use Rattle.record_text.specs.declared.records.YRecord.{YRecord}
-use Rattle.text_forms.specs.Lines.{log_bytes, out_bytes}
 use Rattle.frame_draw.specs.Drawing.{frame_of}
 use Rattle.frame_draw.specs.Turns.{is_other}
 use Rattle.room_edge.specs.Outside.{Outside}
 use Rattle.run_files.specs.declared.outputs.Output.TheVariants.{Log, Out, Frames}
 use Rattle.run_files.specs.declared.outputs.Unwritten.{Unwritten}
+use Rattle.run_files.specs.declared.outputs.Unwritten.TheVariants.{Memory}
 use Rattle.run_files.specs.AskedFiles.{text_of_name}
-use Rattle.run_files.specs.Texts.{Names, Texts, both, only}
-use Rattle.run_files.specs.Showing.{Showing, with_taken, shown_of, took, plain, ended, ended_before, after_cycle, frame_before, last_frame, cycle_texts, is_begun_before, BeginsAt}
-use Rattle.run_files.specs.Written.{Adds, Falls, Writes}
-use Rattle.run_files.proofs.Adding.{three_parts, adds_both, adds_as, falls_after, falls_before, falls_as}
+use Rattle.run_files.specs.Texts.{Names}
+use Rattle.run_files.specs.Order.{Piece, piece_of, one_piece}
+use Rattle.run_files.specs.Pieces.{lines_of, cycle_pieces}
+use Rattle.run_files.specs.Showing.{Showing, with_taken, shown_of, took, plain, ended, ended_before, after_cycle, frame_before, last_frame, is_begun_before, BeginsAt}
+use Rattle.run_files.specs.Written.{AddsAll, Falls, Writes}
+use Rattle.run_files.proofs.Adding.{all_both, all_as, fell_at_once, falls_after, falls_before, falls_as, all_fell}
 
 -- ---- what records show
 
@@ -94,46 +96,42 @@ no_name (Some n) e = absurd (cc)
 
 -- ---- the three pieces of a cycle
 
-pieces : (tree : Tree) (letters : List ℕ) (w : Option Showing) (c : Cycle) (at : ℕ) → c.time ≡ at
-    → both (both (only Frames (frame_before at w)) (only Log (log_bytes tree letters (c ∷ [])))) (only Out (out_bytes tree (c ∷ []))) ≡ cycle_texts tree letters w c
-pieces tree letters w c at time =
-    three_parts (frame_before at w) (log_bytes tree letters (c ∷ [])) (out_bytes tree (c ∷ []))
-    ∙ (λ i. record { log = log_bytes tree letters (c ∷ []); out = out_bytes tree (c ∷ []); frames = frame_before (sym time i) w })
-
 module _ (n : Names) (tree : Tree) (letters : List ℕ) (w : Option Showing) (c : Cycle) (at : ℕ) (time : c.time ≡ at) where
-  abbrev frame : Texts
-  frame = only Frames (frame_before at w)
+  abbrev frame : List Piece
+  frame = one_piece Frames (frame_before at w)
 
-  abbrev lines : Texts
-  lines = only Log (log_bytes tree letters (c ∷ []))
+  abbrev lines : List Piece
+  lines = one_piece Log (lines_of tree letters c Log)
 
-  abbrev outputs : Texts
-  outputs = only Out (out_bytes tree (c ∷ []))
+  abbrev outputs : List Piece
+  outputs = one_piece Out (lines_of tree letters c Out)
 
-  pub cycle_added : (old first second new : Outside) → Adds n frame old first → Adds n lines first second → Adds n outputs second new → Adds n (cycle_texts tree letters w c) old new
-  cycle_added old first second new f l o =
-      adds_as n (both (both frame lines) outputs) (cycle_texts tree letters w c) old new (pieces tree letters w c at time)
-      (adds_both n (both frame lines) outputs old second new (adds_both n frame lines old first second f l) o)
+  pieces : frame ++ lines ++ outputs ≡ cycle_pieces tree letters w c
+  pieces = λ i. piece_of Frames (frame_before (sym time i) w) ∷ lines ++ outputs
 
-  pub frame_fell : (why : Unwritten) (old new : Outside) → Falls n why frame old new → Falls n why (cycle_texts tree letters w c) old new
-  frame_fell why old new f =
-      falls_as n why (both (both frame lines) outputs) (cycle_texts tree letters w c) old new (pieces tree letters w c at time)
-      (falls_before n why (both frame lines) outputs old new (falls_before n why frame lines old new f))
+  pub frame_fell : (why : Unwritten) (old new : Outside) → Falls n why frame old new → Falls n why (cycle_pieces tree letters w c) old new
+  frame_fell why old new f = falls_as n why (frame ++ lines ++ outputs) (cycle_pieces tree letters w c) old new pieces (falls_before n why frame (lines ++ outputs) old new f)
 
-  pub lines_fell : (why : Unwritten) (old first new : Outside) → Adds n frame old first → Falls n why lines first new → Falls n why (cycle_texts tree letters w c) old new
+  pub lines_fell : (why : Unwritten) (old first new : Outside) → AddsAll n frame old first → Falls n why lines first new → Falls n why (cycle_pieces tree letters w c) old new
   lines_fell why old first new f l =
-      falls_as n why (both (both frame lines) outputs) (cycle_texts tree letters w c) old new (pieces tree letters w c at time)
-      (falls_before n why (both frame lines) outputs old new (falls_after n why frame lines old first new f l))
-
-  pub outputs_fell : (why : Unwritten) (old first second new : Outside) → Adds n frame old first → Adds n lines first second → Falls n why outputs second new → Falls n why (cycle_texts tree letters w c) old new
-  outputs_fell why old first second new f l o =
-      falls_as n why (both (both frame lines) outputs) (cycle_texts tree letters w c) old new (pieces tree letters w c at time)
-      (falls_after n why (both frame lines) outputs old second new (adds_both n frame lines old first second f l) o)
+      falls_as n why (frame ++ lines ++ outputs) (cycle_pieces tree letters w c) old new pieces (falls_after n why frame (lines ++ outputs) old first new f (falls_before n why lines outputs first new l))
 
   -- whatever became of the lines of the output
-  pub cycle_written : (r : Result (Unit {0}) Unwritten) (old first second new : Outside) → Adds n frame old first → Adds n lines first second → Writes n outputs second new r → Writes n (cycle_texts tree letters w c) old new r
-  cycle_written (Ok x) old first second new f l o = cycle_added old first second new f l o
-  cycle_written (Err why) old first second new f l o = outputs_fell why old first second new f l o
+  pub cycle_written : (r : Result (Unit {0}) Unwritten) (old first second new : Outside) → AddsAll n frame old first → AddsAll n lines first second → Writes n outputs second new r → Writes n (cycle_pieces tree letters w c) old new r
+  cycle_written (Ok x) old first second new f l o =
+      all_as n (frame ++ lines ++ outputs) (cycle_pieces tree letters w c) old new pieces (all_both n frame (lines ++ outputs) old first new f (all_both n lines outputs first second new l o))
+  cycle_written (Err why) old first second new f l o =
+      falls_as n why (frame ++ lines ++ outputs) (cycle_pieces tree letters w c) old new pieces (falls_after n why frame (lines ++ outputs) old first new f (falls_after n why lines outputs first second new l o))
+
+-- memory ran out before anything of a cycle was written
+pub none_of_cycle : (n : Names) (tree : Tree) (letters : List ℕ) (w : Option Showing) (c : Cycle) (now : Outside) → Falls n Memory (cycle_pieces tree letters w c) now now
+none_of_cycle n tree letters w c now =
+    fell_at_once n (piece_of Frames (frame_before c.time w)) (piece_of Log (lines_of tree letters c Log) ∷ piece_of Out (lines_of tree letters c Out) ∷ []) now
+
+-- memory ran out after all of it was
+pub all_of_cycle : (n : Names) (tree : Tree) (letters : List ℕ) (w : Option Showing) (c : Cycle) (old new : Outside) → AddsAll n (cycle_pieces tree letters w c) old new → Falls n Memory (cycle_pieces tree letters w c) old new
+all_of_cycle n tree letters w c old new p =
+    all_fell n (piece_of Frames (frame_before c.time w) ∷ piece_of Log (lines_of tree letters c Log) ∷ []) (piece_of Out (lines_of tree letters c Out)) old new p
 
 -- ---- records one after another
 

@@ -4,3 +4,4 @@ pub mod Cycles
 pub mod Turns
 pub mod Groups
 pub mod Counting
+pub mod Pieces

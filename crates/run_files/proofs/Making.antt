@@ -1,5 +1,5 @@
 -- MadeFiles that are made, and what follows where one could not be made or lacks bytes.
-use Rattle.std.proofs.Common.{◌≡◌, ◌≢◌, ℕ, Bool, false, Option, Some, None, List, [], ◌∷◌, ◌++◌, refl, sym, ap, ◌∙◌, subst, arith}
+use Rattle.std.proofs.Common.{◌≡◌, ◌≢◌, Bool, false, Option, Some, None, List, [], ◌∷◌, ◌++◌, refl, sym, ap, ◌∙◌, subst, arith}
 use Rattle.std.specs.Prelude.{Contains, IsSome, IfSome, Result, Ok, Err}
 use Rattle.std.specs.Option.{option_to_list}
 use Rattle.std.proofs.lemmas.List.{append-nil}
@@ -8,6 +8,7 @@ use Rattle.quantity.specs.Bytes.{Bytes}
 use Rattle.model_tree.specs.Tree.{Word}
 use Rattle.room_edge.specs.Faults.{WriteFaultCounted, KeepsWriteFaults}
 use Rattle.room_edge.specs.Outside.{Outside, OnlyMade, puts}
+use Rattle.room_edge.proofs.Only.{OnlyMade-refl, OnlyMade-trans}
 use Rattle.answer_model.specs.declared.status.Status.{Status}
 use Rattle.answer_model.specs.declared.status.Status.TheVariants.{WriteFault, NoMemory}
 use Rattle.answer_model.specs.Status.{Part, IsOf}
@@ -18,15 +19,18 @@ use Rattle.answer_model.specs.RunFiles.{file_if}
 use Rattle.answer_model.specs.Steps.{is_made}
 use Rattle.answer_model.specs.Endings.{Says, made_after, looked_for, LeadsTo, EndsWith}
 use Rattle.answer_model.proofs.Endings.{steps_lead, endings_follow, rose_later, le_more}
+use Rattle.answer_model.specs.FaultsAnswered.{NoWriteFault, AnswersFaults}
+use Rattle.answer_model.proofs.FaultLemmas.{IsClean, IsStopped, clean_answers, wrote_answers}
 use Rattle.answer_model.proofs.Said.{said_among}
 use Rattle.answer_model.proofs.Stages.{then_leads, then_ends, was_unmade, write_failed, lacks_rest, lacks_unmade, rose_by_said}
 use Rattle.run_files.specs.declared.outputs.Output.{Output}
 use Rattle.run_files.specs.declared.outputs.Output.TheVariants.{Log, Out, Frames}
 use Rattle.run_files.specs.declared.outputs.Unwritten.{Unwritten}
 use Rattle.run_files.specs.declared.outputs.Unwritten.TheVariants.{Fault, Memory}
-use Rattle.run_files.specs.Texts.{Names, Texts, no_texts, files, name_at, text_at, made_before, AreApart, IsAmong, AreCreated, BeginTexts}
-use Rattle.run_files.specs.Written.{Falls, FaultCounted, Makes, MakesNone, IsThere, MakesOne, MakesAll, FallsMaking, MakesFiles, Tells, Blames}
-use Rattle.run_files.proofs.Adding.{named, not_if, not_after, not_both, has_file}
+use Rattle.run_files.specs.Texts.{Names, Texts, no_texts, files, name_at, text_at, made_before, AreApart, IsAmong, AreCreated}
+use Rattle.run_files.specs.Order.{Piece, texts_of}
+use Rattle.run_files.specs.Written.{AddsAll, Falls, FaultCounted, Makes, MakesNone, IsThere, MakesOne, MakesAll, FallsMaking, MakesFiles, Tells, Blames}
+use Rattle.run_files.proofs.Adding.{named, not_if, not_after, not_both, has_file, no_fewer, BeginTexts, order_begins, order_lacks}
 
 -- ---- one file
 
@@ -37,31 +41,36 @@ made_none name now is =
           let same : fs ++ file_if name [] ≡ fs = ap (λ n. fs ++ file_if n []) is ∙ append-nil fs in
           subst (λ (gs : MadeFiles). LeadsTo a (made_after inputs fs) (made_after inputs gs) now now) (sym same) (λ start way. way);
       created = sym (ap (λ n. now.created ++ option_to_list n) is ∙ append-nil now.created);
-      keeps = omega arith;
+      sure = refl;
+      only = OnlyMade-refl now;
     }
 
-pub made_file : (o : Option Word) (name : Word) (old new : Outside) → o ≡ Some name → new.made ≡ puts old.made name [] → new.created ≡ old.created ++ name ∷ [] → OnlyMade old new → KeepsWriteFaults old new → Makes o old new
-made_file o name old new is made created only_made keeps =
+pub made_file : (o : Option Word) (name : Word) (old new : Outside) → o ≡ Some name → new.made ≡ puts old.made name [] → new.created ≡ old.created ++ name ∷ [] → OnlyMade old new → NoWriteFault old new → Makes o old new
+made_file o name old new is made created only_made sure =
     let there : Makes (Some name) old new = record {
-      leads = λ fs a inputs. steps_lead.creating a (made_after inputs fs) old new name (made, created, only_made) keeps;
+      leads = λ fs a inputs. steps_lead.creating a (made_after inputs fs) old new name (made, created, only_made) (no_fewer old new sure);
       created = created;
-      keeps = keeps;
+      sure = sure;
+      only = only_made;
     } in
     subst (λ (p : Option Word). Makes p old new) (sym is) there
 
 pub unmade : (old new : Outside) → new.made ≡ old.made → new.created ≡ old.created → OnlyMade old new → KeepsWriteFaults old new → MakesNone old new
 unmade old new made created only_made keeps =
-    record { leads = λ fs a inputs. was_unmade a (made_after inputs fs) old new made created only_made keeps; keeps = keeps }
+    record { leads = λ fs a inputs. was_unmade a (made_after inputs fs) old new made created only_made keeps; keeps = keeps; only = only_made }
 
 -- ---- all files
 
 pub log_unmade : (n : Names) (why : Unwritten) (old new : Outside) → MakesNone old new → IsThere why n Log → FaultCounted why old new → FallsMaking n why old new
 log_unmade n why old new none there fault =
-    record { file = Log; there = there; leads = λ a inputs. none.leads [] a inputs; keeps = none.keeps; fault = fault }
+    record { file = Log; there = there; leads = λ a inputs. none.leads [] a inputs; keeps = none.keeps; only = none.only; fault = fault }
 
-fault_kept : (why : Unwritten) (old mid new : Outside) → KeepsWriteFaults old mid → FaultCounted why mid new → FaultCounted why old new
-fault_kept (Fault file) old mid new keeps rose = rose_later old.write_faults mid.write_faults new.write_faults keeps rose
-fault_kept Memory old mid new keeps rose = tt
+fault_kept : (why : Unwritten) (old mid new : Outside) → NoWriteFault old mid → FaultCounted why mid new → FaultCounted why old new
+fault_kept (Fault file) old mid new sure rose = rose_later old.write_faults mid.write_faults new.write_faults (no_fewer old mid sure) rose
+fault_kept Memory old mid new sure fault = fault ∙ sure
+
+kept : (old mid new : Outside) → NoWriteFault old mid → KeepsWriteFaults mid new → KeepsWriteFaults old new
+kept old mid new sure keeps = le_more old.write_faults mid.write_faults new.write_faults (no_fewer old mid sure) keeps
 
 pub out_unmade : (n : Names) (why : Unwritten) (old mid new : Outside) → Makes n.log old mid → MakesNone mid new → IsThere why n Out → FaultCounted why mid new → FallsMaking n why old new
 out_unmade n why old mid new log none there fault =
@@ -69,8 +78,9 @@ out_unmade n why old mid new log none there fault =
       file = Out;
       there = there;
       leads = λ a inputs. then_leads a (looked_for inputs) (made_after inputs (made_before n Out)) (made_after inputs (made_before n Out)) old mid new (log.leads [] a inputs) (none.leads (made_before n Out) a inputs);
-      keeps = le_more old.write_faults mid.write_faults new.write_faults log.keeps none.keeps;
-      fault = fault_kept why old mid new log.keeps fault;
+      keeps = kept old mid new log.sure none.keeps;
+      only = OnlyMade-trans old mid new log.only none.only;
+      fault = fault_kept why old mid new log.sure fault;
     }
 
 both_made : (n : Names) (old mid next : Outside) (a : Answer) (inputs : List Word) → Makes n.log old mid → Makes n.out mid next → LeadsTo a (looked_for inputs) (made_after inputs (made_before n Frames)) old next
@@ -79,20 +89,21 @@ both_made n old mid next a inputs log out =
 
 pub frames_made : {T : Type 0} (n : Names) (old mid next new : Outside) (r : Result T Unwritten) → Makes n.log old mid → Makes n.out mid next → MakesOne n Frames next new r → MakesFiles n old new r
 frames_made n old mid next new (Ok x) log out frames =
-    let kept = le_more old.write_faults mid.write_faults next.write_faults log.keeps out.keeps in
     record {
       leads = λ a inputs. then_leads a (looked_for inputs) (made_after inputs (made_before n Frames)) (made_after inputs (files n no_texts)) old next new (both_made n old mid next a inputs log out) (frames.leads (made_before n Frames) a inputs);
       created = frames.created ∙ ap (λ xs. xs ++ option_to_list n.frames) (out.created ∙ ap (λ xs. xs ++ option_to_list n.out) log.created);
-      keeps = le_more old.write_faults next.write_faults new.write_faults kept frames.keeps;
+      sure = frames.sure ∙ out.sure ∙ log.sure;
+      only = OnlyMade-trans old next new (OnlyMade-trans old mid next log.only out.only) frames.only;
     }
 frames_made n old mid next new (Err why) log out (none, there, fault) =
-    let kept = le_more old.write_faults mid.write_faults next.write_faults log.keeps out.keeps in
+    let sure : NoWriteFault old next = out.sure ∙ log.sure in
     record {
       file = Frames;
       there = there;
       leads = λ a inputs. then_leads a (looked_for inputs) (made_after inputs (made_before n Frames)) (made_after inputs (made_before n Frames)) old next new (both_made n old mid next a inputs log out) (none.leads (made_before n Frames) a inputs);
-      keeps = le_more old.write_faults next.write_faults new.write_faults kept none.keeps;
-      fault = fault_kept why old next new kept fault;
+      keeps = kept old next new sure none.keeps;
+      only = OnlyMade-trans old next new (OnlyMade-trans old mid next log.only out.only) none.only;
+      fault = fault_kept why old next new sure fault;
     }
 
 -- ---- all names are among those that were made
@@ -197,27 +208,29 @@ unmade_before l o (Some f) Frames name apart is =
 
 -- ---- endings
 
-some_of : {A : Type 0} (o : Option A) → IsSome o → (x : A) × (o ≡ Some x)
+pub some_of : {A : Type 0} (o : Option A) → IsSome o → (x : A) × (o ≡ Some x)
 some_of None h = absurd (cc)
 some_of (Some x) h = (x, refl)
 
-if_some : {A : Type 0} (o : Option A) (P : A → Type 0) (x : A) → o ≡ Some x → IfSome o P → P x
+pub if_some : {A : Type 0} (o : Option A) (P : A → Type 0) (x : A) → o ≡ Some x → IfSome o P → P x
 if_some {A} o P x is h = subst (λ (p : Option A). IfSome p P) is h
 
 -- a file lacks bytes, or memory ran out
-pub fell_ends : (a : Answer) (n : Names) (whole : Texts) (why : Unwritten) (inputs : List Word) (old mid new : Outside) (status : Status) → a.made ≡ files n whole → AreApart n → Falls n why whole old mid → Tells n why mid new status
+pub fell_ends : (a : Answer) (n : Names) (pieces : List Piece) (why : Unwritten) (inputs : List Word) (old mid new : Outside) (status : Status) → a.made ≡ files n (texts_of pieces) → AreApart n → Falls n why pieces old mid → Tells n why mid new status
     → EndsWith a (made_after inputs (files n no_texts)) old new status
-fell_ends a n whole (Fault file) inputs old mid new status made apart f tells =
+fell_ends a n pieces (Fault file) inputs old mid new status made apart f tells =
+    let whole = texts_of pieces in
     let s = some_of (name_at n file) f.lacks.0 in
     let there = made_after inputs (files n f.part) in
     write_failed a (made_after inputs (files n no_texts)) there old mid new s.0 status (f.adds.leads no_texts a inputs) f.fault
-    (subst (BeginFiles (files n f.part)) (sym made) (begins_files n.log n.out n.frames f.part whole f.begins), none_begins a.shown)
-    (lacks_file a n.log n.out n.frames inputs f.part whole file s.0 made apart s.1 f.lacks.1)
+    (subst (BeginFiles (files n f.part)) (sym made) (begins_files n.log n.out n.frames f.part whole (order_begins pieces f.part f.order)), none_begins a.shown)
+    (lacks_file a n.log n.out n.frames inputs f.part whole file s.0 made apart s.1 (order_lacks pieces f.part f.order file f.lacks.1 f.lacks.2))
     (if_some (name_at n file) (λ name. Says (write_fault_line name) WriteFault mid new status) s.0 s.1 tells)
-fell_ends a n whole Memory inputs old mid new status made apart f (own, same) =
+fell_ends a n pieces Memory inputs old mid new status made apart f (own, same) =
+    let whole = texts_of pieces in
     let there = made_after inputs (files n f.part) in
     let ends : EndsWith a (made_after inputs (files n no_texts)) old mid NoMemory = then_ends a (made_after inputs (files n no_texts)) there old mid mid NoMemory (f.adds.leads no_texts a inputs)
-    (endings_follow.memory a there mid (subst (BeginFiles (files n f.part)) (sym made) (begins_files n.log n.out n.frames f.part whole f.begins), none_begins a.shown)) in
+    (endings_follow.memory a there mid (subst (BeginFiles (files n f.part)) (sym made) (begins_files n.log n.out n.frames f.part whole (order_begins pieces f.part f.order)), none_begins a.shown)) in
     subst (λ s. EndsWith a (made_after inputs (files n no_texts)) old new s) (sym own) (subst (λ o. EndsWith a (made_after inputs (files n no_texts)) old o NoMemory) (sym same) ends)
 
 -- a file could not be made, or memory ran out
@@ -239,9 +252,9 @@ unmade_ends a n whole Memory inputs old mid new status made apart f (own, same) 
 
 -- ---- statuses
 
-pub falls_blames : (n : Names) (why : Unwritten) (whole : Texts) (old new : Outside) → Falls n why whole old new → Blames n why
-falls_blames n (Fault file) whole old new f = f.lacks.0
-falls_blames n Memory whole old new f = tt
+pub falls_blames : (n : Names) (why : Unwritten) (pieces : List Piece) (old new : Outside) → Falls n why pieces old new → Blames n why
+falls_blames n (Fault file) pieces old new f = f.lacks.0
+falls_blames n Memory pieces old new f = tt
 
 pub making_blames : (n : Names) (why : Unwritten) (old new : Outside) → FallsMaking n why old new → Blames n why
 making_blames n (Fault file) old new f = f.there.0
@@ -258,3 +271,31 @@ tells_rose n (Fault file) old mid new status blames keeps rose tells five =
     let s = some_of (name_at n file) blames in
     rose_by_said (write_fault_line s.0) WriteFault old mid new status keeps (λ e. rose) (if_some (name_at n file) (λ name. Says (write_fault_line name) WriteFault mid new status) s.0 s.1 tells) five
 tells_rose n Memory old mid new status blames keeps rose (own, same) five = absurd cc
+
+-- ---- faults that were counted
+
+clean_by : (old new : Outside) → OnlyMade old new → NoWriteFault old new → IsClean old new
+clean_by old new only_made sure = record { writes = sure; complaints = only_made.complain_faults; reads = only_made.output.read_faults; quiet = only_made.complained }
+
+stopped_by : (old new : Outside) → OnlyMade old new → IsStopped old new
+stopped_by old new only_made = record { complaints = only_made.complain_faults; reads = only_made.output.read_faults; quiet = only_made.complained }
+
+pub clean_adds : (n : Names) (pieces : List Piece) (old new : Outside) → AddsAll n pieces old new → IsClean old new
+clean_adds n pieces old new p = clean_by old new p.adds.only p.sure
+
+pub clean_makes : (n : Names) (old new : Outside) → MakesAll n old new → IsClean old new
+clean_makes n old new p = clean_by old new p.only p.sure
+
+-- what could not be written is told
+told_answers : (n : Names) (why : Unwritten) (old mid new : Outside) (status : Status) → Blames n why → OnlyMade old mid → FaultCounted why old mid → Tells n why mid new status → AnswersFaults old new status
+told_answers n (Fault file) old mid new status blames only_made fault tells =
+    let s = some_of (name_at n file) blames in
+    wrote_answers s.0 old mid new status (stopped_by old mid only_made) (if_some (name_at n file) (λ name. Says (write_fault_line name) WriteFault mid new status) s.0 s.1 tells)
+told_answers n Memory old mid new status blames only_made fault (own, same) =
+    subst (λ (o : Outside). AnswersFaults old o status) (sym same) (clean_answers old mid status (clean_by old mid only_made fault))
+
+pub falls_answers : (n : Names) (why : Unwritten) (pieces : List Piece) (old mid new : Outside) (status : Status) → Falls n why pieces old mid → Tells n why mid new status → AnswersFaults old new status
+falls_answers n why pieces old mid new status f tells = told_answers n why old mid new status (falls_blames n why pieces old mid f) f.adds.only f.fault tells
+
+pub making_answers : (n : Names) (why : Unwritten) (old mid new : Outside) (status : Status) → FallsMaking n why old mid → Tells n why mid new status → AnswersFaults old new status
+making_answers n why old mid new status f tells = told_answers n why old mid new status (making_blames n why old mid f) f.only f.fault tells

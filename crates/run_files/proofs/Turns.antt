@@ -11,14 +11,18 @@ use Rattle.cell_grid.specs.Space.{Space, cell_count}
 use Rattle.model_tree.specs.Tree.{Tree}
 use Rattle.run_model.specs.Run.{PortRecord, Cycle}
 use Rattle.run_model.specs.Instants.{InstantsNeverFall}
+use Rattle.text_forms.specs.Lines.{log_bytes, out_bytes}
 use Rattle.text_forms.specs.Frames.{Picture, ShownCell, shown_by, shown_in, frames, frames_of}
 use Rattle.text_forms.proofs.Joins.{texts_join}
 use Rattle.frame_draw.specs.Drawing.{Drawing, blank, frame_of, value_of, with_instant}
 use Rattle.frame_draw.specs.Turns.{is_other, text_before, with_shown, drawn_in_turn, NeverFall}
 use Rattle.frame_draw.proofs.TurnLemmas.{draws_all}
 use Rattle.run_files.specs.declared.outputs.Output.TheVariants.{Frames}
-use Rattle.run_files.specs.Texts.{both, only}
-use Rattle.run_files.specs.Showing.{Showing, with_drawing, with_taken, shown_of, took, ended, ended_before, after_cycle, frame_before, last_frame, frames_left, cycle_texts, left_texts, IsBegunBy}
+use Rattle.run_files.specs.Texts.{Texts, only}
+use Rattle.run_files.specs.Order.{texts_of}
+use Rattle.run_files.specs.Pieces.{run_pieces}
+use Rattle.run_files.specs.Showing.{Showing, with_drawing, with_taken, shown_of, took, ended, ended_before, after_cycle, frame_before, last_frame, frames_left, left_texts, IsBegunBy}
+use Rattle.run_files.proofs.Adding.{one_text}
 
 -- ---- what cycles show
 
@@ -210,25 +214,26 @@ begun_after (Some w) c = at_most (after_cycle c w).drawing.begun (took_begun c.y
             at_time true e = let same : (let x : ShownCell = record { time = c.time; cell = r.leaf - v.first; value = r.value } in x) ≡ s = cc in ap (λ (x : ShownCell). x.time) (sym same)
             at_time false e = absurd (cc)
 
-pub begun_next : (w : Option Showing) (c : Cycle) → IsBegunBy c.time (option_map (after_cycle c) w)
-begun_next = begun_after
-
 -- ---- texts that are left
 
--- a cycle's texts, and those behind it
-pub texts_step : (tree : Tree) (letters : List ℕ) (w : Option Showing) (c : Cycle) (cs : List Cycle) (low : ℕ) → IsBegunBy low w → InstantsNeverFall low (c ∷ cs)
-    → left_texts tree letters w (c ∷ cs) ≡ both (cycle_texts tree letters w c) (left_texts tree letters (option_map (after_cycle c) w) cs)
-texts_step tree letters w c cs low begun falls =
+-- the pieces of cycles are all that is left to write
+pub texts_all : (tree : Tree) (letters : List ℕ) (w : Option Showing) (cs : List Cycle) (low : ℕ) → IsBegunBy low w → InstantsNeverFall low cs → texts_of (run_pieces tree letters w cs) ≡ left_texts tree letters w cs
+texts_all tree letters w [] low begun falls = one_text Frames (last_frame w) ∙ last w
+  where
+    last : (w : Option Showing) → only Frames (last_frame w) ≡ left_texts tree letters w []
+    last None = refl
+    last (Some v) = refl
+texts_all tree letters w (c ∷ cs) low begun falls =
+    let more = option_map (after_cycle c) w in
+    let rest = texts_all tree letters more cs c.time (begun_after w c) falls.1 in
+    let log = log_bytes tree letters (c ∷ []) in
+    let out = out_bytes tree (c ∷ []) in
+    let frame = frame_before c.time w in
     λ i. record {
-      log = texts_join.log tree letters (c ∷ []) cs i;
-      out = texts_join.out tree (c ∷ []) cs i;
-      frames = frames_step w c cs low begun falls i;
+      log = (ap (λ (t : Texts). log ++ t.log) rest ∙ sym (texts_join.log tree letters (c ∷ []) cs)) i;
+      out = (ap (λ (t : Texts). out ++ t.out) rest ∙ sym (texts_join.out tree (c ∷ []) cs)) i;
+      frames = (ap (λ (t : Texts). frame ++ t.frames) rest ∙ sym (frames_step w c cs low begun falls)) i;
     }
-
--- where no cycle is left, the last frame is
-pub texts_end : (tree : Tree) (letters : List ℕ) (w : Option Showing) → left_texts tree letters w [] ≡ only Frames (last_frame w)
-texts_end tree letters None = refl
-texts_end tree letters (Some w) = refl
 
 -- ---- all frames
 

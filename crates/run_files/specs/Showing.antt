@@ -72,15 +72,6 @@ frames_left None cycles = []
 frames_left (Some w) cycles =
     drawn_in_turn w.drawing (shown_in w.drawing.picture.space w.first cycles)
 
--- what a cycle adds to each file: the frame of an instant that is over, and its lines
-abbrev pub cycle_texts : Tree → List ℕ → Option Showing → Cycle → Texts
-cycle_texts tree letters w c =
-    record {
-      log = log_bytes tree letters (c ∷ []);
-      out = out_bytes tree (c ∷ []);
-      frames = frame_before c.time w;
-    }
-
 -- what cycles add to each file, and the end of the run
 abbrev pub left_texts : Tree → List ℕ → Option Showing → List Cycle → Texts
 left_texts tree letters w cycles =

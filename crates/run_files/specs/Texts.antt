@@ -4,7 +4,6 @@ use Rattle.std.specs.Str.{bytes_eq}
 use Rattle.quantity.specs.Bytes.{Bytes}
 use Rattle.model_tree.specs.Tree.{Word}
 use Rattle.answer_model.specs.Answer.{MadeFiles}
-use Rattle.answer_model.specs.Headline.{Begins}
 use Rattle.answer_model.specs.RunFiles.{file_if}
 use Rattle.run_files.specs.declared.outputs.Output.{Output}
 use Rattle.run_files.specs.declared.outputs.Output.TheVariants.{Log, Out, Frames}
@@ -80,9 +79,3 @@ pub record AreCreated (n : Names) (created : List Word) : Type 0 where
   pub log_there : IsAmong n.log created
   pub out_there : IsAmong n.out created
   pub frames_there : IsAmong n.frames created
-
--- a beginning of each text
-pub record BeginTexts (part whole : Texts) : Type 0 where
-  pub log_begins : Begins part.log whole.log
-  pub out_begins : Begins part.out whole.out
-  pub frames_begin : Begins part.frames whole.frames

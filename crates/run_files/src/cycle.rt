@@ -1,16 +1,17 @@
 // What a cycle adds to the files.
-ghost use Rattle.std.specs.Prelude.{◌≡◌, [], ◌∷◌, map, OnOk};
+ghost use Rattle.std.specs.Prelude.{◌≡◌, ◌++◌, map, OnOk};
 ghost use Rattle.std.specs.Option.{option_map};
 ghost use Rattle.model_tree.specs.Leaves.{OfTree};
 ghost use Rattle.run_model.specs.Run.{Cycle};
-ghost use Rattle.text_forms.specs.Lines as forms;
 ghost use Rattle.record_text.specs.Held.{Holds};
 ghost use Rattle.record_text.specs.Chosen.{letters_of};
 ghost use Rattle.record_text.specs.Named.{NamesLeaves};
-ghost use Rattle.run_files.specs.declared.outputs.Output.TheVariants.{Log, Out, Frames as frames};
+ghost use Rattle.run_files.specs.declared.outputs.Output.TheVariants.{Frames as frames};
 ghost use Rattle.run_files.specs.AskedFiles.{names_of};
-ghost use Rattle.run_files.specs.Texts.{only, AreApart, AreCreated};
-ghost use Rattle.run_files.specs.Showing.{took, plain, ended, ended_before, is_begun_before, after_cycle, frame_before, last_frame, cycle_texts, BeginsAt};
+ghost use Rattle.run_files.specs.Texts.{AreApart, AreCreated};
+ghost use Rattle.run_files.specs.Order.{one_piece};
+ghost use Rattle.run_files.specs.Pieces.{lines_of, cycle_pieces};
+ghost use Rattle.run_files.specs.Showing.{took, plain, ended, ended_before, is_begun_before, after_cycle, frame_before, last_frame, BeginsAt};
 ghost use Rattle.run_files.specs.Written.{Writes};
 
 use crate::drawn::Drawn;
@@ -18,11 +19,18 @@ use crate::outputs::{Named, Output, Unwritten};
 use crate::write::write_piece;
 use model_tree::Model;
 use quantity::{OutOfMemory, Time};
-use record_text::{Records, YRecord, log_bytes, out_bytes};
+use record_text::{Letters, Records, YRecord, log_bytes, out_bytes};
 use room_edge::Room;
 
-/// Adds what a cycle gave: the frame of the instant before, where this one begins another; the
-/// lines of the log; and the lines of the output. `piece` is room that each call uses again.
+/// Adds what a cycle gave, in this order: the frame of the instant before, where this one begins
+/// another; the lines of the log; and the lines of the output. `piece` is room that each call uses
+/// again.
+///
+/// # Errors
+///
+/// `Fault` where a file could not be written: those before it have all of this cycle, it has a
+/// beginning of its piece and lacks the rest, and those behind it have nothing of this cycle.
+/// `Memory` where memory ran out, at some place of that order.
 pub fn write_cycle<R: Room>(
     room: &mut R,
     named: &Named<'_>,
@@ -37,18 +45,23 @@ pub fn write_cycle<R: Room>(
     requires leaves { NamesLeaves model.now records.now }
     // For the cycle whose records these are.
     ensures texts { (c : Cycle) → Holds records.now c → c.time ≡ at → OfTree model.now (λ tree.
-        Writes (names_of named.now) (cycle_texts tree (letters_of named.now.letters) drawn.old c)
+        Writes (names_of named.now) (cycle_pieces tree (letters_of named.now.letters) drawn.old c)
         (R.outside room.old) (R.outside room.new) result) }
     ensures drawn { OnOk result ((c : Cycle) → Holds records.now c → c.time ≡ at →
         drawn.new ≡ option_map (after_cycle c) drawn.old) }
 {
     write_before(room, named, drawn, at, piece)?;
     take(drawn, at, &records.y);
-    write_log(room, named, model, records, piece)?;
-    write_out(room, named, model, records, piece)
+    write_lines(room, named, Output::Log, model, records, piece)?;
+    write_lines(room, named, Output::Out, model, records, piece)
 }
 
 /// Adds the frame of the instant that was begun, where a run ends.
+///
+/// # Errors
+///
+/// `Fault` where the file of frames could not be written, `Memory` where memory ran out: it has a
+/// beginning of the frame.
 pub fn write_last<R: Room>(
     room: &mut R,
     named: &Named<'_>,
@@ -57,7 +70,7 @@ pub fn write_last<R: Room>(
 ) -> Result<(), Unwritten>
     requires apart { AreApart (names_of named.now) }
     requires created { AreCreated (names_of named.now) (R.outside room.old).created }
-    ensures texts { Writes (names_of named.now) (only frames (last_frame drawn.old))
+    ensures texts { Writes (names_of named.now) (one_piece frames (last_frame drawn.old))
         (R.outside room.old) (R.outside room.new) result }
     ensures drawn { OnOk result (drawn.new ≡ option_map ended drawn.old) }
 {
@@ -87,7 +100,7 @@ fn write_before<R: Room>(
 ) -> Result<(), Unwritten>
     requires apart { AreApart (names_of named.now) }
     requires created { AreCreated (names_of named.now) (R.outside room.old).created }
-    ensures texts { Writes (names_of named.now) (only frames (frame_before at drawn.old))
+    ensures texts { Writes (names_of named.now) (one_piece frames (frame_before at drawn.old))
         (R.outside room.old) (R.outside room.new) result }
     ensures drawn { OnOk result (drawn.new ≡ option_map (ended_before at) drawn.old) }
 {
@@ -108,10 +121,11 @@ fn has_begun_before(drawn: &Option<Drawn>, at: Time) -> bool
     }
 }
 
-/// Adds the lines of the log.
-fn write_log<R: Room>(
+/// Adds the lines of a cycle to the log or to the output.
+fn write_lines<R: Room>(
     room: &mut R,
     named: &Named<'_>,
+    file: Output,
     model: &Model,
     records: &Records,
     piece: &mut Vec<u8>,
@@ -121,39 +135,35 @@ fn write_log<R: Room>(
     requires leaves { NamesLeaves model.now records.now }
     ensures texts { (c : Cycle) → Holds records.now c → OfTree model.now (λ tree.
         Writes (names_of named.now)
-        (only Log (forms.log_bytes tree (letters_of named.now.letters) (c ∷ [])))
+        (one_piece file (lines_of tree (letters_of named.now.letters) c file))
         (R.outside room.old) (R.outside room.new) result) }
     ensures created { (R.outside room.new).created ≡ (R.outside room.old).created }
 {
-    if named.log.is_none() {
+    if named.name(file).is_none() {
         return Ok(());
     }
     piece.clear();
-    let filled = log_bytes(records, &named.letters, model, piece);
-    write_piece(room, named, Output::Log, filled, piece)
+    let filled = put_lines(&named.letters, file, model, records, piece);
+    write_piece(room, named, file, filled, piece)
 }
 
-/// Adds the lines of the output.
-fn write_out<R: Room>(
-    room: &mut R,
-    named: &Named<'_>,
+/// Appends the lines that a cycle has in a file.
+fn put_lines(
+    letters: &Letters,
+    file: Output,
     model: &Model,
     records: &Records,
-    piece: &mut Vec<u8>,
-) -> Result<(), Unwritten>
-    requires apart { AreApart (names_of named.now) }
-    requires created { AreCreated (names_of named.now) (R.outside room.old).created }
-    ensures texts { (c : Cycle) → Holds records.now c → OfTree model.now (λ tree.
-        Writes (names_of named.now) (only Out (forms.out_bytes tree (c ∷ [])))
-        (R.outside room.old) (R.outside room.new) result) }
-    ensures created { (R.outside room.new).created ≡ (R.outside room.old).created }
+    into: &mut Vec<u8>,
+) -> Result<(), OutOfMemory>
+    requires { NamesLeaves model.now records.now }
+    ensures { OnOk result ((c : Cycle) → Holds records.now c → OfTree model.now (λ tree.
+        into.new.items ≡ into.old.items ++ lines_of tree (letters_of letters.now) c file)) }
 {
-    if named.out.is_none() {
-        return Ok(());
+    match file {
+        Output::Log => log_bytes(records, letters, model, into),
+        Output::Out => out_bytes(records, model, into),
+        Output::Frames => Ok(()),
     }
-    piece.clear();
-    let filled = out_bytes(records, model, piece);
-    write_piece(room, named, Output::Out, filled, piece)
 }
 
 /// Takes what a cycle shows of the group that is drawn.

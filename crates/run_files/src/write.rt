@@ -3,7 +3,8 @@ ghost use Rattle.std.specs.Prelude.{◌≡◌};
 ghost use Rattle.std.specs.Result.{IsOk, OnOk};
 ghost use Rattle.quantity.specs.Bytes.{Bytes};
 ghost use Rattle.run_files.specs.AskedFiles.{names_of};
-ghost use Rattle.run_files.specs.Texts.{only, AreApart, AreCreated};
+ghost use Rattle.run_files.specs.Texts.{AreApart, AreCreated};
+ghost use Rattle.run_files.specs.Order.{one_piece};
 ghost use Rattle.run_files.specs.Written.{Writes};
 
 use crate::outputs::{Named, Output, Unwritten};
@@ -22,8 +23,8 @@ pub(crate) fn write_piece<R: Room>(
     requires created { AreCreated (names_of named.now) (R.outside room.old).created }
     // For the bytes that it is filled with.
     ensures texts { (bytes : Bytes) → OnOk filled (piece.now ≡ bytes) →
-        Writes (names_of named.now) (only file bytes) (R.outside room.old) (R.outside room.new)
-        result }
+        Writes (names_of named.now) (one_piece file bytes) (R.outside room.old)
+        (R.outside room.new) result }
     ensures filled { OnOk result (IsOk filled) }
     ensures created { (R.outside room.new).created ≡ (R.outside room.old).created }
 {
@@ -42,7 +43,7 @@ fn write_to<R: Room>(
 ) -> Result<(), Unwritten>
     requires apart { AreApart (names_of named.now) }
     requires created { AreCreated (names_of named.now) (R.outside room.old).created }
-    ensures { Writes (names_of named.now) (only file piece.now) (R.outside room.old)
+    ensures { Writes (names_of named.now) (one_piece file piece.now) (R.outside room.old)
         (R.outside room.new) result }
 {
     let Some(name) = named.name(file) else {

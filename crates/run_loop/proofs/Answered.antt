@@ -34,17 +34,18 @@ use Rattle.flat_run.specs.Standing.{Standing, tree_in}
 use Rattle.run_files.specs.declared.outputs.FramesFile.{FramesFile}
 use Rattle.run_files.specs.declared.outputs.Outputs.{Outputs}
 use Rattle.run_files.specs.AskedFiles.{text_of_name}
-use Rattle.run_files.specs.Texts.{Names, files, Differ, AreApart}
+use Rattle.run_files.specs.Texts.{Names, Texts, files, Differ, AreApart}
+use Rattle.run_files.specs.Order.{texts_of}
+use Rattle.run_files.specs.Pieces.{run_pieces}
 use Rattle.run_files.specs.Showing.{Showing, frames_left, left_texts, IsBegunBy}
 use Rattle.run_files.specs.Groups.{picture_of, begun_at, showing_at_start}
-use Rattle.run_loop.specs.Asks.{IsSource, frames_file_of, AreOutputsOf, frames_name, names_asked}
+use Rattle.run_loop.specs.Asks.{IsSource, frames_file_of, AreOutputsOf, frames_name, names_asked, names_with, names_in}
 use Rattle.run_loop.specs.Answers.{MayRun, answer_to}
-use Rattle.run_loop.specs.Begins.{names_with, names_in}
 use Rattle.run_loop.specs.Ends.{done_text, said_by}
 use Rattle.run_loop.specs.Known.{RunsAreFit}
-use Rattle.run_loop.specs.Left.{run_of, AreFit, HaveValues}
+use Rattle.run_loop.specs.Left.{run_of, HaveValues}
 use Rattle.run_loop.specs.ToBe.{IsAnswerOf}
-use Rattle.run_files.proofs.Turns.{all_frames}
+use Rattle.run_files.proofs.Turns.{all_frames, texts_all}
 
 -- ---- what is said
 
@@ -124,16 +125,8 @@ none_begun (Some f) tree = by (group_at f.group.now (leaves tree))
     by None = tt
     by (Some g) = λ x q. absurd (cc)
 
-pub run_fit : (o : Outputs) (s : Standing) → MayRun o s → RunsAreFit → (drawn : Option Showing) → drawn ≡ showing_at_start (tree_in s) o.frames → AreFit (tree_in s) drawn (run_of (most_cycles o.end o.limit) s).cycles
-run_fit o s may fit drawn is =
-    let k = fit (tree_in s) s.state.events s.end s.limit in
-    let same = ap (λ (r : Run). r.cycles) (run_is_run o s may) in
-    record {
-      names = subst (All (NamesItsParts (tree_in s))) same k.0;
-      from = 0;
-      begun = subst (IsBegunBy 0) (sym is) (none_begun o.frames (tree_in s));
-      never_fall = subst (InstantsNeverFall 0) same k.1;
-    }
+pub run_fit : (o : Outputs) (s : Standing) → MayRun o s → RunsAreFit → All (NamesItsParts (tree_in s)) (run_of (most_cycles o.end o.limit) s).cycles
+run_fit o s may fit = subst (All (NamesItsParts (tree_in s))) (ap (λ (r : Run). r.cycles) (run_is_run o s may)) (fit (tree_in s) s.state.events s.end s.limit).0
 
 -- the answer, by its texts and what is said
 pub answer_is : (a : Asked) (o : Outputs) (s : Standing) (inputs : List Word) (drawn : Option Showing) → AreOutputsOf a o → MayRun o s → drawn ≡ showing_at_start (tree_in s) o.frames → InstantsNeverFall 0 (run_of (most_cycles o.end o.limit) s).cycles
@@ -245,11 +238,15 @@ names_are o tree n b drawn names is same = names ∙ ap (names_with o) (is ∙ a
 
 -- the same answer, as the stage has its names, its letters and its frames
 pub answer_as : (n : Names) (letters : List ℕ) (a : Asked) (o : Outputs) (s : Standing) (inputs : List Word) (drawn : Option Showing) → AreOutputsOf a o → MayRun o s → RunsAreFit → n ≡ names_in o (tree_in s) → letters ≡ letters_of o.letters → drawn ≡ showing_at_start (tree_in s) o.frames
-    → IsAnswerOf n (left_texts (tree_in s) letters drawn (run_of (most_cycles o.end o.limit) s).cycles) (said_by o (tree_in s) (run_of (most_cycles o.end o.limit) s).cycles (run_of (most_cycles o.end o.limit) s).verdict) (answer_to a s inputs)
+    → IsAnswerOf n (texts_of (run_pieces (tree_in s) letters drawn (run_of (most_cycles o.end o.limit) s).cycles)) (said_by o (tree_in s) (run_of (most_cycles o.end o.limit) s).cycles (run_of (most_cycles o.end o.limit) s).verdict) (answer_to a s inputs)
 answer_as n letters a o s inputs drawn are may known names same is =
     let r = run_of (most_cycles o.end o.limit) s in
+    let tree = tree_in s in
     let cycles = ap (λ (q : Run). q.cycles) (run_is_run o s may) in
-    let falls = subst (InstantsNeverFall 0) cycles (known (tree_in s) s.state.events s.end s.limit).1 in
-    subst (λ (m : Names). IsAnswerOf m (left_texts (tree_in s) letters drawn r.cycles) (said_by o (tree_in s) r.cycles r.verdict) (answer_to a s inputs)) (sym names)
-    (subst (λ (ls : List ℕ). IsAnswerOf (names_in o (tree_in s)) (left_texts (tree_in s) ls drawn r.cycles) (said_by o (tree_in s) r.cycles r.verdict) (answer_to a s inputs)) (sym same)
-    (answer_is a o s inputs drawn are may is falls))
+    let falls = subst (InstantsNeverFall 0) cycles (known tree s.state.events s.end s.limit).1 in
+    let begun = subst (IsBegunBy 0) (sym is) (none_begun o.frames tree) in
+    let texts = texts_all tree letters drawn r.cycles 0 begun falls in
+    subst (λ (t : Texts). IsAnswerOf n t (said_by o tree r.cycles r.verdict) (answer_to a s inputs)) (sym texts)
+    (subst (λ (m : Names). IsAnswerOf m (left_texts tree letters drawn r.cycles) (said_by o tree r.cycles r.verdict) (answer_to a s inputs)) (sym names)
+    (subst (λ (ls : List ℕ). IsAnswerOf (names_in o tree) (left_texts tree ls drawn r.cycles) (said_by o tree r.cycles r.verdict) (answer_to a s inputs)) (sym same)
+    (answer_is a o s inputs drawn are may is falls)))

@@ -46,7 +46,7 @@ goes_on_behind tree end limit s l m _ ds v c (goes {n} {c = d} {cs} e r) is same
 
 -- ---- what the next call costs
 
-cost_front : (tree : Tree) (c : Cycle) (r : Run) → visits tree (in_front c r) ≡ cycle_visits tree c + visits tree r
+pub cost_front : (tree : Tree) (c : Cycle) (r : Run) → visits tree (in_front c r) ≡ cycle_visits tree c + visits tree r
 cost_front tree c r =
     ap (λ (k : ℕ). leaf_count tree + k + last_visits tree r.verdict r.left) (sum_by-cons (cycle_visits tree) c r.cycles)
     ∙ parts (leaf_count tree) (cycle_visits tree c) (sum_by (cycle_visits tree) r.cycles) (last_visits tree r.verdict r.left)
@@ -62,40 +62,36 @@ verdict_within s (stop leaf t why) = omega arith
 front_within : (tree : Tree) (c : Cycle) (r : Run) → cycle_visits tree c ≤ visits tree (in_front c r)
 front_within tree c r = let e = cost_front tree c r in omega (arith, e)
 
+-- where a cycle is due, some are counted still
+pub some_left : (s : Standing) (c : Cycle) (m : RunState) → EndsWithin 0 s → next_of s ≡ cycled c m → ⊥
+some_left s c m whole is =
+    has_first (tree_in s) s.end s.limit s.state (run_of 0 s).left m (run_of 0 s).cycles (run_of 0 s).verdict c whole is
+    (ap (λ (r : Run). r.cycles) (from_none (tree_in s) s.end s.limit s.state m c is))
+
+-- the cycle that is due is the first of those that are left
+pub has_cycle : (n : ℕ) (s : Standing) (c : Cycle) (m : RunState) → EndsWithin n s → next_of s ≡ cycled c m → (cs : List Cycle) × ((run_of n s).cycles ≡ c ∷ cs)
+has_cycle zero s c m whole is = absurd (some_left s c m whole is)
+has_cycle (suc n) s c m whole is =
+    let behind = run_from n (tree_in s) s.end s.limit m in
+    (behind.cycles, ap (λ (r : Run). r.cycles) (from_cycled n (tree_in s) s.end s.limit s.state m c is))
+
 cycle_within : (n : ℕ) (s : Standing) (c : Cycle) (m : RunState) → EndsWithin n s → next_of s ≡ cycled c m → cycle_visits (tree_in s) c ≤ visits (tree_in s) (run_of n s)
-cycle_within zero s c m whole is =
-    absurd (has_first (tree_in s) s.end s.limit s.state (run_of 0 s).left m (run_of 0 s).cycles (run_of 0 s).verdict c whole is
-    (ap (λ (r : Run). r.cycles) (from_none (tree_in s) s.end s.limit s.state m c is)))
+cycle_within zero s c m whole is = absurd (some_left s c m whole is)
 cycle_within (suc n) s c m whole is =
     subst (λ (r : Run). cycle_visits (tree_in s) c ≤ visits (tree_in s) r) (sym (from_cycled n (tree_in s) s.end s.limit s.state m c is))
     (front_within (tree_in s) c (run_from n (tree_in s) s.end s.limit m))
 
 -- no more than the run that is left
-call_within : (n : ℕ) (s : Standing) → EndsWithin n s → visits_of s (next_of s) ≤ visits (tree_in s) (run_of n s)
+pub call_within : (n : ℕ) (s : Standing) → EndsWithin n s → visits_of s (next_of s) ≤ visits (tree_in s) (run_of n s)
 call_within n s whole = by (next_of s) refl
   where
     by : (x : Next) → next_of s ≡ x → visits_of s x ≤ visits (tree_in s) (run_of n s)
     by (ended v) is = subst (λ (r : Run). visits_of s (ended v) ≤ visits (tree_in s) r) (sym (run_ended n s v is)) (verdict_within s v)
     by (cycled c m) is = cycle_within n s c m whole is
 
--- ---- between two cycles
+-- ---- after a cycle
 
--- the visits so far and what is left are within the whole
-pub record Costs (most left : ℕ) (s0 s : Standing) (old now : ℕ) : Type 0 where
-  pub whole : EndsWithin left s
-  pub within : now + visits (tree_in s0) (run_of left s) ≤ old + visits (tree_in s0) (run_of most s0)
-
-pub costs_first : (most : ℕ) (s : Standing) (now : ℕ) → EndsWithin most s → Costs most most s s now now
-costs_first most s now whole = record { whole = whole; within = omega arith }
-
--- the last call
-pub costs_here : (most left : ℕ) (s0 s : Standing) (old now later : ℕ) → Keeps s0 s → Costs most left s0 s old now → later ≤ now + visits_of s (next_of s) → later ≤ old + visits (tree_in s0) (run_of most s0)
-costs_here most left s0 s old now later keeps was call =
-    let rest = subst (λ (t : Tree). visits_of s (next_of s) ≤ visits t (run_of left s)) (same_tree s0 s keeps) (call_within left s was.whole) in
-    let within = was.within in
-    omega (arith, rest, within, call)
-
-whole_next : (left : ℕ) (s m : Standing) (c : Cycle) → EndsWithin left s → 0 < left → next_of s ≡ cycled c m.state → Keeps s m → EndsWithin (left - 1) m
+pub whole_next : (left : ℕ) (s m : Standing) (c : Cycle) → EndsWithin left s → 0 < left → next_of s ≡ cycled c m.state → Keeps s m → EndsWithin (left - 1) m
 whole_next left s m c whole some is keeps =
     let more = run_more left s m c some is keeps in
     let r = run_of (left - 1) m in
@@ -104,20 +100,6 @@ whole_next left s m c whole some is keeps =
     subst (λ (t : Tree). Runs t m.end m.limit m.state r.cycles r.verdict r.left) (sym (same_tree s m keeps))
     (subst (λ (e : ℕ). Runs (tree_in s) e m.limit m.state r.cycles r.verdict r.left) (sym keeps.end)
     (subst (λ (l : ℕ). Runs (tree_in s) s.end l m.state r.cycles r.verdict r.left) (sym keeps.limit) behind))
-
--- a cycle, and on
-pub costs_next : (most left : ℕ) (s0 s m : Standing) (old now later : ℕ) (c : Cycle) → Keeps s0 s → Costs most left s0 s old now → 0 < left → next_of s ≡ cycled c m.state → Keeps s m
-    → later ≤ now + visits_of s (next_of s) → Costs most (left - 1) s0 m old later
-costs_next most left s0 s m old now later c keeps was some is next call =
-    let tree = tree_in s0 in
-    let r = run_of (left - 1) m in
-    let cost : visits_of s (next_of s) ≡ cycle_visits tree c = ap (visits_of s) is ∙ ap (λ (t : Tree). cycle_visits t c) (same_tree s0 s keeps) in
-    let rest : visits tree (run_of left s) ≡ cycle_visits tree c + visits tree r = ap (visits tree) (run_more left s m c some is next) ∙ cost_front tree c r in
-    let within = was.within in
-    record {
-      whole = whole_next left s m c was.whole some is next;
-      within = omega (arith, cost, rest, within, call);
-    }
 
 -- ---- from the start
 

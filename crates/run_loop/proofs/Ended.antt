@@ -28,16 +28,21 @@ use Rattle.answer_model.proofs.Said.{said_among, shown_among}
 use Rattle.answer_model.proofs.Stages.{then_ends, rose_by_said, rose_by_shown}
 use Rattle.run_files.specs.declared.outputs.Outputs.{Outputs}
 use Rattle.run_files.specs.Texts.{Names, Texts, no_texts, files}
-use Rattle.run_files.specs.Written.{Adds}
+use Rattle.answer_model.specs.FaultsAnswered.{AnswersFaults}
+use Rattle.answer_model.proofs.FaultLemmas.{then_answers, said_answers, shown_answers}
+use Rattle.run_files.proofs.Making.{clean_adds}
+use Rattle.run_files.specs.Order.{Piece, texts_of}
+use Rattle.run_files.specs.Pieces.{run_pieces}
+use Rattle.run_files.specs.Written.{Adds, AddsAll}
 use Rattle.run_files.specs.Counts.{Counts, no_counts, counts_of}
 use Rattle.run_files.proofs.Counting.{counts_y, counts_s, ones_counted}
 use Rattle.run_loop.specs.declared.going.Going.{Going}
-use Rattle.run_files.specs.Showing.{left_texts}
 use Rattle.run_loop.specs.declared.ending.Ending.{Ending}
 use Rattle.run_loop.specs.Begins.{BeginsWith}
 use Rattle.run_loop.specs.Ran.{HasEnded}
 use Rattle.run_loop.specs.Ends.{IsVerdict, end_text, made_text, leaf_called, done_text, said_by, TellsEnd, HasCounted}
 use Rattle.run_loop.specs.ToBe.{IsAnswerOf}
+use Rattle.run_loop.proofs.Leaving.{told_made}
 
 -- ---- the last line
 
@@ -129,18 +134,34 @@ has_counted o tree r was going ending begins has =
 abbrev pub TellsAny : Outputs → Tree → Going → Ending → Outside → Outside → Status → Type 0
 TellsAny o tree going ending old new status = (cycles : List Cycle) (v : Verdict) → IsVerdict ending v → HasCounted o tree cycles going → TellsEnd o tree cycles v old new status
 
-module _ (n : Names) (letters : List ℕ) (o : Outputs) (tree : Tree) (r : Run) (old mid new : Outside) (was going : Going) (ending : Ending) (status : Status) (begins : BeginsWith o tree was) (has : HasEnded r was going ending) (adds : Adds n (left_texts tree letters was.drawn r.cycles) old mid) (tells : TellsAny o tree going ending mid new status) where
+module _ (n : Names) (letters : List ℕ) (o : Outputs) (tree : Tree) (r : Run) (old mid new : Outside) (was going : Going) (ending : Ending) (status : Status) (begins : BeginsWith o tree was) (has : HasEnded r was going ending) (adds : AddsAll n (run_pieces tree letters was.drawn r.cycles) old mid) (tells : TellsAny o tree going ending mid new status) where
   told : TellsEnd o tree r.cycles r.verdict mid new status
   told = tells r.cycles r.verdict has.verdict (has_counted o tree r was going ending begins has)
 
-  pub created_ends : (a : Answer) (inputs : List Word) → IsAnswerOf n (left_texts tree letters was.drawn r.cycles) (said_by o tree r.cycles r.verdict) a → EndsWith a (made_after inputs (files n no_texts)) old new status
-  created_ends a inputs is = told_ends a n (left_texts tree letters was.drawn r.cycles) o tree r.cycles r.verdict inputs old mid new status is adds told
+  pub created_ends : (a : Answer) (inputs : List Word) → IsAnswerOf n (texts_of (run_pieces tree letters was.drawn r.cycles)) (said_by o tree r.cycles r.verdict) a → EndsWith a (made_after inputs (files n no_texts)) old new status
+  created_ends a inputs is = told_ends a n (texts_of (run_pieces tree letters was.drawn r.cycles)) o tree r.cycles r.verdict inputs old mid new status is adds.adds told
 
   pub created_known : IsOf of_run status
   created_known = told_known o tree r.cycles r.verdict mid new status told
 
   pub created_rose : status ≡ exit.WriteFault → WriteFaultCounted old new
-  created_rose five = told_rose o tree r.cycles r.verdict old mid new status adds.keeps told five
+  created_rose five = told_rose o tree r.cycles r.verdict old mid new status adds.adds.keeps told five
+
+pub created_made : (o : Outputs) (tree : Tree) (r : Run) (mid new : Outside) (was going : Going) (ending : Ending) (status : Status) → BeginsWith o tree was → HasEnded r was going ending → TellsAny o tree going ending mid new status → new.made ≡ mid.made
+created_made o tree r mid new was going ending status begins has tells =
+    told_made o tree r.cycles r.verdict mid new status (tells r.cycles r.verdict has.verdict (has_counted o tree r was going ending begins has))
+
+-- what is told counts each fault
+told_answers : (o : Outputs) (tree : Tree) (cycles : List Cycle) (v : Verdict) (old new : Outside) (status : Status) → TellsEnd o tree cycles v old new status → AnswersFaults old new status
+told_answers o tree cycles done old new status tells = shown_answers (ended (done_text o.made o.end tree cycles)) exit.Done old new status tells
+told_answers o tree cycles (too_many t) old new status tells = said_answers (ended (many_line o.limit t)) exit.TooManyCycles old new status tells
+told_answers o tree cycles (stop leaf t why) old new status tells = said_answers (ended (stop_line tree leaf t why)) (stop_status why) old new status tells
+
+pub created_answers : (n : Names) (pieces : List Piece) (o : Outputs) (tree : Tree) (r : Run) (old mid new : Outside) (was going : Going) (ending : Ending) (status : Status) → BeginsWith o tree was → HasEnded r was going ending → AddsAll n pieces old mid → TellsAny o tree going ending mid new status
+    → AnswersFaults old new status
+created_answers n pieces o tree r old mid new was going ending status begins has adds tells =
+    then_answers old mid new status (clean_adds n pieces old mid adds)
+    (told_answers o tree r.cycles r.verdict mid new status (tells r.cycles r.verdict has.verdict (has_counted o tree r was going ending begins has)))
 
 -- ---- how a leaf is called
 

@@ -1,13 +1,15 @@
--- When the outputs of a run are what the words ask for.
-use Rattle.std.specs.Prelude.{◌≡◌, ℕ, Option, Some, None, List, ◌++◌, ⊤}
-use Rattle.std.specs.Option.{option_map, option_to_list}
-use Rattle.model_tree.specs.Tree.{Word}
+-- When the outputs of a run are what the words ask for, and the names of its files.
+use Rattle.std.specs.Prelude.{◌≡◌, ℕ, Bool, Option, Some, None, List, ◌++◌, ⊤, if◌then◌else◌}
+use Rattle.std.specs.Option.{option_map, option_to_list, is_some}
+use Rattle.model_tree.specs.Tree.{Word, Tree}
 use Rattle.record_text.specs.Chosen.{letters_of}
 use Rattle.answer_model.specs.Asked as asked
 use Rattle.answer_model.specs.Asked.{Source, file, made, Asked, is_among, differ_all}
 use Rattle.run_files.specs.declared.outputs.FramesFile.{FramesFile}
 use Rattle.run_files.specs.declared.outputs.Outputs.{Outputs}
 use Rattle.run_files.specs.AskedFiles.{text_of_name}
+use Rattle.run_files.specs.Texts.{Names}
+use Rattle.run_files.specs.Groups.{showing_at_start}
 
 -- the model is read of a file, or is made with this size
 abbrev pub IsSource : Option ℕ → Source → Type 0
@@ -48,3 +50,16 @@ abbrev pub names_asked : Outputs → List Word
 names_asked o =
     option_to_list (text_of_name o.log) ++ option_to_list (text_of_name o.out)
     ++ option_to_list (frames_name o.frames)
+
+-- the name of the file of frames, where there is a group to draw
+abbrev pub frames_with : Outputs → Bool → Option Word
+frames_with o has_frames = if has_frames then frames_name o.frames else None
+
+-- the names of the files, with frames where the model has the group
+abbrev pub names_with : Outputs → Bool → Names
+names_with o has_frames =
+    record { log = text_of_name o.log; out = text_of_name o.out; frames = frames_with o has_frames }
+
+-- the names of the files of a run of this model
+abbrev pub names_in : Outputs → Tree → Names
+names_in o tree = names_with o (is_some (showing_at_start tree o.frames))

@@ -1,14 +1,10 @@
 -- What is left of a run from where it stands.
-use Rattle.std.specs.Prelude.{◌≡◌, ℕ, Option, Some, List, slice_get}
-use Rattle.std.specs.List.{All}
+use Rattle.std.specs.Prelude.{◌≡◌, ℕ, Some, slice_get}
 use Rattle.model_tree.specs.Tree.{Tree, Leaf, leaves}
-use Rattle.run_model.specs.Run.{Cycle, Run, run_from}
+use Rattle.run_model.specs.Run.{Run, run_from}
 use Rattle.run_model.specs.Runs.{Runs}
-use Rattle.run_model.specs.Instants.{InstantsNeverFall}
-use Rattle.run_model.specs.Fitting.{NamesItsParts}
 use Rattle.record_text.specs.CycleNames.{HasPortValues}
 use Rattle.flat_run.specs.Standing.{Standing, tree_in}
-use Rattle.run_files.specs.Showing.{Showing, IsBegunBy}
 
 -- at most n cycles from where a run stands
 abbrev pub run_of : ℕ → Standing → Run
@@ -22,11 +18,3 @@ EndsWithin n s =
 -- each further port of a cell of the model has a value at the start
 abbrev pub HaveValues : Tree → Type 0
 HaveValues tree = (k : ℕ) (l : Leaf) → slice_get (leaves tree) k ≡ Some l → HasPortValues l
-
--- the cycles that are left name what there is, and their instants never fall, from those that are
--- drawn on
-pub record AreFit (tree : Tree) (drawn : Option Showing) (cycles : List Cycle) : Type 0 where
-  pub names : All (NamesItsParts tree) cycles
-  pub from : ℕ
-  pub begun : IsBegunBy from drawn
-  pub never_fall : InstantsNeverFall from cycles

@@ -4,6 +4,8 @@ pub mod Known
 pub mod Left
 pub mod Ends
 pub mod Ran
+pub mod Leaves
+pub mod DoneIn
 pub mod Stopping
 pub mod Begins
 pub mod ToBe

@@ -1,17 +1,37 @@
--- What a run came to: its verdict and all of its texts, or a part of them.
-use Rattle.std.specs.Prelude.{◌≡◌, ℕ, ◌+◌, List, [], length, Result, Ok, Err}
+-- What a run came to: its verdict and all that it writes, or the cycles that were begun.
+use Rattle.std.specs.Prelude.{◌≡◌, ℕ, ◌+◌, ◌≤◌, Option, List, [], ◌++◌, length, Result, Ok, Err}
+use Rattle.std.specs.Bool.{OnTrue}
 use Rattle.std.specs.Option.{option_map}
-use Rattle.model_tree.specs.Tree.{Tree}
-use Rattle.run_model.specs.Run.{Run}
+use Rattle.run_model.specs.Run.{Cycle, Run}
 use Rattle.room_edge.specs.Outside.{Outside}
+use Rattle.flat_run.specs.Standing.{Standing, tree_in}
 use Rattle.run_files.specs.declared.outputs.Unwritten.{Unwritten}
-use Rattle.run_files.specs.Texts.{Names, Texts, both}
-use Rattle.run_files.specs.Written.{Adds, Falls}
-use Rattle.run_files.specs.Showing.{left_texts}
+use Rattle.run_files.specs.Texts.{Names, Texts}
+use Rattle.run_files.specs.Written.{Adds, AddsAll, Falls}
+use Rattle.run_files.specs.Showing.{Showing}
+use Rattle.run_files.specs.Pieces.{drawn_after, cycles_pieces, run_pieces}
 use Rattle.run_files.specs.Counts.{counts_of}
 use Rattle.run_loop.specs.declared.ending.Ending.{Ending}
 use Rattle.run_loop.specs.declared.going.Going.{Going}
 use Rattle.run_loop.specs.Ends.{IsVerdict}
+use Rattle.run_loop.specs.Leaves.{Asking, Spent, begun_pieces, begun_visits, ArePiecesOf}
+
+-- of a run from where it stands
+abbrev pub asking : Names → List ℕ → Standing → Asking
+asking n letters s = record { names = n; tree = tree_in s; letters = letters }
+
+-- a write failed or memory ran out: the files have no more than the first pieces of the cycles that
+-- were begun, and there were no more visits than these cost
+pub record BreaksOff (a : Asking) (why : Unwritten) (r : Run) (w : Option Showing)
+    (outside later : Outside) (spent : Spent) : Type 0 where
+  pub begun : List Cycle
+  pub behind : List Cycle
+  pub cycles : r.cycles ≡ begun ++ behind
+  pub falls : Falls a.names why (begun_pieces a w begun behind) outside later
+  pub within : OnTrue spent.is_counted
+      (spent.after ≤ spent.before + begun_visits a.tree r begun behind)
+
+-- ---- the end
 
 -- the run has its verdict, and its records were counted
 pub record HasEnded (r : Run) (old new : Going) (ending : Ending) : Type 0 where
@@ -19,26 +39,48 @@ pub record HasEnded (r : Run) (old new : Going) (ending : Ending) : Type 0 where
   pub cycles : new.cycles ≡ old.cycles + length r.cycles
   pub counted : new.counted ≡ option_map (counts_of r.cycles) old.counted
 
--- all but the last frame was written
-pub record IsWritten (n : Names) (tree : Tree) (letters : List ℕ) (r : Run) (old new : Going)
-    (outside later : Outside) : Type 0 where
-  pub texts : Texts
-  pub adds : Adds n texts outside later
-  pub whole : both texts (left_texts tree letters new.drawn []) ≡ left_texts tree letters old.drawn
-      r.cycles
+-- there were no more visits than all its cycles and the verdict cost
+abbrev pub CostsAll : Asking → Run → Spent → Type 0
+CostsAll a r spent =
+    OnTrue spent.is_counted (spent.after ≤ spent.before + begun_visits a.tree r r.cycles [])
 
--- the run goes to its end, or what a failure leaves
-abbrev pub RunsTo : Names → Tree → List ℕ → Run → Going → Going → Outside → Outside
+-- all but the last frame was written
+pub record IsWritten (a : Asking) (r : Run) (old new : Going) (outside later : Outside)
+    (spent : Spent) : Type 0 where
+  pub adds : AddsAll a.names (cycles_pieces a.tree a.letters old.drawn r.cycles) outside later
+  pub drawn : new.drawn ≡ drawn_after r.cycles old.drawn
+  pub within : CostsAll a r spent
+
+-- the run goes to its end, or breaks off
+abbrev pub RunsTo : Asking → Run → Going → Going → Outside → Outside → Spent
     → Result Ending Unwritten → Type 0
-RunsTo n tree letters r old new outside later (Ok ending) =
-    HasEnded r old new ending × IsWritten n tree letters r old new outside later
-RunsTo n tree letters r old new outside later (Err why) =
-    Falls n why (left_texts tree letters old.drawn r.cycles) outside later
+RunsTo a r old new outside later spent (Ok ending) =
+    HasEnded r old new ending × IsWritten a r old new outside later spent
+RunsTo a r old new outside later spent (Err why) =
+    BreaksOff a why r old.drawn outside later spent
 
 -- the same with the last frame
-abbrev pub RunsWhole : Names → Tree → List ℕ → Run → Going → Going → Outside → Outside
+abbrev pub RunsWhole : Asking → Run → Going → Going → Outside → Outside → Spent
     → Result Ending Unwritten → Type 0
-RunsWhole n tree letters r old new outside later (Ok ending) =
-    HasEnded r old new ending × Adds n (left_texts tree letters old.drawn r.cycles) outside later
-RunsWhole n tree letters r old new outside later (Err why) =
-    Falls n why (left_texts tree letters old.drawn r.cycles) outside later
+RunsWhole a r old new outside later spent (Ok ending) =
+    HasEnded r old new ending
+    × AddsAll a.names (run_pieces a.tree a.letters old.drawn r.cycles) outside later
+    × CostsAll a r spent
+RunsWhole a r old new outside later spent (Err why) =
+    BreaksOff a why r old.drawn outside later spent
+
+-- some cycles of the run were begun: pieces of these were written in their order, and there were no
+-- more visits than they cost
+pub record WritesBegun (a : Asking) (r : Run) (w : Option Showing) (outside later : Outside)
+    (spent : Spent) : Type 0 where
+  pub begun : List Cycle
+  pub behind : List Cycle
+  pub cycles : r.cycles ≡ begun ++ behind
+  pub part : Texts
+  pub order : ArePiecesOf (begun_pieces a w begun behind) part
+  pub within : OnTrue spent.is_counted
+      (spent.after ≤ spent.before + begun_visits a.tree r begun behind)
+  -- then a line was told, which changes no file
+  pub written : Outside
+  pub adds : Adds a.names part outside written
+  pub told : later.made ≡ written.made

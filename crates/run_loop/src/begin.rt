@@ -4,7 +4,8 @@ ghost use Rattle.model_tree.specs.Leaves.{OfTree};
 ghost use Rattle.run_model.specs.Run.{most_cycles as most};
 ghost use Rattle.run_files.specs.AskedFiles.{text_of_name, names_of};
 ghost use Rattle.run_files.specs.Groups.{CanShowIn};
-ghost use Rattle.run_loop.specs.Begins.{BeginsWith, names_with, frames_with, counts_at_start};
+ghost use Rattle.run_loop.specs.Asks.{names_with, frames_with};
+ghost use Rattle.run_loop.specs.Begins.{BeginsWith, counts_at_start};
 
 use crate::going::Going;
 use model_tree::Model;

@@ -8,7 +8,8 @@ ghost use Rattle.record_text.specs.Chosen.{letters_of};
 ghost use Rattle.record_text.specs.Named.{NamesLeaves};
 ghost use Rattle.run_files.specs.AskedFiles.{names_of};
 ghost use Rattle.run_files.specs.Texts.{AreApart, AreCreated};
-ghost use Rattle.run_files.specs.Showing.{after_cycle, cycle_texts};
+ghost use Rattle.run_files.specs.Showing.{after_cycle};
+ghost use Rattle.run_files.specs.Pieces.{cycle_pieces};
 ghost use Rattle.run_files.specs.Counts.{counts_after};
 ghost use Rattle.run_files.specs.Written.{Writes};
 
@@ -44,7 +45,7 @@ pub(crate) fn write_next<R: Room>(
     ensures texts { (c : Cycle) → Holds going.old.records c → c.time ≡ at
         → OfTree model.now (λ tree.
         Writes (names_of named.now)
-        (cycle_texts tree (letters_of named.now.letters) going.old.drawn c)
+        (cycle_pieces tree (letters_of named.now.letters) going.old.drawn c)
         (R.outside room.old) (R.outside room.new) result) }
     ensures drawn { OnOk result ((c : Cycle) → Holds going.old.records c → c.time ≡ at →
         going.new.drawn ≡ option_map (after_cycle c) going.old.drawn) }

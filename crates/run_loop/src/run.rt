@@ -1,46 +1,58 @@
 // A run goes on, cycle by cycle, and each cycle is written.
 ghost use Rattle.std.specs.Prelude.{◌≡◌, ◌+◌, ◌<◌, ◌≤◌, ◌^◌, None};
+ghost use Rattle.std.specs.Bool.{OnTrue};
+ghost use Rattle.std.specs.List.{All};
+ghost use Rattle.run_model.specs.Fitting.{NamesItsParts};
 ghost use Rattle.run_model.specs.Visits.{visits};
 ghost use Rattle.record_text.specs.Chosen.{letters_of};
 ghost use Rattle.flat_run.specs.Standing.{tree_in};
 ghost use Rattle.flat_run.specs.Steps.{Keeps};
 ghost use Rattle.run_files.specs.AskedFiles.{names_of};
 ghost use Rattle.run_files.specs.Texts.{AreApart, AreCreated};
-ghost use Rattle.run_loop.specs.Left.{run_of, EndsWithin, AreFit, HaveValues};
-ghost use Rattle.run_loop.specs.Ran.{RunsTo, RunsWhole};
+ghost use Rattle.run_loop.specs.DoneIn.{DoneIn};
+ghost use Rattle.run_loop.specs.Left.{run_of, EndsWithin, HaveValues};
+ghost use Rattle.run_loop.specs.Ran.{asking, RunsTo, RunsWhole};
+ghost use Rattle.run_loop.specs.Leaves.{spent};
 ghost use Rattle.run_loop.specs.Stopping.{StopsAs};
 
 use crate::ending::Ending;
 use crate::going::{Going, write_next};
-use atomic_face::AtomicModel;
-use flat_run::{FlatRun, Progress, Steps, Stop};
+use flat_run::{Cycles, Progress, Steps, Stop};
 use room_edge::Room;
 use run_files::{Named, Unwritten, write_last};
 use std::sync::ledger::Ledger;
-use time_queue::TimeQueue;
 
 /// Runs at most so many cycles, and writes each, and at the end the last frame. A cycle that is due
 /// after them is one too many.
-pub(crate) fn run_all<R: Room, Q: TimeQueue, M: AtomicModel, L: Ledger>(
+///
+/// # Errors
+///
+/// `Fault` where a file could not be written, `Memory` where memory ran out: the files have the
+/// first pieces of the cycles that were begun, in their order, and of one piece maybe a beginning.
+pub(crate) fn run_all<R: Room, C: Cycles<L>, L: Ledger>(
     room: &mut R,
     named: &Named<'_>,
     going: &mut Going,
-    run: &mut FlatRun<Q, M>,
+    run: &mut C,
     most: u64,
     steps: &mut Steps<L>,
 ) -> Result<Ending, Unwritten>
     requires apart { AreApart (names_of named.now) }
     requires created { AreCreated (names_of named.now) (R.outside room.old).created }
-    requires goes { run.old.stopped ≡ None }
+    requires goes { (C.standing run.old).stopped ≡ None }
     requires few { going.old.cycles + most < 2 ^ 64 }
-    requires values { HaveValues (tree_in run.old) }
-    requires cycles { AreFit (tree_in run.old) going.old.drawn (run_of most run.old).cycles }
-    requires whole { EndsWithin most run.old }
-    ensures runs { RunsWhole (names_of named.now) (tree_in run.old) (letters_of named.now.letters)
-        (run_of most run.old)
-        going.old going.new (R.outside room.old) (R.outside room.new) result }
-    ensures keeps { Keeps run.old run.new }
-    ensures visits { steps.new ≤ steps.old + visits (tree_in run.old) (run_of most run.old) }
+    requires values { HaveValues (tree_in (C.standing run.old)) }
+    requires names { let s = C.standing run.old in
+        All (NamesItsParts (tree_in s)) (run_of most s).cycles }
+    requires whole { EndsWithin most (C.standing run.old) }
+    ensures runs { let s = C.standing run.old in
+        RunsWhole (asking (names_of named.now) (letters_of named.now.letters) s)
+        (run_of most s) going.old going.new (R.outside room.old) (R.outside room.new)
+        (spent C.is_counted steps.old steps.new) result }
+    ensures keeps { Keeps (C.standing run.old) (C.standing run.new) }
+    ensures left { DoneIn result (run_of most (C.standing run.old)).left (C.standing run.new) }
+    ensures visits { let s = C.standing run.old in
+        OnTrue C.is_counted (steps.new ≤ steps.old + visits (tree_in s) (run_of most s)) }
 {
     let ending = run_cycles(room, named, going, run, most, steps)?;
     write_last(room, named, &mut going.drawn, &mut going.piece)?;
@@ -48,26 +60,30 @@ pub(crate) fn run_all<R: Room, Q: TimeQueue, M: AtomicModel, L: Ledger>(
 }
 
 /// The same without the last frame.
-fn run_cycles<R: Room, Q: TimeQueue, M: AtomicModel, L: Ledger>(
+fn run_cycles<R: Room, C: Cycles<L>, L: Ledger>(
     room: &mut R,
     named: &Named<'_>,
     going: &mut Going,
-    run: &mut FlatRun<Q, M>,
+    run: &mut C,
     most: u64,
     steps: &mut Steps<L>,
 ) -> Result<Ending, Unwritten>
     requires apart { AreApart (names_of named.now) }
     requires created { AreCreated (names_of named.now) (R.outside room.old).created }
-    requires goes { run.old.stopped ≡ None }
+    requires goes { (C.standing run.old).stopped ≡ None }
     requires few { going.old.cycles + most < 2 ^ 64 }
-    requires values { HaveValues (tree_in run.old) }
-    requires cycles { AreFit (tree_in run.old) going.old.drawn (run_of most run.old).cycles }
-    requires whole { EndsWithin most run.old }
-    ensures runs { RunsTo (names_of named.now) (tree_in run.old) (letters_of named.now.letters)
-        (run_of most run.old)
-        going.old going.new (R.outside room.old) (R.outside room.new) result }
-    ensures keeps { Keeps run.old run.new }
-    ensures visits { steps.new ≤ steps.old + visits (tree_in run.old) (run_of most run.old) }
+    requires values { HaveValues (tree_in (C.standing run.old)) }
+    requires names { let s = C.standing run.old in
+        All (NamesItsParts (tree_in s)) (run_of most s).cycles }
+    requires whole { EndsWithin most (C.standing run.old) }
+    ensures runs { let s = C.standing run.old in
+        RunsTo (asking (names_of named.now) (letters_of named.now.letters) s)
+        (run_of most s) going.old going.new (R.outside room.old) (R.outside room.new)
+        (spent C.is_counted steps.old steps.new) result }
+    ensures keeps { Keeps (C.standing run.old) (C.standing run.new) }
+    ensures left { DoneIn result (run_of most (C.standing run.old)).left (C.standing run.new) }
+    ensures visits { let s = C.standing run.old in
+        OnTrue C.is_counted (steps.new ≤ steps.old + visits (tree_in s) (run_of most s)) }
 {
     let mut left = most;
     'cycles: loop {

@@ -1,4 +1,5 @@
 use Rattle.answer_model.proofs.Ends.{first_append, second_append, third_append, fourth_append, fifth_append, cut_causes, no_log, nothing_shown, nothing_complained, complete, not_read}
+use Rattle.answer_model.proofs.FaultRows.{read_answered, read_hidden, complaint_answered, complaint_hidden, append_hidden}
 use Rattle.answer_model.proofs.laws.ends_are_met.Goals as goal
 
 pub returns : goal.returns
@@ -15,4 +16,9 @@ returns c =
       nothing_complained = nothing_complained;
       complete = complete;
       not_read = not_read;
+      read_answered = read_answered;
+      read_hidden = read_hidden;
+      complaint_answered = complaint_answered;
+      complaint_hidden = complaint_hidden;
+      append_hidden = append_hidden;
     }

@@ -9,6 +9,9 @@ use Rattle.cdpp_top.specs.Reading.{answer_by_file}
 use Rattle.cdpp_top.specs.Visits.{run_visits, visits_by_file, visits_by_name, visits_with}
 use Rattle.cdpp_top.proofs.Files.{no_events, some_events}
 use Rattle.cdpp_top.proofs.Reached.{if_some_all}
+use Rattle.std.proofs.Common.{Some, true}
+use Rattle.run_loop.specs.Leaves.{spent}
+use Rattle.cdpp_top.specs.Leaving.{LeavesWith, events_in, events_for}
 use Rattle.cdpp_top.proofs.events.run_with_events.Goals as goal
 
 pub returns-in-None-clause-ends : goal.returns-in-None-clause-ends
@@ -51,3 +54,29 @@ returns-in-Some-clause-visits g c =
     let within = λ (k : ℕ). c.run_with_file.new.steps ≤ c.args.steps.now + k in
     IfSome_then old.files {P = λ files. within (visits_by_file a tree (files name))} {Q = λ files. within (visits_with a files tree)} c.run_with_file.ensures.visits
     (λ files v. subst (λ (o : Option Word). within (visits_by_name a files tree o)) (sym (ap text_of_name c.in-Some.is)) v)
+
+-- ---- what a run leaves
+
+pub returns-in-None-clause-leaves : goal.returns-in-None-clause-leaves
+returns-in-None-clause-leaves g c =
+    let old = g.R.Room.outside c.args.room.now in
+    let new = g.R.Room.outside c.run_from.new.room in
+    let a = asked_of c.args.asked.now in
+    let tree = tree_on c.args.start.model c.args.start.stock in
+    let given = c.run_from.result in
+    let visited = spent true c.args.steps.now c.run_from.new.steps in
+    if_some_all old.files (λ files. LeavesWith a tree (events_for files tree a.events) old new visited given) (λ files.
+    subst (λ (o : Option Word). LeavesWith a tree (events_for files tree o) old new visited given) (sym (ap text_of_name c.in-None.is))
+    (subst (λ (events : List Event). LeavesWith a tree (Some events) old new visited given) c.none-none.ensures c.run_from.ensures.leaves))
+
+pub returns-in-Some-clause-leaves : goal.returns-in-Some-clause-leaves
+returns-in-Some-clause-leaves g c =
+    let old = g.R.Room.outside c.args.room.now in
+    let new = g.R.Room.outside c.run_with_file.new.room in
+    let a = asked_of c.args.asked.now in
+    let tree = tree_on c.args.start.model c.args.start.stock in
+    let name = c.in-Some.name.now in
+    let given = c.run_with_file.result in
+    let visited = spent true c.args.steps.now c.run_with_file.new.steps in
+    IfSome_then old.files {P = λ files. LeavesWith a tree (events_in tree (files name)) old new visited given} {Q = λ files. LeavesWith a tree (events_for files tree a.events) old new visited given} c.run_with_file.ensures.leaves
+    (λ files l. subst (λ (o : Option Word). LeavesWith a tree (events_for files tree o) old new visited given) (sym (ap text_of_name c.in-Some.is)) l)

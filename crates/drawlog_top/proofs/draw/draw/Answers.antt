@@ -6,6 +6,7 @@ use Rattle.answer_model.specs.Status.{of_drawing}
 use Rattle.answer_model.specs.Endings.{ShowsEnd, looked_for, EndsWith}
 use Rattle.answer_model.proofs.Outcomes.{none_begun}
 use Rattle.answer_model.proofs.Endings.{endings_follow}
+use Rattle.answer_model.proofs.FaultLemmas.{nothing_done}
 use Rattle.answer_model.proofs.Causing.{memory_ends, nothing_read, said_ends}
 use Rattle.asked_words.specs.Shown.{drawing_of}
 use Rattle.drawlog_top.proofs.DrawnAnswers.{drawn_shows, drawn_refuses, shown_ends}
@@ -42,7 +43,7 @@ returns-in-Err-LogRefused-clause-ends g c =
 pub returns-in-Err-LogRefused-clause-causes : goal.returns-in-Err-LogRefused-clause-causes
 returns-in-Err-LogRefused-clause-causes g c =
     let old = g.R.Room.outside c.args.room.now in
-    said_ends of_drawing _ LogRefused old old _ c.refuse.result refl refl tt (nothing_read old) c.refuse.ensures
+    said_ends of_drawing _ LogRefused old old _ c.refuse.result refl refl tt (nothing_read old) refl c.refuse.ensures
 
 pub returns-in-Err-Memory-clause-ends : goal.returns-in-Err-Memory-clause-ends
 returns-in-Err-Memory-clause-ends g c =
@@ -52,4 +53,4 @@ returns-in-Err-Memory-clause-ends g c =
     endings_follow.memory x (looked_for inputs) (g.R.Room.outside c.args.room.now) (none_begun x (looked_for inputs) refl refl)
 
 pub returns-in-Err-Memory-clause-causes : goal.returns-in-Err-Memory-clause-causes
-returns-in-Err-Memory-clause-causes g c = memory_ends of_drawing _ _ refl
+returns-in-Err-Memory-clause-causes g c = memory_ends of_drawing _ _ refl (nothing_done (g.R.Room.outside c.args.room.now))

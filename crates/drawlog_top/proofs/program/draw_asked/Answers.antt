@@ -2,10 +2,11 @@ use Rattle.std.proofs.Common.{Some, None, [], ◌∷◌, refl, sym, ◌∙◌, a
 use Rattle.std.proofs.lemmas.Option.{IfSome_then}
 use Rattle.answer_model.specs.Answer.{Answer, only_complains}
 use Rattle.answer_model.specs.Drawlog.{drawn_answer, log_refused}
-use Rattle.answer_model.specs.declared.status.Status.TheVariants.{Missing, ReadFault, NoMemory, LogRefused}
+use Rattle.answer_model.specs.declared.status.Status.TheVariants.{Missing, NoMemory, LogRefused}
 use Rattle.answer_model.specs.Status.{of_log}
 use Rattle.answer_model.specs.Endings.{looked_for, EndsWith}
-use Rattle.answer_model.proofs.Causing.{later_ends, memory_ends, said_ends}
+use Rattle.answer_model.proofs.Causing.{later_ends, memory_ends, said_ends, unread_ends}
+use Rattle.answer_model.proofs.FaultLemmas.{clean_read}
 use Rattle.answer_model.proofs.Stages.{then_ends, was_tried, read_failed, read_and_said, read_unread}
 use Rattle.asked_words.specs.Shown.{drawing_of}
 use Rattle.drawlog_top.specs.Ends.{answer_to_file}
@@ -31,7 +32,7 @@ returns-in-Ok-clause-causes g c =
     let e = c.in-Ok.ensures in
     let mid = g.R.Room.outside c.read_whole.new.room in
     let new = g.R.Room.outside c.draw.new.room in
-    later_ends of_log (g.R.Room.outside c.args.room.now) mid new c.draw.result e.only e.misses e.faults (drawing_ends mid new c.draw.result c.draw.ensures.causes)
+    later_ends of_log (g.R.Room.outside c.args.room.now) mid new c.draw.result e.only e.misses e.counts_faults (drawing_ends mid new c.draw.result c.draw.ensures.causes)
 
 pub returns-in-Err-Missing-clause-ends : goal.returns-in-Err-Missing-clause-ends
 returns-in-Err-Missing-clause-ends g c =
@@ -48,7 +49,7 @@ returns-in-Err-Missing-clause-ends g c =
 pub returns-in-Err-Missing-clause-causes : goal.returns-in-Err-Missing-clause-causes
 returns-in-Err-Missing-clause-causes g c =
     let e = rw c.in-Err-Missing.field-0-is at c.in-Err-Missing.ensures in
-    said_ends of_log _ Missing (g.R.Room.outside c.args.room.now) (g.R.Room.outside c.read_whole.new.room) (g.R.Room.outside c.complain_named.new.room) c.complain_named.result refl refl (e.missing refl) e.only c.complain_named.ensures
+    said_ends of_log _ Missing (g.R.Room.outside c.args.room.now) (g.R.Room.outside c.read_whole.new.room) (g.R.Room.outside c.complain_named.new.room) c.complain_named.result refl refl (e.missing refl) e.only e.counts_faults c.complain_named.ensures
 
 pub returns-in-Err-ReadFault-clause-ends : goal.returns-in-Err-ReadFault-clause-ends
 returns-in-Err-ReadFault-clause-ends g c =
@@ -64,7 +65,7 @@ returns-in-Err-ReadFault-clause-ends g c =
 pub returns-in-Err-ReadFault-clause-causes : goal.returns-in-Err-ReadFault-clause-causes
 returns-in-Err-ReadFault-clause-causes g c =
     let e = rw c.in-Err-ReadFault.field-0-is at c.in-Err-ReadFault.ensures in
-    said_ends of_log _ ReadFault (g.R.Room.outside c.args.room.now) (g.R.Room.outside c.read_whole.new.room) (g.R.Room.outside c.complain_named-in-Err-ReadFault.new.room) c.complain_named-in-Err-ReadFault.result refl refl (e.fault refl) e.only c.complain_named-in-Err-ReadFault.ensures
+    unread_ends of_log (drawing_of c.args.asked.now).log (g.R.Room.outside c.args.room.now) (g.R.Room.outside c.read_whole.new.room) (g.R.Room.outside c.complain_named-in-Err-ReadFault.new.room) c.complain_named-in-Err-ReadFault.result refl refl (e.fault refl) e.only c.complain_named-in-Err-ReadFault.ensures
 
 pub returns-in-Err-TooLong-clause-ends : goal.returns-in-Err-TooLong-clause-ends
 returns-in-Err-TooLong-clause-ends g c =
@@ -82,7 +83,7 @@ returns-in-Err-TooLong-clause-ends g c =
 pub returns-in-Err-TooLong-clause-causes : goal.returns-in-Err-TooLong-clause-causes
 returns-in-Err-TooLong-clause-causes g c =
     let e = rw c.in-Err-TooLong.field-0-is at c.in-Err-TooLong.ensures in
-    said_ends of_log _ LogRefused (g.R.Room.outside c.args.room.now) (g.R.Room.outside c.read_whole.new.room) (g.R.Room.outside c.refuse.new.room) c.refuse.result refl refl tt e.only c.refuse.ensures
+    said_ends of_log _ LogRefused (g.R.Room.outside c.args.room.now) (g.R.Room.outside c.read_whole.new.room) (g.R.Room.outside c.refuse.new.room) c.refuse.result refl refl tt e.only e.counts_faults c.refuse.ensures
 
 pub returns-in-Err-Memory-clause-ends : goal.returns-in-Err-Memory-clause-ends
 returns-in-Err-Memory-clause-ends g c =
@@ -94,4 +95,8 @@ returns-in-Err-Memory-clause-ends g c =
     read_unread (answer_to_file a (files a.log)) [] old mid a.log ([], file_inputs a (files a.log)) e.tried e.only e.faults)
 
 pub returns-in-Err-Memory-clause-causes : goal.returns-in-Err-Memory-clause-causes
-returns-in-Err-Memory-clause-causes g c = memory_ends of_log _ _ refl
+returns-in-Err-Memory-clause-causes g c =
+    let e = rw c.in-Err-Memory.field-0-is at c.in-Err-Memory.ensures in
+    let old = g.R.Room.outside c.args.room.now in
+    let mid = g.R.Room.outside c.read_whole.new.room in
+    memory_ends of_log old mid refl (clean_read old mid e.only e.counts_faults)

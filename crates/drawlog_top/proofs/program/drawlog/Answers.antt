@@ -12,6 +12,7 @@ use Rattle.answer_model.proofs.Outcomes.{none_begun}
 use Rattle.answer_model.proofs.Endings.{endings_follow}
 use Rattle.answer_model.proofs.Said.{said_among}
 use Rattle.answer_model.proofs.Causing.{cause_for, said_caused, nothing_read, nothing_written}
+use Rattle.answer_model.proofs.FaultLemmas.{nothing_done, clean_answers, said_answers}
 use Rattle.answer_model.proofs.Stages.{at_start}
 use Rattle.asked_words.specs.Shown.{drawing_of}
 use Rattle.drawlog_top.specs.Ends.{answer_to_file}
@@ -53,6 +54,9 @@ returns-in-Ok-Some-clause-causes g c =
 pub returns-in-Ok-Some-clause-nothing : goal.returns-in-Ok-Some-clause-nothing
 returns-in-Ok-Some-clause-nothing g c = c.draw_asked.ensures.causes.nothing
 
+pub returns-in-Ok-Some-clause-faults : goal.returns-in-Ok-Some-clause-faults
+returns-in-Ok-Some-clause-faults g c = c.draw_asked.ensures.causes.faults
+
 pub returns-in-Ok-None-clause-ends : goal.returns-in-Ok-None-clause-ends
 unfolding drawing_answer
 returns-in-Ok-None-clause-ends g c =
@@ -84,6 +88,10 @@ returns-in-Ok-None-clause-nothing g c =
     let old = g.R.Room.outside c.args.room.now in
     λ e. nothing_written _ Usage old old (g.R.Room.outside c.complain.new.room) c.complain.result (nothing_read old) c.complain.ensures
 
+pub returns-in-Ok-None-clause-faults : goal.returns-in-Ok-None-clause-faults
+returns-in-Ok-None-clause-faults g c =
+    said_answers _ Usage (g.R.Room.outside c.args.room.now) (g.R.Room.outside c.complain.new.room) c.complain.result c.complain.ensures
+
 pub returns-in-Err-clause-ends : goal.returns-in-Err-clause-ends
 returns-in-Err-clause-ends g c =
     let words = map string_bytes c.args.words.now in
@@ -97,3 +105,6 @@ returns-in-Err-clause-causes g c = record { known = refl; cause = tt; refused = 
 
 pub returns-in-Err-clause-nothing : goal.returns-in-Err-clause-nothing
 returns-in-Err-clause-nothing g c = λ e. absurd cc
+
+pub returns-in-Err-clause-faults : goal.returns-in-Err-clause-faults
+returns-in-Err-clause-faults g c = let old = g.R.Room.outside c.args.room.now in clean_answers old old NoMemory (nothing_done old)

@@ -1,11 +1,12 @@
 use Rattle.std.proofs.Common.{◌∙◌, subst}
 use Rattle.answer_model.specs.declared.status.Status.TheVariants.{LogRefused}
+use Rattle.answer_model.specs.Drawlog.{log_refused}
 use Rattle.answer_model.specs.Endings.{Says}
 use Rattle.answer_model.proofs.Said.{said_nothing}
 use Rattle.drawlog_top.proofs.refuse.refuse.Goals as goal
 
 pub returns-in_default : goal.returns-in_default
-returns-in_default g c = said_nothing _ _ _
+returns-in_default g c = said_nothing _ (log_refused c.args.line) _
 
 pub returns : goal.returns
 returns g c = subst (λ line. Says line LogRefused (g.R.Room.outside c.args.room.now) (g.R.Room.outside c.complain.new.room) c.complain.result) (c.deref.ensures.value ∙ c.in-Ok.ensures) c.complain.ensures

@@ -9,4 +9,4 @@ returns-in-Ok g c =
     let old = g.R.Room.outside c.args.room.now in
     let new = g.R.Room.outside c.create.new.self in
     let e = c.in-Ok.ensures in
-    made_file (name_at (names_of c.args.named.now) c.args.file) c.in-Some.name.now old new (sym c.name.ensures ∙ ap text_of_name c.in-Some.is) e.made e.created e.only e.faults
+    made_file (name_at (names_of c.args.named.now) c.args.file) c.in-Some.name.now old new (sym c.name.ensures ∙ ap text_of_name c.in-Some.is) e.made e.created e.only e.failed

@@ -2,9 +2,9 @@ use Rattle.std.proofs.Common.{◌∙◌, sym, subst}
 use Rattle.std.proofs.lemmas.Result.{on_ok_weaker}
 use Rattle.run_files.specs.declared.outputs.Output.TheVariants.{Frames}
 use Rattle.run_files.specs.AskedFiles.{names_of}
-use Rattle.run_files.specs.Texts.{only}
-use Rattle.run_files.specs.Written.{Adds, Writes}
-use Rattle.run_files.proofs.Adding.{adds_nothing}
+use Rattle.run_files.specs.Order.{one_piece}
+use Rattle.run_files.specs.Written.{AddsAll, Writes}
+use Rattle.run_files.proofs.Adding.{no_frame_added}
 use Rattle.run_files.proofs.Cycles.{frame_over, no_frame, is_over, none_over}
 use Rattle.run_files.proofs.cycle.write_before.Goals as goal
 
@@ -14,7 +14,7 @@ returns-then-has_begun_before g c =
     let old = g.R.Room.outside c.args.room.now in
     let new = g.R.Room.outside c.write_last.new.room in
     record {
-      texts = subst (λ text. Writes (names_of c.args.named.now) (only Frames text) old new c.write_last.result) (frame_over c.args.at c.args.drawn.now begun) c.write_last.ensures.texts;
+      texts = subst (λ text. Writes (names_of c.args.named.now) (one_piece Frames text) old new c.write_last.result) (frame_over c.args.at c.args.drawn.now begun) c.write_last.ensures.texts;
       drawn = on_ok_weaker c.write_last.result (λ is. is ∙ is_over c.args.at c.args.drawn.now begun) c.write_last.ensures.drawn;
     }
 
@@ -23,6 +23,6 @@ returns-else-has_begun_before g c =
     let none = sym c.has_begun_before.ensures ∙ c.if-has_begun_before.false in
     let now = g.R.Room.outside c.args.room.now in
     record {
-      texts = subst (λ text. Adds (names_of c.args.named.now) (only Frames text) now now) (no_frame c.args.at c.args.drawn.now none) (adds_nothing (names_of c.args.named.now) now);
+      texts = subst (λ text. AddsAll (names_of c.args.named.now) (one_piece Frames text) now now) (no_frame c.args.at c.args.drawn.now none) (no_frame_added (names_of c.args.named.now) now);
       drawn = none_over c.args.at c.args.drawn.now none;
     }

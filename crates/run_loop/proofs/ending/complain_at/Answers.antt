@@ -1,10 +1,12 @@
 use Rattle.std.proofs.Common.{◌∙◌, subst}
+use Rattle.model_tree.specs.Models.{tree_of}
+use Rattle.answer_model.specs.RunEnd.{stopped_at}
 use Rattle.answer_model.specs.Endings.{Says}
 use Rattle.answer_model.proofs.Said.{said_nothing}
 use Rattle.run_loop.proofs.ending.complain_at.Goals as goal
 
 pub returns-in_default : goal.returns-in_default
-returns-in_default g c = λ settings. said_nothing _ _ _
+returns-in_default g c = λ settings. said_nothing _ (stopped_at c.args.what.now (tree_of c.args.model.now settings) c.args.leaf c.args.t) _
 
 pub returns : goal.returns
 returns g c = λ settings.

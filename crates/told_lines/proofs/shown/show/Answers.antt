@@ -8,7 +8,7 @@ returns-in-Ok g c =
     let old = g.R.Room.outside c.args.room.now in
     let new = g.R.Room.outside c.show_all.new.room in
     let e = c.in-Ok.ensures in
-    shown_whole old new c.args.bytes.now Done e.shown e.only e.faults
+    shown_whole old new c.args.bytes.now Done e.shown e.only e.counts_faults
 
 pub returns-in-Err-WriteFault : goal.returns-in-Err-WriteFault
 returns-in-Err-WriteFault g c =
@@ -24,4 +24,4 @@ returns-in-Err-Memory g c =
     let old = g.R.Room.outside c.args.room.now in
     let new = g.R.Room.outside c.show_all.new.room in
     let e = rw c.in-Err-Memory.field-0-is at c.in-Err-Memory.ensures in
-    shown_part old new c.args.bytes.now Done _ e.shown e.only e.faults
+    shown_part old new c.args.bytes.now Done _ e.shown e.only e.counts_faults

@@ -1,0 +1,81 @@
+-- The files that a run leaves: pieces that were written, and a line that changes no file.
+use Rattle.std.proofs.Common.{◌≡◌, ℕ, Option, List, [], inl, inr, refl, sym, ap, ◌∙◌, subst}
+use Rattle.std.specs.Prelude.{Ok}
+use Rattle.std.proofs.lemmas.List.{append-nil}
+use Rattle.quantity.specs.Bytes.{Bytes}
+use Rattle.model_tree.specs.Tree.{Word, Tree}
+use Rattle.run_model.specs.Run.{Cycle, Run, Verdict, done, too_many, stop}
+use Rattle.text_forms.specs.Lines.{ended}
+use Rattle.room_edge.specs.Outside.{Outside}
+use Rattle.answer_model.specs.declared.status.Status.{Status}
+use Rattle.answer_model.specs.declared.status.Status.TheVariants as exit
+use Rattle.answer_model.specs.Answer.{Answer, write_fault_line}
+use Rattle.answer_model.specs.Headline.{puts_all}
+use Rattle.answer_model.specs.Endings.{Says, ShowsEnd, all_shown, stopped, unshown, made_after, looked_for, LeadsTo}
+use Rattle.answer_model.specs.RunEnd.{many_line, stop_line, stop_status}
+use Rattle.answer_model.proofs.Endings.{steps_lead}
+use Rattle.answer_model.proofs.Said.{said_only}
+use Rattle.run_files.specs.declared.outputs.Outputs.{Outputs}
+use Rattle.run_files.specs.declared.outputs.Unwritten.{Unwritten}
+use Rattle.run_files.specs.declared.outputs.Unwritten.TheVariants.{Fault, Memory}
+use Rattle.run_files.specs.Texts.{Names, no_texts, files, name_at, made_before}
+use Rattle.run_files.specs.Order.{texts_of}
+use Rattle.run_files.specs.Pieces.{run_pieces}
+use Rattle.run_files.specs.Written.{MakesAll, FallsMaking, Tells, Blames}
+use Rattle.run_files.specs.Showing.{Showing}
+use Rattle.run_files.proofs.Making.{some_of, if_some}
+use Rattle.run_loop.specs.declared.ending.Ending.{Ending}
+use Rattle.run_loop.specs.declared.going.Going.{Going}
+use Rattle.run_loop.specs.Ends.{TellsEnd, done_text}
+use Rattle.flat_run.specs.Standing.{Standing}
+use Rattle.run_loop.specs.Ran.{asking, RunsWhole, BreaksOff, WritesBegun}
+use Rattle.run_loop.specs.Leaves.{Asking, Spent, Leaves, some_made, all_made}
+
+-- ---- what is told changes no file
+
+shown_made : (bytes : Bytes) (own : Status) (old new : Outside) (status : Status) → ShowsEnd bytes own old new status → new.made ≡ old.made
+shown_made bytes own old new _ (all_shown showed keeps) = showed.1.made
+shown_made bytes own old new status (stopped part mid short showed keeps rose says) = (said_only _ _ mid new status says).made ∙ showed.1.made
+shown_made bytes own old new _ (unshown part begins showed keeps) = showed.1.made
+
+pub told_made : (o : Outputs) (tree : Tree) (cycles : List Cycle) (v : Verdict) (old new : Outside) (status : Status) → TellsEnd o tree cycles v old new status → new.made ≡ old.made
+told_made o tree cycles done old new status tells = shown_made (ended (done_text o.made o.end tree cycles)) exit.Done old new status tells
+told_made o tree cycles (too_many t) old new status tells = (said_only (ended (many_line o.limit t)) exit.TooManyCycles old new status tells).made
+told_made o tree cycles (stop leaf t why) old new status tells = (said_only (ended (stop_line tree leaf t why)) (stop_status why) old new status tells).made
+
+pub tells_made : (n : Names) (why : Unwritten) (old new : Outside) (status : Status) → Blames n why → Tells n why old new status → new.made ≡ old.made
+tells_made n (Fault file) old new status blames tells =
+    let s = some_of (name_at n file) blames in
+    (said_only (write_fault_line s.0) exit.WriteFault old new status (if_some (name_at n file) (λ name. Says (write_fault_line name) exit.WriteFault old new status) s.0 s.1 tells)).made
+tells_made n Memory old new status blames (own, same) = ap (λ (o : Outside). o.made) same
+
+-- ---- a run whose files are made
+
+pub all_written : (a : Asking) (r : Run) (old new : Going) (outside mid later : Outside) (spent : Spent) (ending : Ending) → RunsWhole a r old new outside mid spent (Ok ending) → later.made ≡ mid.made → WritesBegun a r old.drawn outside later spent
+all_written a r old new outside mid later spent ending (has, is, within) same =
+    record { begun = r.cycles; behind = []; cycles = sym (append-nil r.cycles); part = texts_of (run_pieces a.tree a.letters old.drawn r.cycles); order = inl refl; within = within; written = mid; adds = is.adds; told = same }
+
+pub some_written : (a : Asking) (why : Unwritten) (r : Run) (w : Option Showing) (outside mid later : Outside) (spent : Spent) → BreaksOff a why r w outside mid spent → later.made ≡ mid.made → WritesBegun a r w outside later spent
+some_written a why r w outside mid later spent b same =
+    record { begun = b.begun; behind = b.behind; cycles = b.cycles; part = b.falls.part; order = inr b.falls.order; within = b.within; written = mid; adds = b.falls.adds; told = same }
+
+-- ---- with the files that are made
+
+-- what stands outside after such a stage
+made_by : (x : Answer) (inputs : List Word) (fs : List (Word × Bytes)) (old new : Outside) → LeadsTo x (looked_for []) (made_after [] fs) old new → new.made ≡ puts_all old.made fs
+made_by x inputs fs old new leads = (leads old (steps_lead.start x old)).more.made
+
+pub created_leaves : (x : Answer) (a : Asking) (r : Run) (w : Option Showing) (old mid new : Outside) (spent : Spent) → MakesAll a.names old mid → WritesBegun a r w mid new spent → Leaves a r w old new spent
+created_leaves x a r w old mid new spent made b =
+    let leads : LeadsTo x (looked_for []) (made_after [] (files a.names b.part)) old b.written = λ start way. b.adds.leads no_texts x [] start (made.leads x [] start way) in
+    all_made b.begun b.behind b.part b.cycles b.order (b.told ∙ made_by x [] (files a.names b.part) old b.written leads) b.within
+
+pub unmade_leaves : (x : Answer) (a : Asking) (r : Run) (w : Option Showing) (why : Unwritten) (old mid new : Outside) (spent : Spent) → FallsMaking a.names why old mid → new.made ≡ mid.made → spent.after ≡ spent.before → Leaves a r w old new spent
+unmade_leaves x a r w why old mid new spent f same none = some_made f.file (same ∙ made_by x [] (made_before a.names f.file) old mid (f.leads x [])) none
+
+-- with the names, letters and frames that are asked for
+pub leaves_as : (s : Standing) (r : Run) (old new : Outside) (spent : Spent) (n m : Names) (letters asked : List ℕ) (w v : Option Showing) → n ≡ m → letters ≡ asked → w ≡ v → Leaves (asking n letters s) r w old new spent → Leaves (asking m asked s) r v old new spent
+leaves_as s r old new spent n m letters asked w v names same drawn l =
+    subst (λ (x : Names). Leaves (asking x asked s) r v old new spent) names
+    (subst (λ (x : List ℕ). Leaves (asking n x s) r v old new spent) same
+    (subst (λ (x : Option Showing). Leaves (asking n letters s) r x old new spent) drawn l))

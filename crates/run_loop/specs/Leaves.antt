@@ -1,0 +1,58 @@
+-- The files that a run leaves, however it ends, and what it cost: by the cycles that were begun.
+use Rattle.std.specs.Prelude.{◌≡◌, ℕ, ◌+◌, ◌≤◌, Bool, Option, List, [], ◌∷◌, ◌++◌, ◌⊎◌}
+use Rattle.std.specs.Bool.{OnTrue}
+use Rattle.std.specs.List.{sum_by}
+use Rattle.model_tree.specs.Tree.{Tree}
+use Rattle.run_model.specs.Run.{Cycle, Run}
+use Rattle.run_model.specs.Visits.{cycle_visits, last_visits}
+use Rattle.room_edge.specs.Outside.{Outside}
+use Rattle.answer_model.specs.Headline.{puts_all}
+use Rattle.run_files.specs.declared.outputs.Output.{Output}
+use Rattle.run_files.specs.Texts.{Names, Texts, files, made_before}
+use Rattle.run_files.specs.Order.{Piece, texts_of, WritesInOrder}
+use Rattle.run_files.specs.Showing.{Showing}
+use Rattle.run_files.specs.Pieces.{cycles_pieces, run_pieces}
+
+-- what is asked of a run's files: their names, and of what
+pub record Asking : Type 0 where
+  pub names : Names
+  pub tree : Tree
+  pub letters : List ℕ
+
+-- the visits that were counted before and after, where they are counted
+pub record Spent : Type 0 where
+  pub is_counted : Bool
+  pub before : ℕ
+  pub after : ℕ
+
+abbrev pub spent : Bool → ℕ → ℕ → Spent
+spent is_counted before after =
+    record { is_counted = is_counted; before = before; after = after }
+
+-- what is written of cycles that were begun: the last frame too, where no cycle is behind them
+abbrev pub begun_pieces : Asking → Option Showing → List Cycle → List Cycle → List Piece
+begun_pieces a w begun [] = run_pieces a.tree a.letters w begun
+begun_pieces a w begun (c ∷ cs) = cycles_pieces a.tree a.letters w begun
+
+-- the visits that they may cost; where no cycle is behind them, those of the verdict too
+abbrev pub begun_visits : Tree → Run → List Cycle → List Cycle → ℕ
+begun_visits tree r begun [] =
+    sum_by (cycle_visits tree) begun + last_visits tree r.verdict r.left
+begun_visits tree r begun (c ∷ cs) = sum_by (cycle_visits tree) begun
+
+-- all of these pieces, or the first of them in their order
+abbrev pub ArePiecesOf : List Piece → Texts → Type 0
+ArePiecesOf pieces part = (part ≡ texts_of pieces) ⊎ WritesInOrder pieces part
+
+-- the files stand outside, and there were no more visits than the cycles that were begun cost
+pub data Leaves (a : Asking) (r : Run) (w : Option Showing) (old new : Outside) (spent : Spent)
+    : Type 0 where
+  -- those before one that was not made, all empty; no cycle was begun
+  some_made : (file : Output) → new.made ≡ puts_all old.made (made_before a.names file)
+      → spent.after ≡ spent.before → Leaves a r w old new spent
+  -- all of them, with pieces of the cycles that were begun, in their order
+  all_made : (begun behind : List Cycle) (part : Texts) → r.cycles ≡ begun ++ behind
+      → ArePiecesOf (begun_pieces a w begun behind) part
+      → new.made ≡ puts_all old.made (files a.names part)
+      → OnTrue spent.is_counted (spent.after ≤ spent.before + begun_visits a.tree r begun behind)
+      → Leaves a r w old new spent
