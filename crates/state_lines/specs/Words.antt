@@ -1,0 +1,8 @@
+-- Words of a line, each after a blank. Only private clauses name these.
+use Rattle.std.specs.Prelude.{List, ◌∷◌}
+use Rattle.std.specs.List.{flat_map}
+use Rattle.quantity.specs.Bytes.{Bytes}
+
+-- a blank before each word
+abbrev pub spaced : List Bytes → Bytes
+spaced ws = flat_map (λ w. 32 ∷ w) ws
