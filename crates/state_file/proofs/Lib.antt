@@ -1,0 +1,4 @@
+mod Lines
+mod Putting
+mod Reading
+mod Whole

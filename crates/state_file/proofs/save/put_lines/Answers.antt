@@ -1,0 +1,67 @@
+use Rattle.std.proofs.Common.{◌≡◌, ◌<◌, ◌≤◌, length, arith}
+use Rattle.model_tree.specs.Tree.{leaf_count}
+use Rattle.model_tree.specs.Models.{tree_of}
+use Rattle.model_tree.specs.Leaves.{no_settings}
+use Rattle.run_leaves.specs.Seated.{settings_at}
+use Rattle.state_lines.proofs.Appended.{kept_on}
+use Rattle.state_file.proofs.Lines.{one_more, all_lines, as_many, counted}
+use Rattle.state_file.proofs.save.put_lines.Goals as goal
+
+pub loop-leaf-preserved : goal.loop-leaf-preserved
+loop-leaf-preserved g c =
+    let m = c.args.run.now.model in
+    let st = settings_at c.args.run.now.settings in
+    let count : c.leaves-leaf-end.result ≡ leaf_count (tree_of m no_settings) =
+    counted m c.model.result.now no_settings c.leaves-leaf-end.result c.model.ensures
+    c.leaves-leaf-end.ensures in
+    let there : c.loop-leaf.leaf < leaf_count (tree_of m no_settings) =
+    omega (arith, count, c.loop-leaf-test.true) in
+    record {
+      appended = one_more m st c.args.run.now.state.leaf_states c.loop-leaf.leaf
+          c.args.into.now.items c.loop-leaf.into.items c.put_line.new.into.items c.requires.fits
+          there c.loop-leaf.invariant.appended c.in_ok-put_line.ensures.ok;
+      kept = kept_on c.args.into.now.items c.loop-leaf.into.items c.put_line.new.into.items
+          c.loop-leaf.invariant.kept c.in_ok-put_line.ensures.kept;
+      steps = omega (arith, c.loop-leaf.invariant.steps, c.in_ok-put_line.ensures.steps);
+    }
+
+pub returns-in_err-put_line-clause-steps : goal.returns-in_err-put_line-clause-steps
+returns-in_err-put_line-clause-steps g c =
+    let m = c.args.run.now.model in
+    let st = settings_at c.args.run.now.settings in
+    let count : c.leaves-leaf-end.result ≡ leaf_count (tree_of m st) =
+    counted m c.model.result.now st c.leaves-leaf-end.result c.model.ensures
+    c.leaves-leaf-end.ensures in
+    let long : length c.args.run.now.state.leaf_states ≡ leaf_count (tree_of m st) =
+    as_many m st c.args.run.now.state.leaf_states c.requires.fits in
+    omega (
+      arith,
+      count,
+      long,
+      c.loop-leaf-test.true,
+      c.loop-leaf.invariant.steps,
+      c.put_line.ensures.steps,
+    )
+
+pub returns-clause-ok : goal.returns-clause-ok
+returns-clause-ok g c =
+    let m = c.args.run.now.model in
+    let st = settings_at c.args.run.now.settings in
+    let count : c.leaves-leaf-end.result ≡ leaf_count (tree_of m st) =
+    counted m c.model.result.now st c.leaves-leaf-end.result c.model.ensures
+    c.leaves-leaf-end.ensures in
+    let past : leaf_count (tree_of m st) ≤ c.loop-leaf.leaf =
+    omega (arith, count, c.loop-leaf-test.false) in
+    all_lines m st c.args.run.now.state.leaf_states c.loop-leaf.leaf c.args.into.now.items
+    c.loop-leaf.into.items past c.loop-leaf.invariant.appended
+
+pub returns-clause-steps : goal.returns-clause-steps
+returns-clause-steps g c =
+    let m = c.args.run.now.model in
+    let st = settings_at c.args.run.now.settings in
+    let count : c.leaves-leaf-end.result ≡ leaf_count (tree_of m st) =
+    counted m c.model.result.now st c.leaves-leaf-end.result c.model.ensures
+    c.leaves-leaf-end.ensures in
+    let long : length c.args.run.now.state.leaf_states ≡ leaf_count (tree_of m st) =
+    as_many m st c.args.run.now.state.leaf_states c.requires.fits in
+    omega (arith, count, long, c.loop-leaf.auto.leaf-end, c.loop-leaf.invariant.steps)

@@ -1,0 +1,25 @@
+use Rattle.quantity.specs.Times.{time_text}
+use Rattle.flat_run.specs.Standing.{tree_in}
+use Rattle.state_lines.proofs.Appended.{append_keeps, kept_on, on_ok}
+use Rattle.state_file.proofs.Lines.{text_made}
+use Rattle.state_file.proofs.save.put_state.Goals as goal
+
+pub returns-clause-ok : goal.returns-clause-ok
+returns-clause-ok g c =
+    on_ok c.put-3.result _ _
+    (λ last.
+    text_made (tree_in c.args.run.now) c.args.at c.args.run.now.state.leaf_states
+    c.args.into.now.items c.put.new.into.items c.text.new.into.items c.put-2.new.into.items
+    c.put_lines.new.into.items c.put-3.new.into.items
+    c.in_ok-put.ensures.ok c.in_ok-text.ensures.ok c.in_ok-put-2.ensures.ok
+    c.in_ok-put_lines.ensures.ok last) c.put-3.ensures.ok
+
+pub returns-clause-kept : goal.returns-clause-kept
+returns-clause-kept g c =
+    kept_on c.args.into.now.items c.put_lines.new.into.items c.put-3.new.into.items
+    (kept_on c.args.into.now.items c.put-2.new.into.items c.put_lines.new.into.items
+    (kept_on c.args.into.now.items c.text.new.into.items c.put-2.new.into.items
+    (kept_on c.args.into.now.items c.put.new.into.items c.text.new.into.items c.put.ensures.kept
+    (append_keeps c.put.new.into.items c.text.new.into.items (time_text c.args.at)
+    c.in_ok-text.ensures.ok))
+    c.put-2.ensures.kept) c.put_lines.ensures.kept) c.put-3.ensures.kept

@@ -1,0 +1,176 @@
+// The text of the state of a run.
+ghost use Rattle.std.specs.Prelude.{◌≡◌, ◌+◌, ◌<◌, ◌≤◌, ◌++◌, None, Some, length, take, slice_get};
+ghost use Rattle.std.specs.Prelude.{IsTrue, OnOk, OnErr};
+ghost use Rattle.model_tree.specs.Tree.{Leaf, leaves};
+ghost use Rattle.model_tree.specs.Leaves.{IsLeafOf};
+ghost use Rattle.run_model.specs.Cycle.{LeafState};
+ghost use Rattle.run_model.specs.Fitting.{FitsTree};
+ghost use Rattle.text_forms.specs.StateText.{leaf_line, text_of_state};
+ghost use Rattle.sparse_cycle.specs.Sparse.{leaf_of};
+ghost use Rattle.run_leaves.specs.Seated.{is_box};
+ghost use Rattle.run_leaves.specs.Saved.{is_cell};
+ghost use Rattle.flat_run.specs.Standing.{tree_in};
+ghost use Rattle.state_file.specs.Lines.{line_ended, lines_of};
+
+use atomic_face::AtomicModel;
+use flat_run::{FlatRun, Steps};
+use model_tree::LeafAt;
+use quantity::{OutOfMemory, Time};
+use state_lines::{put_box, put_cell};
+use std::sync::ledger::Ledger;
+use time_queue::TimeQueue;
+
+/// Appends the text of the state in which a run stands, with this time: a line for each leaf, in
+/// declared order, each written from the one before on. A cell takes one visit, a box none. Where
+/// memory is refused, `into` stays as it was.
+pub fn save_state<Q: TimeQueue, M: AtomicModel, L: Ledger>(
+    run: &FlatRun<Q, M>,
+    at: Time,
+    into: &mut Vec<u8>,
+    steps: &mut Steps<L>,
+) -> Result<(), OutOfMemory>
+    requires goes { run.now.stopped ≡ None }
+    requires fits { FitsTree (tree_in run.now) run.now.state.leaf_states }
+    ensures ok { OnOk result (into.new.items
+        ≡ into.old.items ++ text_of_state (tree_in run.now) at run.now.state.leaf_states) }
+    ensures err { OnErr result (into.new.items ≡ into.old.items) }
+    ensures steps { steps.new ≤ steps.old + length run.now.state.leaf_states }
+{
+    let before = into.len();
+    let done = put_state(run, at, into, steps);
+    if done.is_err() {
+        into.truncate(before);
+    }
+    done
+}
+
+/// The same; a refusal may leave more behind what was there.
+fn put_state<Q: TimeQueue, M: AtomicModel, L: Ledger>(
+    run: &FlatRun<Q, M>,
+    at: Time,
+    into: &mut Vec<u8>,
+    steps: &mut Steps<L>,
+) -> Result<(), OutOfMemory>
+    requires goes { run.now.stopped ≡ None }
+    requires fits { FitsTree (tree_in run.now) run.now.state.leaf_states }
+    ensures ok { OnOk result (into.new.items
+        ≡ into.old.items ++ text_of_state (tree_in run.now) at run.now.state.leaf_states) }
+    ensures kept { take (length into.old.items) into.new.items ≡ into.old.items }
+    ensures steps { steps.new ≤ steps.old + length run.now.state.leaf_states }
+{
+    put(b"state 1\nat ", into)?;
+    at.text(into)?;
+    put(b"\n", into)?;
+    put_lines(run, into, steps)?;
+    put(b"end\n", into)
+}
+
+/// Appends the lines of all leaves.
+fn put_lines<Q: TimeQueue, M: AtomicModel, L: Ledger>(
+    run: &FlatRun<Q, M>,
+    into: &mut Vec<u8>,
+    steps: &mut Steps<L>,
+) -> Result<(), OutOfMemory>
+    requires goes { run.now.stopped ≡ None }
+    requires fits { FitsTree (tree_in run.now) run.now.state.leaf_states }
+    ensures ok { OnOk result (into.new.items
+        ≡ into.old.items ++ lines_of (leaves (tree_in run.now)) run.now.state.leaf_states) }
+    ensures kept { take (length into.old.items) into.new.items ≡ into.old.items }
+    ensures steps { steps.new ≤ steps.old + length run.now.state.leaf_states }
+{
+    for leaf in 0..run.model().leaves() {
+        put_line(run, leaf, into, steps)?;
+    }
+    Ok(())
+}
+
+/// Appends the line of a leaf.
+fn put_line<Q: TimeQueue, M: AtomicModel, L: Ledger>(
+    run: &FlatRun<Q, M>,
+    leaf: u32,
+    into: &mut Vec<u8>,
+    steps: &mut Steps<L>,
+) -> Result<(), OutOfMemory>
+    requires goes { run.now.stopped ≡ None }
+    requires fits { FitsTree (tree_in run.now) run.now.state.leaf_states }
+    requires leaf { IsLeafOf run.now.model leaf }
+    ensures ok { OnOk result ((l : Leaf) (s : LeafState)
+        → slice_get (leaves (tree_in run.now)) leaf ≡ Some l
+        → slice_get run.now.state.leaf_states leaf ≡ Some s
+        → into.new.items ≡ into.old.items ++ line_ended (l, s)) }
+    ensures kept { take (length into.old.items) into.new.items ≡ into.old.items }
+    ensures steps { steps.new ≤ steps.old + 1 }
+{
+    put_text(run, leaf, into, steps)?;
+    put(b"\n", into)
+}
+
+/// Appends the line of a leaf, without its end.
+fn put_text<Q: TimeQueue, M: AtomicModel, L: Ledger>(
+    run: &FlatRun<Q, M>,
+    leaf: u32,
+    into: &mut Vec<u8>,
+    steps: &mut Steps<L>,
+) -> Result<(), OutOfMemory>
+    requires goes { run.now.stopped ≡ None }
+    requires fits { FitsTree (tree_in run.now) run.now.state.leaf_states }
+    requires leaf { IsLeafOf run.now.model leaf }
+    ensures ok { OnOk result ((l : Leaf) → slice_get (leaves (tree_in run.now)) leaf ≡ Some l
+        → into.new.items
+        ≡ into.old.items ++ leaf_line l (leaf_of run.now.state.leaf_states leaf)) }
+    ensures kept { take (length into.old.items) into.new.items ≡ into.old.items }
+    ensures steps { steps.new ≤ steps.old + 1 }
+{
+    match run.model().leaf_at(leaf) {
+        LeafAt::Cell { group: _, cell: _ } => put_cell_of(run, leaf, into, steps),
+        LeafAt::Atomic(_) => put_box_of(run, leaf, into),
+    }
+}
+
+/// Appends the line of a cell, without its end.
+fn put_cell_of<Q: TimeQueue, M: AtomicModel, L: Ledger>(
+    run: &FlatRun<Q, M>,
+    leaf: u32,
+    into: &mut Vec<u8>,
+    steps: &mut Steps<L>,
+) -> Result<(), OutOfMemory>
+    requires goes { run.now.stopped ≡ None }
+    requires leaf { IsLeafOf run.now.model leaf }
+    requires cell { IsTrue (is_cell (leaf_of run.now.state.leaf_states leaf)) }
+    requires within { leaf < length run.now.state.leaf_states }
+    ensures ok { OnOk result ((l : Leaf) → slice_get (leaves (tree_in run.now)) leaf ≡ Some l
+        → into.new.items
+        ≡ into.old.items ++ leaf_line l (leaf_of run.now.state.leaf_states leaf)) }
+    ensures kept { take (length into.old.items) into.new.items ≡ into.old.items }
+    ensures steps { steps.new ≡ steps.old + 1 }
+{
+    let state = run.cell_state(leaf, steps)?;
+    put_cell(leaf, run.model(), &state, into)
+}
+
+/// Appends the line of a box, without its end.
+fn put_box_of<Q: TimeQueue, M: AtomicModel>(
+    run: &FlatRun<Q, M>,
+    leaf: u32,
+    into: &mut Vec<u8>,
+) -> Result<(), OutOfMemory>
+    requires goes { run.now.stopped ≡ None }
+    requires leaf { IsLeafOf run.now.model leaf }
+    requires boxed { IsTrue (is_box (leaf_of run.now.state.leaf_states leaf)) }
+    ensures ok { OnOk result ((l : Leaf) → slice_get (leaves (tree_in run.now)) leaf ≡ Some l
+        → into.new.items
+        ≡ into.old.items ++ leaf_line l (leaf_of run.now.state.leaf_states leaf)) }
+    ensures kept { take (length into.old.items) into.new.items ≡ into.old.items }
+{
+    let words = run.box_state(leaf)?;
+    put_box(leaf, run.model(), &words, into)
+}
+
+/// Appends a text.
+fn put(text: &[u8], into: &mut Vec<u8>) -> Result<(), OutOfMemory>
+    ensures ok { OnOk result (into.new.items ≡ into.old.items ++ text.now) }
+    ensures kept { take (length into.old.items) into.new.items ≡ into.old.items }
+{
+    into.extend_from_slice(text)?;
+    Ok(())
+}
