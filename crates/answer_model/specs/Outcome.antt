@@ -8,7 +8,8 @@ use Rattle.quantity.specs.Bytes.{Bytes}
 use Rattle.room_edge.specs.Faults.{Rose}
 use Rattle.room_edge.specs.Outside.{Outside, streams}
 use Rattle.answer_model.specs.Answer.{MadeFiles, names, Answer, read_fault_line, write_fault_line}
-use Rattle.answer_model.specs.Headline.{puts_all, Begins, FallsShort, BeginFiles, Writes, WritesPart, TriesPart, WritesNothing}
+use Rattle.answer_model.specs.Headline.{puts_all, Begins, FallsShort, BeginFiles, Writes, WritesPart}
+use Rattle.answer_model.specs.Headline.{TriesPart, WritesNothing}
 use Rattle.answer_model.specs.declared.status.Status.{Status}
 use Rattle.answer_model.specs.declared.status.Status.TheVariants.{ReadFault, WriteFault, NoMemory}
 use Rattle.answer_model.specs.Status.{Part, row_of, of_faults, of_words, IsOf, IsCaused}

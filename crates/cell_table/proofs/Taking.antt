@@ -1,8 +1,8 @@
 -- What a cell takes at its ports.
-use Rattle.std.proofs.Common.{◌≡◌, ℕ, zero, suc, ◌<◌, ◌≤◌, Option, None, List, [], ◌∷◌, map, length, get_or, set, refl, sym, ◌∙◌, ap, subst, arith, Bool, true, false, Ok, Err}
+use Rattle.std.proofs.Common.{◌≡◌, ℕ, zero, suc, ◌<◌, ◌≤◌, Option, None, List, [], ◌∷◌, map, length, get_or, set, take, refl, sym, ◌∙◌, ap, subst, arith, Bool, true, false, Ok, Err}
 use Rattle.std.specs.Prelude.{OnOk, OnErr, if◌then◌else◌}
 use Rattle.std.specs.declared.result.Result.{Result}
-use Rattle.std.proofs.lemmas.List.{set-set, set-get_or}
+use Rattle.std.proofs.lemmas.List.{set-set, set-get_or, get_or-take}
 use Rattle.quantity.specs.declared.value.Value.{Value}
 use Rattle.rule_tree.specs.Ports.{changed_at, taken_at, taken_by_port}
 use Rattle.quantity.specs.Arithmetic.{same_value}
@@ -10,7 +10,7 @@ use Rattle.quantity.specs.declared.delay.DelayKind.{DelayKind}
 use Rattle.quantity.specs.Delay.{delayed}
 use Rattle.run_model.specs.CellStep.{PortState, CellState, port_took}
 use Rattle.cell_table.specs.Told.{no_cell, cell_at, emitted_of, OnlyCell}
-use Rattle.cell_table.specs.Table.{Table, HasShape, changed_cell, changed_port}
+use Rattle.cell_table.specs.Table.{Table, HasShape, TookFirst, changed_cell, changed_port, changed_ports}
 use Rattle.cell_table.proofs.Changes.{changed-alike, changed-past, changed-twice, changed-set, changed-here, length-changed}
 
 abbrev emitted_part : PortState → Value
@@ -149,3 +149,72 @@ pub given_taken : (take : Value → PortState → PortState) (vs : List (Option 
     → changed_at 3 (taken_at take d) (changed_at 2 (taken_at take c) (changed_at 1 (taken_at take b) (changed_at 0 (taken_at take a) ps))) ≡ taken_by_port take vs ps
 given_taken take vs a b c d ps h ea eb ec ed =
     (λ k. changed_at 3 (taken_at take (ed k)) (changed_at 2 (taken_at take (ec k)) (changed_at 1 (taken_at take (eb k)) (changed_at 0 (taken_at take (ea k)) ps)))) ∙ each_taken take vs ps h
+
+-- ---- the first ports alone
+
+-- what holds in any case holds of a refusal
+pub if_err : {U E P : Type 0} (r : Result U E) → P → OnErr r P
+if_err (Ok x) p = tt
+if_err (Err e) p = p
+
+-- past the first values of a list there is none
+none_past : (n k : ℕ) (vs : List (Option Value)) → n ≤ k → get_or (take n vs) k None ≡ None
+none_past zero k [] h = refl
+none_past zero k (v ∷ vs) h = refl
+none_past (suc n) k [] h = refl
+none_past (suc n) zero (v ∷ vs) h = absurd (omega (arith, h))
+none_past (suc n) (suc k) (v ∷ vs) h = none_past n k vs (omega (arith, h))
+
+module _ (give : Value → PortState → PortState) (vs : List (Option Value)) (i : ℕ) (t : Table) where
+  pub none_took : (u : Table) → u ≡ t → TookFirst give vs i t u
+  none_took u e =
+      let same = changed_to_same i (changed_ports (taken_by_port give [])) no_cell t.cells refl in
+      record { count = 0; table = e ∙ sym (λ k. record t { cells = same k }) }
+
+  pub none_if_refused : {U E : Type 0} (r : Result U E) (u : Table) → OnErr r (u ≡ t) → OnErr r (TookFirst give vs i t u)
+  none_if_refused (Ok x) u h = tt
+  none_if_refused (Err e) u h = none_took u h
+
+  first_taken : (n : ℕ) (a b c d : Option Value) → length (cell_at t.cells i).ports ≤ 4
+      → a ≡ get_or (take n vs) 0 None → b ≡ get_or (take n vs) 1 None → c ≡ get_or (take n vs) 2 None → d ≡ get_or (take n vs) 3 None
+      → changed_port 3 (taken_at give d) (changed_port 2 (taken_at give c) (changed_port 1 (taken_at give b) (changed_port 0 (taken_at give a) (cell_at t.cells i))))
+      ≡ changed_ports (taken_by_port give (take n vs)) (cell_at t.cells i)
+  first_taken n a b c d few ea eb ec ed =
+      ap (λ ps. record (cell_at t.cells i) { ports = ps }) (given_taken give (take n vs) a b c d (cell_at t.cells i).ports few ea eb ec ed)
+
+  -- a value before the first n
+  early : (n k : ℕ) (v : Option Value) → k < n → v ≡ get_or vs k None → v ≡ get_or (take n vs) k None
+  early n k v lt e = e ∙ sym (get_or-take n vs k None lt)
+
+  late : (n k : ℕ) → n ≤ k → None ≡ get_or (take n vs) k None
+  late n k le = sym (none_past n k vs le)
+
+  pub one_took : (a : Option Value) (u : Table) → length (cell_at t.cells i).ports ≤ 4 → a ≡ get_or vs 0 None
+      → u ≡ changed_cell i (changed_port 0 (taken_at give a)) t → TookFirst give vs i t u
+  one_took a u few ea e =
+      record {
+        count = 1;
+        table = four_changes i (changed_port 0 (taken_at give a)) (changed_port 1 (taken_at give None)) (changed_port 2 (taken_at give None)) (changed_port 3 (taken_at give None))
+            (changed_ports (taken_by_port give (take 1 vs))) t u u u u e (sym (none_taken give i 1 u)) (sym (none_taken give i 2 u)) (sym (none_taken give i 3 u))
+            (first_taken 1 a None None None few (early 1 0 a (omega arith) ea) (late 1 1 (omega arith)) (late 1 2 (omega arith)) (late 1 3 (omega arith)));
+      }
+
+  pub two_took : (a b : Option Value) (u w : Table) → length (cell_at t.cells i).ports ≤ 4 → a ≡ get_or vs 0 None → b ≡ get_or vs 1 None
+      → u ≡ changed_cell i (changed_port 0 (taken_at give a)) t → w ≡ changed_cell i (changed_port 1 (taken_at give b)) u → TookFirst give vs i t w
+  two_took a b u w few ea eb e f =
+      record {
+        count = 2;
+        table = four_changes i (changed_port 0 (taken_at give a)) (changed_port 1 (taken_at give b)) (changed_port 2 (taken_at give None)) (changed_port 3 (taken_at give None))
+            (changed_ports (taken_by_port give (take 2 vs))) t u w w w e f (sym (none_taken give i 2 w)) (sym (none_taken give i 3 w))
+            (first_taken 2 a b None None few (early 2 0 a (omega arith) ea) (early 2 1 b (omega arith) eb) (late 2 2 (omega arith)) (late 2 3 (omega arith)));
+      }
+
+  pub three_took : (a b c : Option Value) (u w x : Table) → length (cell_at t.cells i).ports ≤ 4 → a ≡ get_or vs 0 None → b ≡ get_or vs 1 None → c ≡ get_or vs 2 None
+      → u ≡ changed_cell i (changed_port 0 (taken_at give a)) t → w ≡ changed_cell i (changed_port 1 (taken_at give b)) u → x ≡ changed_cell i (changed_port 2 (taken_at give c)) w → TookFirst give vs i t x
+  three_took a b c u w x few ea eb ec e f g =
+      record {
+        count = 3;
+        table = four_changes i (changed_port 0 (taken_at give a)) (changed_port 1 (taken_at give b)) (changed_port 2 (taken_at give c)) (changed_port 3 (taken_at give None))
+            (changed_ports (taken_by_port give (take 3 vs))) t u w x x e f g (sym (none_taken give i 3 x))
+            (first_taken 3 a b c None few (early 3 0 a (omega arith) ea) (early 3 1 b (omega arith) eb) (early 3 2 c (omega arith) ec) (late 3 3 (omega arith)));
+      }

@@ -4,7 +4,7 @@ use Rattle.std.specs.List.{All, range_with_len}
 use Rattle.quantity.specs.declared.bounds.TheConstants.{MAX_CELLS}
 use Rattle.quantity.specs.declared.value.Value.{Value}
 use Rattle.quantity.specs.declared.value.Value.TheVariants.{Undefined}
-use Rattle.rule_tree.specs.Ports.{changed_at}
+use Rattle.rule_tree.specs.Ports.{changed_at, taken_by_port}
 use Rattle.atomic_face.specs.Classes.{is_at}
 use Rattle.run_model.specs.CellStep.{PortState, CellState, first_time, port_emitted, initial_port}
 use Rattle.run_model.specs.Fitting.{HasNumbers}
@@ -84,6 +84,13 @@ changed_ports change c = record c { ports = change c.ports }
 -- the variables of a cell have these values
 abbrev pub with_variables : List Value → CellState → CellState
 with_variables values c = record c { variables = values }
+
+-- so many of a cell's ports, the first ones, have taken what was given to them, and nothing else
+-- has changed
+pub record TookFirst (give : Value → PortState → PortState) (vs : List (Option Value)) (i : ℕ)
+    (old new : Table) : Type 0 where
+  pub count : ℕ
+  pub table : new ≡ changed_cell i (changed_ports (taken_by_port give (take count vs))) old
 
 -- cells of the same numbers of ports and variables
 pub record HasShape (old new : Table) : Type 0 where

@@ -10,6 +10,7 @@ ghost use Rattle.run_model.specs.CellStep.{first_time, least, port_emitted, port
 ghost use Rattle.cell_table.specs.Told.{Tells, bag_of_given, if_given, cell_at, emitted_of, computed_of};
 ghost use Rattle.cell_table.specs.Told.{OnlyCell};
 ghost use Rattle.delay_lines.specs.Lists.{list_of, ChangesList};
+ghost use Rattle.cell_table.specs.Table.{TookFirst};
 ghost use Rattle.cell_table.specs.Table.{starting, waits_at_0, pair_at, IsTable, HasShape, with_variables, changed_cell, changed_port, changed_ports, port_at, given_by_port};
 
 use crate::Cell;
@@ -315,6 +316,7 @@ impl CellTable {
         requires cell { i < length self.old.cells }
         ensures ok { OnOk result (self.new
             ≡ changed_cell i (changed_port p (taken_at (port_took kind at) given)) self.old) }
+        ensures err { OnErr result (self.new ≡ self.old) }
         ensures only { OnlyCell i self.old.cells self.new.cells }
         ensures shape { HasShape self.old self.new }
     {
@@ -325,8 +327,8 @@ impl CellTable {
         }
     }
 
-    /// Each port of a cell takes what is given to it. Without memory some ports may have taken
-    /// theirs.
+    /// Each port of a cell takes what is given to it, port after port. Where memory is refused, the
+    /// ports before the refused one have taken theirs, and no others.
     #[inline(always)]
     pub fn take(
         &mut self,
@@ -339,6 +341,8 @@ impl CellTable {
         ensures ok { OnOk result (self.new
             ≡ changed_cell i (changed_ports (taken_by_port
             (port_took kind at) given.now.values)) self.old) }
+        ensures err { OnErr result
+            (TookFirst (port_took kind at) given.now.values i self.old self.new) }
         ensures only { OnlyCell i self.old.cells self.new.cells }
         ensures shape { HasShape self.old self.new }
     {
@@ -363,6 +367,8 @@ impl CellTable {
         requires cell { i < length self.old.cells }
         ensures ok { OnOk result (self.new ≡ changed_cell i
             (changed_ports (taken_by_port (port_took kind at) given.now.values)) self.old) }
+        ensures err { OnErr result
+            (TookFirst (port_took kind at) given.now.values i self.old self.new) }
         ensures only { OnlyCell i self.old.cells self.new.cells }
         ensures shape { HasShape self.old self.new }
     {

@@ -1,8 +1,8 @@
 -- One leaf more that has given.
 use Rattle.std.specs.Prelude.{not}
-use Rattle.std.proofs.Common.{◌≡◌, ℕ, ◌+◌, ◌<◌, ◌≤◌, Bool, true, false, cond, List, [], ◌∷◌, ◌++◌, map, length, drop, set, get_or, refl, sym, ◌∙◌, ap, subst, append_assoc, append-nil, arith, length-append}
+use Rattle.std.proofs.Common.{◌≡◌, ℕ, ◌+◌, ◌<◌, ◌≤◌, Bool, true, false, cond, List, [], ◌∷◌, ◌++◌, map, length, take, drop, set, get_or, refl, sym, ◌∙◌, ap, subst, append_assoc, append-nil, arith, length-append}
 use Rattle.std.specs.Prelude.{Some}
-use Rattle.std.proofs.lemmas.List.{map-append, drop_more, drop_all}
+use Rattle.std.proofs.lemmas.List.{map-append, take_more, drop_more, drop_all}
 use Rattle.atomic_face.specs.Classes.{Bag}
 use Rattle.run_model.specs.Cycle.{LeafState, leaf_next, leaf_emitted, collected_of}
 use Rattle.run_model.specs.Run.{PortRecord, port_records, is_of_out}
@@ -95,6 +95,18 @@ pub can-more : (t i : ℕ) (due : List ℕ) (now next : List LeafState) → i < 
 can-more t i due now next lt is h =
     let here = subst (λ (ls : List ℕ). CanCollect t ls now) (drop_more due i 0 lt) h in
     subst (CanCollect t (drop (i + 1) due)) (sym is) here.1
+
+gave-one : (t : ℕ) (ls : List ℕ) (l : ℕ) (states : List LeafState)
+    → (collect_each t (ls ++ l ∷ []) states).leaf_states ≡ set (collect_each t ls states).leaf_states l (leaf_emitted t (leaf_of (collect_each t ls states).leaf_states l))
+gave-one t [] l states = refl
+gave-one t (x ∷ xs) l states = gave-one t xs l (set states x (leaf_emitted t (leaf_of states x)))
+
+pub gave-more : (t i : ℕ) (due : List ℕ) (old now next : List LeafState) → i < length due → now ≡ (collect_each t (take i due) old).leaf_states
+    → next ≡ set now (get_or due i 0) (leaf_emitted t (leaf_of now (get_or due i 0))) → next ≡ (collect_each t (take (i + 1) due) old).leaf_states
+gave-more t i due old now next lt here is =
+    let l = get_or due i 0 in
+    is ∙ ap (λ (at : List LeafState). set at l (leaf_emitted t (leaf_of at l))) here ∙ sym (gave-one t (take i due) l old)
+    ∙ ap (λ (ls : List ℕ). (collect_each t ls old).leaf_states) (sym (take_more due i 0 lt))
 
 -- ---- at the loop's start and at its end
 

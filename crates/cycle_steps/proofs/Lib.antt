@@ -2,6 +2,7 @@ mod Gathered
 mod Marked
 mod Picked
 mod Runs
+mod Growth
 mod Reached
 mod Bags
 mod Steps

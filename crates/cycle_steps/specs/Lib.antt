@@ -3,6 +3,7 @@ pub mod Gathering
 pub mod Marking
 pub mod Watching
 pub mod Keeping
+pub mod Growing
 pub mod Routed
 pub mod Leading
 pub mod Moving

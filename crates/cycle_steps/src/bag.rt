@@ -1,5 +1,5 @@
 // The bag of a leaf, from X records that stand by rising leaf.
-ghost use Rattle.std.specs.Prelude.{◌≡◌, ◌<◌, ◌≤◌, ◌++◌, [], ℕ, OnOk, length, slice_index_or};
+ghost use Rattle.std.specs.Prelude.{◌≡◌, ◌<◌, ◌≤◌, ◌++◌, [], ℕ, OnOk, OnErr, length, slice_index_or};
 ghost use Rattle.std.specs.List.{All};
 ghost use Rattle.std.specs.List.Sorted.{IsNonDecreasingBy};
 ghost use Rattle.record_text.specs.declared.records.XRecord.{XRecord as AnyXRecord};
@@ -10,17 +10,22 @@ use atomic_face::PortNo;
 use quantity::{OutOfMemory, Value};
 use record_text::XRecord;
 
-/// Puts the bag of a leaf into an empty list.
+/// Puts the bag of a leaf into an empty list, which stays empty where memory is refused.
 pub fn bag_at(x: &[XRecord], leaf: u32, into: &mut Vec<(PortNo, Value)>) -> Result<(), OutOfMemory>
     requires rise { IsNonDecreasingBy (λ (r : AnyXRecord). r.leaf) x.now }
     requires empty { into.old.items ≡ [] }
-    ensures { OnOk result (into.new.items ≡ bag_in (x_records x.now) leaf) }
+    ensures ok { OnOk result (into.new.items ≡ bag_in (x_records x.now) leaf) }
+    ensures err { OnErr result (into.new.items ≡ into.old.items) }
 {
     if x.is_empty() {
         return Ok(());
     }
     let first = first_fed(x, leaf);
-    append_bag(leaf, &x[first..], into)
+    let Ok(()) = append_bag(leaf, &x[first..], into) else {
+        into.clear();
+        return Err(OutOfMemory);
+    };
+    Ok(())
 }
 
 /// The number of X records before those of a leaf.

@@ -1,12 +1,12 @@
 // The loop over the due leaves.
-ghost use Rattle.std.specs.Prelude.{◌≡◌, ◌≤◌, ◌+◌, ◌++◌, ◌∷◌, [], ℕ, Some, List, OnOk, map, length, slice_set};
+ghost use Rattle.std.specs.Prelude.{◌≡◌, ◌≤◌, ◌+◌, ◌++◌, ◌∷◌, [], ℕ, Some, List, OnOk, OnErr, map, length, slice_set};
 ghost use Rattle.run_model.specs.Cycle.{LeafState, leaf_next, leaf_emitted, collected_of};
 ghost use Rattle.model_tree.specs.Tree.{Tree as AnyTree};
 ghost use Rattle.run_model.specs.Run.{port_records};
 ghost use Rattle.record_text.specs.Held.{y_at};
 ghost use Rattle.sparse_cycle.specs.Sparse.{leaf_of};
 ghost use Rattle.sparse_cycle.specs.Collect.{CanCollect, collect_each, giver_in, y_of, n_of};
-ghost use Rattle.cycle_steps.specs.Gathering.{Collects, values_in};
+ghost use Rattle.cycle_steps.specs.Gathering.{Collects, GaveFirst, values_in};
 
 use crate::leaves::Leaves;
 use atomic_face::PortNo;
@@ -14,8 +14,8 @@ use quantity::{OutOfMemory, Time, Value};
 use record_text::YRecord;
 
 /// Asks each due leaf: what they gave as Y and N records, the leaves that gave something, and how
-/// all leaves stand then.
-/// No more visits are counted than values are given, also where memory ends.
+/// all leaves stand then. Where memory is refused, the first of them have given, and the lists stay
+/// empty. No more visits are counted than values are given, also where memory ends.
 pub fn collect<C, G: Leaves<C>>(
     leaves: &mut G,
     due: &[u32],
@@ -39,6 +39,45 @@ pub fn collect<C, G: Leaves<C>>(
     ensures most { OnOk result (G.most leaves.new ≡ G.most leaves.old) }
     ensures visits { G.visits counter.new
         ≤ G.visits counter.old + values_in (collect_each t due.now (G.states leaves.old)) }
+    ensures gave { GaveFirst t due.now (G.states leaves.old) (G.states leaves.new) }
+    ensures y_kept { OnErr result (y.new.items ≡ y.old.items) }
+    ensures n_kept { OnErr result (n.new.items ≡ n.old.items) }
+    ensures givers_kept { OnErr result (givers.new.items ≡ givers.old.items) }
+{
+    let Ok(()) = collect_all(leaves, due, t, bag, y, n, givers, counter) else {
+        y.clear();
+        n.clear();
+        givers.clear();
+        return Err(OutOfMemory);
+    };
+    Ok(())
+}
+
+/// The same where the lists may hold a part.
+fn collect_all<C, G: Leaves<C>>(
+    leaves: &mut G,
+    due: &[u32],
+    t: Time,
+    bag: &mut Vec<(PortNo, Value)>,
+    y: &mut Vec<YRecord>,
+    n: &mut Vec<YRecord>,
+    givers: &mut Vec<u32>,
+    counter: &mut C,
+) -> Result<(), OutOfMemory>
+    requires due { CanCollect t due.now (G.states leaves.old) }
+    requires y { y.old.items ≡ [] }
+    requires n { n.old.items ≡ [] }
+    requires givers { givers.old.items ≡ [] }
+    ensures collected { OnOk result (Collects t (collect_each t due.now (G.states leaves.old))
+        y.new.items n.new.items givers.new.items (G.states leaves.new)) }
+    ensures stands { (tree : AnyTree) → G.stands_for leaves.old tree
+        → OnOk result (G.stands_for leaves.new tree) }
+    ensures kept { G.kept leaves.new ≡ G.kept leaves.old }
+    ensures ports { OnOk result (G.ports leaves.new ≡ G.ports leaves.old) }
+    ensures most { OnOk result (G.most leaves.new ≡ G.most leaves.old) }
+    ensures visits { G.visits counter.new
+        ≤ G.visits counter.old + values_in (collect_each t due.now (G.states leaves.old)) }
+    ensures gave { GaveFirst t due.now (G.states leaves.old) (G.states leaves.new) }
 {
     for leaf in due {
         bag.clear();

@@ -1,10 +1,11 @@
 // What reaches the leaves and the outputs of top.
-ghost use Rattle.std.specs.Prelude.{◌≡◌, ◌<◌, ◌≤◌, ◌++◌, ◌∷◌, [], ℕ, List, OnOk, length, map, slice_index_or};
+ghost use Rattle.std.specs.Prelude.{◌≡◌, ◌<◌, ◌≤◌, ◌++◌, ◌∷◌, [], ℕ, List, OnOk, OnErr, length, map, slice_index_or};
 ghost use Rattle.std.specs.List.{All};
 ghost use Rattle.std.specs.List.Sorted.{IsNonDecreasingBy};
 ghost use Rattle.record_text.specs.declared.records.YRecord.{YRecord as AnyYRecord};
 ghost use Rattle.record_text.specs.Held.{x_at, out_at};
 ghost use Rattle.sparse_cycle.specs.Feed.{values_of_leaf};
+ghost use Rattle.cycle_steps.specs.Growing.{Grown};
 ghost use Rattle.cycle_steps.specs.Untimed.{y_records};
 ghost use Rattle.cycle_steps.specs.Routed.{values_at, values_of_input, fed_to, out_to, fed_in, out_in};
 
@@ -15,7 +16,7 @@ use record_text::{OutRecord, XRecord, YRecord};
 use route_flat::{Path, Source, TargetPort};
 
 /// Appends what these Y records, which stand by rising leaf, and these inputs bring by the paths of
-/// these numbers.
+/// these numbers. Where memory is refused, both lists are as before.
 pub fn feed<R: Routing>(
     routes: &R,
     numbers: &[u32],
@@ -33,6 +34,39 @@ pub fn feed<R: Routing>(
     ensures out { OnOk result (out.new.items ≡ out.old.items
         ++ map (out_at t) (out_in (values_at (y_records y.now) inputs.now)
         (R.paths routes.now) numbers.now)) }
+    ensures x_kept { OnErr result (x.new.items ≡ x.old.items) }
+    ensures out_kept { OnErr result (out.new.items ≡ out.old.items) }
+{
+    let x_len = x.len();
+    let out_len = out.len();
+    let Ok(()) = feed_all(routes, numbers, t, y, inputs, x, out) else {
+        x.truncate(x_len);
+        out.truncate(out_len);
+        return Err(OutOfMemory);
+    };
+    Ok(())
+}
+
+/// The same where memory may be refused in between.
+fn feed_all<R: Routing>(
+    routes: &R,
+    numbers: &[u32],
+    t: Time,
+    y: &[YRecord],
+    inputs: &[(u16, Value)],
+    x: &mut Vec<XRecord>,
+    out: &mut Vec<OutRecord>,
+) -> Result<(), OutOfMemory>
+    requires within { All (λ k. k < length (R.paths routes.now)) numbers.now }
+    requires rise { IsNonDecreasingBy (λ (r : AnyYRecord). r.leaf) y.now }
+    ensures x { OnOk result (x.new.items ≡ x.old.items
+        ++ map (x_at t) (fed_in (values_at (y_records y.now) inputs.now)
+        (R.paths routes.now) numbers.now)) }
+    ensures out { OnOk result (out.new.items ≡ out.old.items
+        ++ map (out_at t) (out_in (values_at (y_records y.now) inputs.now)
+        (R.paths routes.now) numbers.now)) }
+    ensures x_grows { Grown x.old.items x.new.items }
+    ensures out_grows { Grown out.old.items out.new.items }
 {
     for k in numbers {
         let path = routes.path(*k);
@@ -57,6 +91,8 @@ fn append_path(
     ensures out { OnOk result (out.new.items
         ≡ out.old.items
         ++ map (out_at t) (out_to path.to (values_at (y_records y.now) inputs.now path.from))) }
+    ensures x_grows { Grown x.old.items x.new.items }
+    ensures out_grows { Grown out.old.items out.new.items }
 {
     match path.from {
         Source::Leaf(leaf) => append_from_leaf(leaf, path.to, t, y, x, out),
@@ -78,6 +114,8 @@ fn append_from_leaf(
         ≡ x.old.items ++ map (x_at t) (fed_to to (values_of_leaf (y_records y.now) leaf))) }
     ensures out { OnOk result (out.new.items
         ≡ out.old.items ++ map (out_at t) (out_to to (values_of_leaf (y_records y.now) leaf))) }
+    ensures x_grows { Grown x.old.items x.new.items }
+    ensures out_grows { Grown out.old.items out.new.items }
 {
     let first = first_of(y, leaf);
     append_run(leaf, to, t, &y[first..], x, out)
@@ -110,6 +148,8 @@ fn append_run(
         ≡ x.old.items ++ map (x_at t) (fed_to to (values_of_leaf (y_records rest.now) leaf))) }
     ensures out { OnOk result (out.new.items
         ≡ out.old.items ++ map (out_at t) (out_to to (values_of_leaf (y_records rest.now) leaf))) }
+    ensures x_grows { Grown x.old.items x.new.items }
+    ensures out_grows { Grown out.old.items out.new.items }
 {
     for r in rest {
         if r.leaf != leaf {
@@ -133,6 +173,8 @@ fn append_from_input(
         ≡ x.old.items ++ map (x_at t) (fed_to to (values_of_input inputs.now input))) }
     ensures out { OnOk result (out.new.items
         ≡ out.old.items ++ map (out_at t) (out_to to (values_of_input inputs.now input))) }
+    ensures x_grows { Grown x.old.items x.new.items }
+    ensures out_grows { Grown out.old.items out.new.items }
 {
     for e in inputs {
         append_if_from(input, to, t, e.0, e.1, x, out)?;
@@ -154,6 +196,8 @@ fn append_if_from(
         ≡ x.old.items ++ map (x_at t) (fed_to to (values_of_input ((at, value) ∷ []) input))) }
     ensures out { OnOk result (out.new.items
         ≡ out.old.items ++ map (out_at t) (out_to to (values_of_input ((at, value) ∷ []) input))) }
+    ensures x_grows { Grown x.old.items x.new.items }
+    ensures out_grows { Grown out.old.items out.new.items }
 {
     if at == input {
         return append_value(to, t, value, x, out);
@@ -172,6 +216,8 @@ fn append_value(
     ensures x { OnOk result (x.new.items ≡ x.old.items ++ map (x_at t) (fed_to to (value ∷ []))) }
     ensures out { OnOk result (out.new.items
         ≡ out.old.items ++ map (out_at t) (out_to to (value ∷ []))) }
+    ensures x_grows { Grown x.old.items x.new.items }
+    ensures out_grows { Grown out.old.items out.new.items }
 {
     match to {
         TargetPort::Leaf(leaf, port) => append_x(t, leaf, port, value, x),
@@ -187,8 +233,9 @@ fn append_x(
     value: Value,
     x: &mut Vec<XRecord>,
 ) -> Result<(), OutOfMemory>
-    ensures { OnOk result (x.new.items
+    ensures ok { OnOk result (x.new.items
         ≡ x.old.items ++ record { time = time; leaf = leaf; port = port; value = value } ∷ []) }
+    ensures grows { Grown x.old.items x.new.items }
 {
     let Ok(()) = x.push(XRecord {
         time,
@@ -208,8 +255,9 @@ fn append_out(
     value: Value,
     out: &mut Vec<OutRecord>,
 ) -> Result<(), OutOfMemory>
-    ensures { OnOk result (out.new.items
+    ensures ok { OnOk result (out.new.items
         ≡ out.old.items ++ record { time = time; port = port; value = value } ∷ []) }
+    ensures grows { Grown out.old.items out.new.items }
 {
     let Ok(()) = out.push(OutRecord { time, port, value }) else {
         return Err(OutOfMemory);

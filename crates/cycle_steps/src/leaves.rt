@@ -5,7 +5,7 @@ use quantity::{OutOfMemory, Time, Value};
 
 /// Leaves of which one at a time can be asked for its output, and then to move. `C` counts visits.
 pub trait Leaves<C> {
-    ghost use Rattle.std.specs.Prelude.{◌≡◌, ◌<◌, ◌≤◌, ◌+◌, [], ℕ, Some, List, OnOk, length, slice_get, slice_set};
+    ghost use Rattle.std.specs.Prelude.{◌≡◌, ◌<◌, ◌≤◌, ◌+◌, [], ℕ, Some, List, OnOk, OnErr, length, slice_get, slice_set};
     ghost use Rattle.std.specs.List.{All};
     ghost use Rattle.quantity.specs.declared.bounds.TheConstants.{MAX_DELAY};
     ghost use Rattle.quantity.specs.declared.value.Value.{Value as AnyValue};
@@ -35,7 +35,7 @@ pub trait Leaves<C> {
     ghost visits: { C → ℕ };
 
     /// A due leaf gives its output, and every other leaf stays. It takes no more visits than values
-    /// are given. Without memory nothing more is known.
+    /// are given. Where memory is refused, it has given too, and the list stays empty.
     fn emit(
         &mut self,
         leaf: u32,
@@ -47,8 +47,9 @@ pub trait Leaves<C> {
         requires due { leaf_next (leaf_of (states self.old) leaf) ≡ Some t }
         ensures given { OnOk result (into.new.items
             ≡ collected_of t (leaf_of (states self.old) leaf)) }
-        ensures leaves { OnOk result (states self.new
-            ≡ slice_set (states self.old) leaf (leaf_emitted t (leaf_of (states self.old) leaf))) }
+        ensures err { OnErr result (into.new.items ≡ into.old.items) }
+        ensures leaves { states self.new
+            ≡ slice_set (states self.old) leaf (leaf_emitted t (leaf_of (states self.old) leaf)) }
         ensures stands { (tree : Tree) → stands_for self.old tree
             → OnOk result (stands_for self.new tree) }
         ensures kept { kept self.new ≡ kept self.old }

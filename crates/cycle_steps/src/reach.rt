@@ -1,5 +1,5 @@
 // Which paths bring something.
-ghost use Rattle.std.specs.Prelude.{◌≡◌, ◌<◌, ◌||◌, ◌++◌, [], ℕ, Bool, List, OnOk, length, map};
+ghost use Rattle.std.specs.Prelude.{◌≡◌, ◌<◌, ◌||◌, ◌++◌, [], ℕ, Bool, List, OnOk, OnErr, length, map};
 ghost use Rattle.std.specs.List.{list_any};
 ghost use Rattle.quantity.specs.declared.value.Value.{Value as AnyValue};
 ghost use Rattle.run_model.specs.Run.{PortRecord};
@@ -35,7 +35,7 @@ pub trait Routing {
 }
 
 /// Puts the rising numbers of the paths at whose source a Y record or an input stands into an empty
-/// list.
+/// list, which stays empty where memory is refused.
 pub fn reach<R: Routing>(
     routes: &R,
     y: &[YRecord],
@@ -43,14 +43,33 @@ pub fn reach<R: Routing>(
     into: &mut Vec<u32>,
 ) -> Result<(), OutOfMemory>
     requires { into.old.items ≡ [] }
-    ensures { OnOk result (into.new.items
+    ensures ok { OnOk result (into.new.items
         ≡ numbers (reaches (y_records y.now) inputs.now) (R.paths routes.now)) }
+    ensures err { OnErr result (into.new.items ≡ into.old.items) }
 {
-    reach_from_leaves(routes, y, into)?;
-    reach_from_tops(routes, inputs, into)?;
+    let Ok(()) = reach_from_all(routes, y, inputs, into) else {
+        into.clear();
+        return Err(OutOfMemory);
+    };
     into.sort_unstable();
     into.dedup();
     Ok(())
+}
+
+/// Appends the numbers of the paths that begin where a Y record or an input stands.
+fn reach_from_all<R: Routing>(
+    routes: &R,
+    y: &[YRecord],
+    inputs: &[(u16, Value)],
+    into: &mut Vec<u32>,
+) -> Result<(), OutOfMemory>
+    ensures { OnOk result ((k : ℕ) → is_among into.new.items k
+        ≡ ((is_among into.old.items k
+        || list_any (leads_from_leaf (R.paths routes.now) k) (y_records y.now))
+        || list_any (leads_from_top (R.paths routes.now) k) inputs.now)) }
+{
+    reach_from_leaves(routes, y, into)?;
+    reach_from_tops(routes, inputs, into)
 }
 
 /// Appends the numbers of the paths that begin where a Y record stands.

@@ -1,6 +1,6 @@
 // Who is woken by those that gave, and who is touched.
 ghost use Rattle.std.specs.Prelude.{◌≡◌, ◌<◌, ◌≤◌, [], ℕ, Bool, true, false};
-ghost use Rattle.std.specs.Prelude.{List, OnOk, length, replicate, slice_set};
+ghost use Rattle.std.specs.Prelude.{List, OnOk, OnErr, length, replicate, slice_set};
 ghost use Rattle.std.specs.List.{All};
 ghost use Rattle.std.specs.Vec.{vec_capacity};
 ghost use Rattle.record_text.specs.declared.records.XRecord.{XRecord as AnyXRecord};
@@ -25,11 +25,13 @@ pub trait Watched {
     /// Whether the first leaf watches the second.
     ghost watches: { Self → ℕ → ℕ → Bool };
 
-    /// Puts the leaves that watch a leaf into a list, in place of what it holds, in any order.
+    /// Puts the leaves that watch a leaf into a list, in place of what it holds, in any order. Where
+    /// memory is refused, the list stays as it was.
     fn watchers_of(&self, leaf: u32, into: &mut Vec<u32>) -> Result<(), OutOfMemory>
         ensures within { OnOk result (All (λ k. k < count self.now) into.new.items) }
         ensures watch { OnOk result ((k : ℕ) → is_among into.new.items k
-            ≡ watches self.now k leaf) };
+            ≡ watches self.now k leaf) }
+        ensures err { OnErr result (into.new.items ≡ into.old.items) };
 }
 
 /// All of these leaves are in as well.

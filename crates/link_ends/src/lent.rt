@@ -1,5 +1,5 @@
 // Ends and links that lend their names, as they are looked up.
-ghost use Rattle.std.specs.Prelude.{◌≡◌, map, OnOk, option_to_list};
+ghost use Rattle.std.specs.Prelude.{◌≡◌, map, OnOk, OnErr, option_to_list};
 ghost use Rattle.std.specs.List.{list_any};
 ghost use Rattle.model_tree.specs.Faces.{same_end, same_link};
 ghost use Rattle.link_ends.specs.Lent.{end_of, joined, with_end, with_links};
@@ -52,10 +52,11 @@ pub fn has_end(ends: &IndexSet<LentEnd<'_>>, end: &End) -> bool
     ends.contains(&lend_end(end))
 }
 
-/// Puts an end behind the others, unless it is there.
+/// Puts an end behind the others, unless it is there. Where memory is refused, nothing changes.
 pub fn add_end<'a>(end: LentEnd<'a>, ends: &mut IndexSet<LentEnd<'a>>) -> Result<(), OutOfMemory>
-    ensures { OnOk result (map end_of ends.new.keys
+    ensures ok { OnOk result (map end_of ends.new.keys
         ≡ with_end (map end_of ends.old.keys) (end_of end.entry)) }
+    ensures err { OnErr result (ends.new.keys ≡ ends.old.keys) }
 {
     let Ok(_is_new) = ends.insert(end) else {
         return Err(OutOfMemory);
@@ -70,13 +71,15 @@ pub fn has_link(links: &IndexSet<LentLink<'_>>, link: &Link) -> bool
     links.contains(&lend_link(link))
 }
 
-/// Puts a link behind the others, where there is one that isn't there yet.
+/// Puts a link behind the others, where there is one that isn't there yet. Where memory is refused,
+/// nothing changes.
 pub fn add_link<'a>(
     link: &'a Option<Link>,
     links: &mut IndexSet<LentLink<'a>>,
 ) -> Result<(), OutOfMemory>
-    ensures { OnOk result (map joined links.new.keys
+    ensures ok { OnOk result (map joined links.new.keys
         ≡ with_links (map joined links.old.keys) (option_to_list link.now)) }
+    ensures err { OnErr result (links.new.keys ≡ links.old.keys) }
 {
     let Some(link) = link else {
         return Ok(());

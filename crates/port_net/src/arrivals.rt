@@ -22,7 +22,7 @@ pub(crate) enum Place {
 /// The nodes of links by where the links lead. Those of one place stand in the order of their
 /// links.
 #[derive(Drop)]
-pub(crate) struct Arrivals {
+pub struct Arrivals {
     pub(crate) by_place: IndexMap<Place, Vec<u32>>,
 }
 
@@ -37,11 +37,7 @@ impl Arrivals {
     }
 
     /// The nodes of these links. A link without a node has none.
-    pub(crate) fn of_links(
-        alloc: Global,
-        links: &[Link],
-        nodes: &[u32],
-    ) -> Result<Arrivals, OutOfMemory>
+    pub fn of_links(alloc: Global, links: &[Link], nodes: &[u32]) -> Result<Arrivals, OutOfMemory>
         ensures { IfOk result (λ a. Arrive links.now nodes.now a) }
     {
         let mut all = Arrivals::none(alloc);
@@ -72,12 +68,7 @@ impl Arrivals {
     }
 
     /// The nodes of those links that lead to a port, in their order.
-    pub(crate) fn nodes(
-        &self,
-        alloc: Global,
-        at: &At<'_>,
-        port: &Name,
-    ) -> Result<Vec<u32>, OutOfMemory>
+    pub fn nodes(&self, alloc: Global, at: &At<'_>, port: &Name) -> Result<Vec<u32>, OutOfMemory>
         ensures { IfOk result (λ ks. ks.items ≡ nodes_to self.now (is_at at.now port.now)) }
     {
         let place = port_place(alloc, at, port)?;
@@ -152,7 +143,7 @@ fn append(list: &mut Vec<u32>, node: u32) -> Result<(), OutOfMemory>
 }
 
 /// Whether both are the same name.
-pub(crate) fn same(a: &Name, b: &Name) -> bool
+pub fn same(a: &Name, b: &Name) -> bool
     ensures { result ≡ bytes_eq a.now b.now }
 {
     a.as_bytes() == b.as_bytes()

@@ -11,15 +11,15 @@ use std::alloc::Global;
 
 /// The children of a component, with the place of the first child of each name.
 #[derive(Drop)]
-pub(crate) struct Children<'c> {
-    pub(crate) list: &'c [Component],
+pub struct Children<'c> {
+    pub list: &'c [Component],
     pub(crate) places: IndexMap<&'c [u8], usize>,
     ghost first: { LeadToFirst places.entries list.now },
 }
 
 impl<'c> Children<'c> {
     /// These children.
-    pub(crate) fn new(alloc: Global, list: &'c [Component]) -> Result<Children<'c>, OutOfMemory>
+    pub fn new(alloc: Global, list: &'c [Component]) -> Result<Children<'c>, OutOfMemory>
         ensures { IfOk result (λ children. children.list.now ≡ list.now) }
     {
         let places = places_of(alloc, list)?;
@@ -27,7 +27,7 @@ impl<'c> Children<'c> {
     }
 
     /// The place of the first child of a name.
-    pub(crate) fn place(&self, name: &Name) -> Option<usize>
+    pub fn place(&self, name: &Name) -> Option<usize>
         ensures place { (settings : ℕ → List ℤ)
             → result ≡ place_from self.now.list.now settings name.now 0 }
         ensures within { IfSome result (λ place. place < length self.now.list.now) }
@@ -68,7 +68,7 @@ fn add<'c>(
 }
 
 /// The name of a component.
-pub(crate) fn name_of(component: &Component) -> &Name
+pub fn name_of(component: &Component) -> &Name
     ensures { OfComponent component.now (λ t. result.now ≡ name_of t) }
 {
     match component {

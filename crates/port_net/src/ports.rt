@@ -15,7 +15,7 @@ pub(crate) struct Outputs {
 /// Which links are meant of those that lead to ports of a name: to own ports, to those of a child,
 /// or to those of a cell.
 #[derive(Clone, Copy)]
-pub(crate) enum At<'n> {
+pub enum At<'n> {
     Own,
     Child(&'n Name),
     Cell(u32),

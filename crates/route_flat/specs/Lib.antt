@@ -5,3 +5,4 @@ pub mod Ways
 pub mod BySource
 pub mod TreePaths
 pub mod Targets
+pub mod TargetExamples

@@ -7,7 +7,13 @@ ghost use Rattle.route_flat.specs.declared.source.Path.{Path as AnyPath};
 ghost use Rattle.route_flat.specs.Nets.{Flat, RoutesOf};
 ghost use Rattle.route_flat.specs.Ways.{paths_of};
 ghost use Rattle.route_flat.specs.TreePaths.{PathsOfTree};
+ghost use Rattle.route_flat.specs.TargetExamples.{TargetsAreSeen};
 ghost use Rattle.route_flat.specs.Targets.{IsPortOf, port_count, target_leaves, CoversPorts};
+
+/// Sources lead where these examples say, each as the source of its place.
+pub fn targets_are_seen()
+    ensures { TargetsAreSeen }
+{}
 
 /// The paths of a tree's routes are the paths of the tree, in its order: by leaf, port and place
 /// among the sources of the port, and then by outputs of top. Those from inputs of top begin at one

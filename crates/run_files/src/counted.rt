@@ -1,5 +1,5 @@
 // What the last line of a made model counts.
-ghost use Rattle.std.specs.Prelude.{◌≡◌, ◌+◌, map, count_by, slice_set, IfOk, OnOk};
+ghost use Rattle.std.specs.Prelude.{◌≡◌, ◌+◌, map, count_by, slice_set, IfOk, OnOk, OnErr};
 ghost use Rattle.std.specs.Option.{option_map};
 ghost use Rattle.quantity.specs.Arithmetic.{same_value};
 ghost use Rattle.rule_tree.specs.Meaning.{whole};
@@ -59,22 +59,27 @@ impl Counted {
         self.ones.iter().filter(|one| **one).count() as u64
     }
 
-    /// Counts the records of a cycle. A count past 64 bits is want of memory.
+    /// Counts the records of a cycle. A count past 64 bits is want of memory, and changes nothing.
     fn add(&mut self, records: &Records) -> Result<(), OutOfMemory>
-        ensures { OnOk result ((c : Cycle) → Holds records.now c
+        ensures ok { OnOk result ((c : Cycle) → Holds records.now c
             → self.new ≡ counts_after c self.old) }
+        ensures err { OnErr result (self.new ≡ self.old) }
     {
-        self.y = sum(self.y, records.y.len())?;
-        self.s = sum(self.s, records.s.len())?;
+        let y = sum(self.y, records.y.len())?;
+        let s = sum(self.s, records.s.len())?;
+        self.y = y;
+        self.s = s;
         mark(&mut self.ones, &records.y);
         Ok(())
     }
 }
 
-/// Counts the records of a cycle, where that is asked for.
+/// Counts the records of a cycle, where that is asked for. A count past 64 bits is want of memory,
+/// and changes nothing.
 pub fn count(counted: &mut Option<Counted>, records: &Records) -> Result<(), OutOfMemory>
-    ensures { OnOk result ((c : Cycle) → Holds records.now c →
+    ensures ok { OnOk result ((c : Cycle) → Holds records.now c →
         counted.new ≡ option_map (counts_after c) counted.old) }
+    ensures err { OnErr result (counted.new ≡ counted.old) }
 {
     match counted {
         None => Ok(()),

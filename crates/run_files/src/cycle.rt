@@ -11,7 +11,8 @@ ghost use Rattle.run_files.specs.AskedFiles.{names_of};
 ghost use Rattle.run_files.specs.Texts.{AreApart, AreCreated};
 ghost use Rattle.run_files.specs.Order.{one_piece};
 ghost use Rattle.run_files.specs.Pieces.{lines_of, cycle_pieces};
-ghost use Rattle.run_files.specs.Showing.{took, plain, ended, ended_before, is_begun_before, after_cycle, frame_before, last_frame, BeginsAt};
+ghost use Rattle.run_files.specs.Showing.{took, plain, ended, ended_before, is_begun_before};
+ghost use Rattle.run_files.specs.Showing.{after_cycle, frame_before, last_frame, BeginsAt};
 ghost use Rattle.run_files.specs.Written.{Writes};
 
 use crate::drawn::Drawn;

@@ -74,7 +74,7 @@ fn begin(
 
 impl Block {
     /// Puts the leaves that watch a leaf of this block, in place of what the list holds. One that
-    /// holds as many from before is only written over.
+    /// holds as many from before is only written over. Where memory is refused, it stays as it was.
     pub(crate) fn put_watchers(&self, leaf: u32, into: &mut Vec<u32>) -> Result<(), OutOfMemory>
         requires begun { self.now.first ≤ leaf }
         requires inside { leaf < end_of self.now }
@@ -83,6 +83,7 @@ impl Block {
         ensures within { OnOk result (All (λ k. k < end_of self.now) into.new.items) }
         ensures watch { OnOk result ((k : ℕ) → is_among into.new.items k
             ≡ watches_in (Some self.now) k leaf) }
+        ensures err { OnErr result (into.new.items ≡ into.old.items) }
     {
         into.reserve(self.most)?;
         self.reach.watchers(leaf - self.first, into);

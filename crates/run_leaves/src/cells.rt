@@ -1,5 +1,5 @@
 // What one cell gives, and how it moves.
-ghost use Rattle.std.specs.Prelude.{◌≡◌, ℕ, ◌+◌, ◌<◌, ◌≤◌, ◌++◌, Some, [], ◌∷◌, length, OnOk, IsTrue, slice_index_or};
+ghost use Rattle.std.specs.Prelude.{◌≡◌, ℕ, ◌+◌, ◌<◌, ◌≤◌, ◌++◌, Some, [], ◌∷◌, length, OnOk, OnErr, IsTrue, slice_index_or};
 ghost use Rattle.std.specs.List.{All};
 ghost use Rattle.quantity.specs.declared.bounds.TheConstants.{MAX_DELAY};
 ghost use Rattle.quantity.specs.declared.value.Value.{Value as AnyValue};
@@ -22,7 +22,8 @@ use quantity::{Name, OutOfMemory, Time, Value};
 use rule_tree::RuleStop;
 use std::sync::ledger::Ledger;
 
-/// A cell that is due gives its values, which are appended.
+/// A cell that is due gives its values, which are appended. Where memory is refused, it has given
+/// too, and nothing stands in the list.
 pub(crate) fn give_of_cell<L: Ledger>(
     store: &mut CellStore,
     cell: u32,
@@ -34,12 +35,17 @@ pub(crate) fn give_of_cell<L: Ledger>(
     requires due { cell_next (cell_at store.old.cells cell) ≡ Some t }
     ensures given { OnOk result
         (into.new.items ≡ into.old.items ++ cell_output t (cell_at store.old.cells cell)) }
+    ensures err { OnErr result (into.new.items ≡ []) }
     ensures cells { store.new
         ≡ with_cell store.old cell (cell_emitted t (cell_at store.old.cells cell)) }
     ensures steps { steps.new ≡ steps.old + 1 }
 {
     let given = store.emit(cell, t, steps);
-    append_given(given, into)
+    let Ok(()) = append_given(given, into) else {
+        into.clear();
+        return Err(OutOfMemory);
+    };
+    Ok(())
 }
 
 /// Appends what is given port by port.

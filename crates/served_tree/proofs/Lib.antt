@@ -3,7 +3,7 @@ pub mod Works
 pub mod Counting
 pub mod Stepping
 pub mod Serving
-mod Through
+pub mod Through
 pub mod Lists
 mod Ports
 pub mod Placing

@@ -1,4 +1,4 @@
-use Rattle.std.proofs.Common.{◌++◌, ◌∷◌, [], ◌∙◌, Bool, List, map, ap, sym, append-nil, cond, eqb}
+use Rattle.std.proofs.Common.{◌++◌, ◌∷◌, [], ◌∙◌, Bool, List, map, ap, sym, append-nil, cond, eqb, refl}
 use Rattle.std.specs.List.{filter}
 use Rattle.std.proofs.lemmas.Bool.{eq-eqb}
 use Rattle.run_model.specs.Run.{PortRecord}
@@ -7,6 +7,7 @@ use Rattle.record_text.specs.Held.{x_at, out_at}
 use Rattle.sparse_cycle.specs.Feed.{values_of_leaf}
 use Rattle.cycle_steps.specs.Untimed.{y_record, y_records}
 use Rattle.cycle_steps.specs.Routed.{fed_to, out_to}
+use Rattle.cycle_steps.proofs.Growth.{grown-same, grown-after}
 use Rattle.cycle_steps.proofs.OneMore.{appends-more, appended-all, fed-kept, out-kept}
 use Rattle.cycle_steps.proofs.Runs.{none-above, fed-none, out-none}
 use Rattle.cycle_steps.proofs.feed.append_run.Goals as goal
@@ -42,6 +43,8 @@ loop-r-preserved c =
           (λ r rs. out-kept (λ (r : PortRecord). r.value) t c.args.to (eqb r.leaf l) (y_record r) (filter at (y_records rs)))
           c.args.rest.now c.loop-r.r-index r _ c.loop-r.out.items c.append_value.new.out.items c.loop-r-test.true c.r-item.is c.loop-r.invariant.out
           (c.in_ok-append_value.ensures.out ∙ ap (λ b. c.loop-r.out.items ++ map (out_at t) (out_to c.args.to (values b))) here);
+      x_grows = grown-after _ _ _ c.loop-r.invariant.x_grows c.append_value.ensures.x_grows;
+      out_grows = grown-after _ _ _ c.loop-r.invariant.out_grows c.append_value.ensures.out_grows;
     }
 
 pub returns-clause-x : goal.returns-clause-x
@@ -53,3 +56,12 @@ pub returns-clause-out : goal.returns-clause-out
 returns-clause-out c =
     appended-all (λ (rs : List YRecord). map (out_at c.args.t) (out_to c.args.to (values_of_leaf (y_records rs) c.args.leaf))) (ap (map (out_at c.args.t)) (out-none c.args.to))
     c.args.rest.now c.loop-r.r-index _ c.loop-r.out.items c.loop-r-test.false c.loop-r.invariant.out
+
+pub returns-in_err-append_value-clause-x_grows : goal.returns-in_err-append_value-clause-x_grows
+returns-in_err-append_value-clause-x_grows c = grown-after _ _ _ c.loop-r.invariant.x_grows c.append_value.ensures.x_grows
+
+pub returns-in_err-append_value-clause-out_grows : goal.returns-in_err-append_value-clause-out_grows
+returns-in_err-append_value-clause-out_grows c = grown-after _ _ _ c.loop-r.invariant.out_grows c.append_value.ensures.out_grows
+
+pub loop-r-init : goal.loop-r-init
+loop-r-init c = record { x = refl; out = refl; x_grows = grown-same _ _ refl; out_grows = grown-same _ _ refl }

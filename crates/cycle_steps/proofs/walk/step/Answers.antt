@@ -20,7 +20,7 @@ use Rattle.cycle_steps.proofs.walk.step.Goals as goal
 pub advance-requires-clause-ports : goal.advance-requires-clause-ports
 advance-requires-clause-ports g c =
     let ports = g.M.Leaves.ports c.args.movers.now in
-    subst (λ (bag : Bag). All (λ (o : PortNo × Value). o.0.0 < ports c.args.leaf) bag) (sym (c.deref.ensures.value ∙ c.in-Ok.ensures))
+    subst (λ (bag : Bag). All (λ (o : PortNo × Value). o.0.0 < ports c.args.leaf) bag) (sym (c.deref.ensures.value ∙ c.in-Ok.ensures.ok))
     (bag-ports ports c.args.leaf c.args.x.now c.requires.ports)
 
 pub advance-requires-clause-within : goal.advance-requires-clause-within
@@ -87,7 +87,7 @@ returns-in-Ok-note g c =
       steps = λ tree given st woken.
           step-moves ⊤ t l old new waiting (g.Q.TimeQueue.waiting c.note.new.queue) c.args.s.now.items c.note.new.s.items told (move_at tree t old given (x_records c.args.x.now) l) tt
           (subst (λ (m : Moved). Moves old new l m (Ok told))
-          (λ i. move_to t old ((c.has.ensures ∙ woken) i) ((c.deref.ensures.value ∙ c.in-Ok.ensures) i) (slice_get (leaves tree) l) (leaf_of old l)) (c.in-Ok-advance.ensures.moves tree st))
+          (λ i. move_to t old ((c.has.ensures ∙ woken) i) ((c.deref.ensures.value ∙ c.in-Ok.ensures.ok) i) (slice_get (leaves tree) l) (leaf_of old l)) (c.in-Ok-advance.ensures.moves tree st))
           c.note.ensures.waiting c.in-Ok-note.ensures.record;
       stands = λ tree st. c.in-Ok-advance.ensures.stands tree st;
       kept = c.advance.ensures.kept;
@@ -114,7 +114,7 @@ returns-in-Err g c =
           subst (λ (halt : Halt). let r : Result ⊤ Halt = Err halt in StepsOne t old new waiting waiting s s l m r) (sym c.halt_at.ensures)
           (step-halts ⊤ t l old new waiting waiting s s why m
           (subst (λ (m : Moved). Moves old new l m (Err why))
-          (λ i. move_to t old ((c.has.ensures ∙ woken) i) ((c.deref.ensures.value ∙ c.in-Ok.ensures) i) (slice_get (leaves tree) l) (leaf_of old l)) (c.in-Err.ensures.moves tree st)));
+          (λ i. move_to t old ((c.has.ensures ∙ woken) i) ((c.deref.ensures.value ∙ c.in-Ok.ensures.ok) i) (slice_get (leaves tree) l) (leaf_of old l)) (c.in-Err.ensures.moves tree st)));
       stands = λ tree st. tt;
       kept = c.advance.ensures.kept;
       long = tt;

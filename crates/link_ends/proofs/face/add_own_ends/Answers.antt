@@ -11,7 +11,7 @@ use Rattle.link_ends.proofs.face.add_own_ends.Goals as goal
 pub loop-port-preserved : goal.loop-port-preserved
 loop-port-preserved c =
     fold_step_of_two with_end (map end_of c.args.ends.now.keys) (λ (port : Bytes). Own port) (λ (r : Bor Bytes). r.now) c.args.ports.now c.loop-port.port-index _
-    (map end_of c.loop-port.ends.keys) (map end_of c.add_end.new.ends.keys) c.loop-port-test.true c.in_ok-add_end.ensures c.loop-port.invariant
+    (map end_of c.loop-port.ends.keys) (map end_of c.add_end.new.ends.keys) c.loop-port-test.true c.in_ok-add_end.ensures.ok c.loop-port.invariant
 
 pub returns : goal.returns
 returns c = c.loop-port.invariant ∙ ap (λ (ps : List (Bor Bytes)). with_ends (map end_of c.args.ends.now.keys) (own_ends (texts ps))) (take_all c.loop-port.port-index c.args.ports.now c.loop-port-test.false)

@@ -4,8 +4,8 @@ use Rattle.link_ends.specs.Lent.{joined, with_link, with_links}
 use Rattle.link_ends.proofs.Looked.{lent_link_added}
 use Rattle.link_ends.proofs.lent.add_link.Goals as goal
 
-pub returns : goal.returns
-returns c =
+pub returns-clause-ok : goal.returns-clause-ok
+returns-clause-ok c =
     let before = map joined c.args.links.now.keys in
     ap (map joined) c.in-Ok.ensures.keys ∙ lent_link_added c.lend_link.result c.args.links.now.keys ∙ ap (λ (l : Link). with_link before l) c.lend_link.ensures
     ∙ ap (λ (o : Option Link). with_links before (option_to_list o)) (sym c.in-Some.is)

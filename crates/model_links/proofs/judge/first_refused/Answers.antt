@@ -18,7 +18,7 @@ loop-one-preserved c =
     let seen = map joined c.loop-one.before.keys in
     record {
       seen = seen_step xs i x seen (map joined c.add_link.new.links.keys) c.loop-one-test.true
-          (c.in_ok-add_link.ensures ∙ ap (λ (y : FoundLink). with_links seen (option_to_list y.link)) c.one-item.is) c.loop-one.invariant.seen;
+          (c.in_ok-add_link.ensures.ok ∙ ap (λ (y : FoundLink). with_links seen (option_to_list y.link)) c.one-item.is) c.loop-one.invariant.seen;
       judged = ap (λ o. merged o (least_refusal (refused_after f (links_in (take (i + 1) xs)) (drop (i + 1) xs)))) c.least-first.ensures
           ∙ judged_step f xs i x seen (option_map refusal_of c.loop-one.first) (option_map refusal_of c.refused.result) (least_refusal (refused_after f [] xs)) c.loop-one-test.true
           (c.refused.ensures ∙ ap (refusal_after f seen) c.one-item.is) c.loop-one.invariant.seen c.loop-one.invariant.judged;

@@ -1,6 +1,6 @@
 use Rattle.std.proofs.Common.{◌≡◌, ◌∙◌, Some, List, ◌++◌, length, sym, ap, arith}
 use Rattle.std.specs.Prelude.{slice_get, slice_set}
-use Rattle.std.proofs.lemmas.Result.{on_ok_weaker}
+use Rattle.std.proofs.lemmas.Result.{on_ok_weaker, on_err_weaker}
 use Rattle.model_tree.specs.declared.leaves.LeafAt.TheVariants.{Atomic, Cell}
 use Rattle.run_model.specs.CellStep.{cell_emitted, cell_output}
 use Rattle.run_model.specs.Cycle.{LeafState, cell_state, leaf_next, leaf_emitted, collected_of}
@@ -12,7 +12,7 @@ use Rattle.run_leaves.specs.Moving.{with_state}
 use Rattle.run_leaves.proofs.Places.{read-at, found-at, index-get}
 use Rattle.run_leaves.specs.Seated.{state_there}
 use Rattle.run_leaves.proofs.Inside.{due-within, box-inside, box-is, store-inside, cell-inside, cell-is}
-use Rattle.run_leaves.proofs.Emitting.{due-gives, emitted-port, box-collected}
+use Rattle.run_leaves.proofs.Emitting.{due-gives, emitted-port, box-collected, box-gives}
 use Rattle.run_leaves.proofs.Given.{stays, one-cell, still-placed, still-ports, port-here}
 use Rattle.std.proofs.lemmas.List.{length-set}
 use Rattle.atomic_face.specs.Moves.{output_of_box}
@@ -113,6 +113,20 @@ returns-in-Atomic-clause-given g c =
     ∙ ap (λ (ss : List LeafState). collected_of c.args.t (leaf_of ss leaf)) states)
     c.output.ensures.ok
 
+pub returns-in-Atomic-clause-leaves : goal.returns-in-Atomic-clause-leaves
+returns-in-Atomic-clause-leaves g c =
+    let stock = c.self.inside.stock in
+    let stores = c.self.inside.stores.items in
+    let seats = c.self.inside.seats.items in
+    let leaf = c.args.leaf in
+    let states : states_in stock stores seats ≡ c.args.self.now.states = ap (λ (s : Seated). s.states) c.self.view_is in
+    let due : leaf_next (leaf_of (states_in stock stores seats) leaf) ≡ Some c.args.t = ap (λ (ss : List LeafState). leaf_next (leaf_of ss leaf)) states ∙ c.requires.due in
+    let lt = due-within (state_there stock stores) seats leaf c.args.t due in
+    let seat : slice_get seats leaf ≡ Some (Atomic c.in-Atomic.at) = read-at seats leaf c.index.result.now lt c.index.ensures ∙ ap Some c.in-Atomic.is in
+    let there = found-at stock c.in-Atomic.at.0 (box-inside _ seats stores stock c.self.invariant.0 leaf c.in-Atomic.at seat) in
+    let is = box-is _ seats stores stock c.self.invariant.0 leaf c.in-Atomic.at there.0 seat there.1 in
+    box-gives c.args.self.now leaf c.args.t there.0.box (sym (ap (λ (ss : List LeafState). leaf_of ss leaf) states) ∙ is)
+
 pub returns-in-Cell-clause-given : goal.returns-in-Cell-clause-given
 returns-in-Cell-clause-given g c =
     let stock = c.self.inside.stock in
@@ -151,10 +165,11 @@ returns-in-Cell-clause-leaves g c =
     let cells : made.cells ≡ slice_set o.cells c.in-Cell.cell (cell_emitted c.args.t (cell_at o.cells c.in-Cell.cell)) = ap (λ (s : Cells). s.cells) c.give_of_cell.ensures.cells in
     let is : leaf_of (states_in stock stores seats) leaf ≡ cell_state (cell_at o.cells c.in-Cell.cell) = cell-is _ seats stores stock c.self.invariant.0 leaf c.in-Cell.group c.in-Cell.cell o seat kept in
     let is_now : leaf_of c.args.self.now.states leaf ≡ cell_state (cell_at o.cells c.in-Cell.cell) = sym (ap (λ (ss : List LeafState). leaf_of ss leaf) states) ∙ is in
-    on_ok_weaker c.give_of_cell.result
-    (λ h. one-cell _ c.self.inside.model seats stores stock c.self.invariant.0 c.self.invariant.1 leaf c.in-Cell.group c.in-Cell.cell o made seat kept layout (cell_emitted c.args.t (cell_at o.cells c.in-Cell.cell)) cells c.args.self.now c.self.view_is
-    ∙ sym (ap (λ (s : LeafState). with_state c.args.self.now leaf (leaf_emitted c.args.t s)) is_now))
-    c.give_of_cell.ensures.given
+    one-cell _ c.self.inside.model seats stores stock c.self.invariant.0 c.self.invariant.1 leaf c.in-Cell.group c.in-Cell.cell o made seat kept layout (cell_emitted c.args.t (cell_at o.cells c.in-Cell.cell)) cells c.args.self.now c.self.view_is
+    ∙ sym (ap (λ (s : LeafState). with_state c.args.self.now leaf (leaf_emitted c.args.t s)) is_now)
+
+pub returns-in-Cell-clause-err : goal.returns-in-Cell-clause-err
+returns-in-Cell-clause-err g c = on_err_weaker c.give_of_cell.result (λ none. none ∙ sym c.requires.empty) c.give_of_cell.ensures.err
 
 pub returns-in-Cell-clause-kept : goal.returns-in-Cell-clause-kept
 returns-in-Cell-clause-kept g c =

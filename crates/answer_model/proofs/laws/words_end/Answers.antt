@@ -1,0 +1,88 @@
+use Rattle.std.proofs.Common.{refl}
+use Rattle.std.specs.Fmt.{digits}
+use Rattle.clap.proofs.OnLiterals.{clap_on_literals}
+use Rattle.answer_model.specs.Asked.{asked_by, command_of}
+use Rattle.answer_model.specs.AskedDrawing.{asked_drawing, drawlog_app}
+use Rattle.answer_model.specs.Cdpp.{answer_by}
+use Rattle.answer_model.specs.Drawlog.{drawing_answer}
+use Rattle.answer_model.proofs.laws.words_end.Goals as goal
+
+pub returns : goal.returns
+unfolding command_of drawlog_app digits clap_on_literals asked_by asked_drawing answer_by drawing_answer
+returns c =
+    record {
+      options = record {
+        last_time = refl;
+        past_hours = refl;
+        past_minutes = refl;
+        past_seconds = refl;
+        past_milliseconds = refl;
+        three_parts = refl;
+        most_cells = refl;
+        too_many_cells = refl;
+        no_more = refl;
+        one_cycle = refl;
+        no_cycle = refl;
+        most_cycles = refl;
+        too_many_cycles = refl;
+        seven_digits = refl;
+        eight_digits = refl;
+        sign = refl;
+        all_letters = refl;
+        one_letter = refl;
+        no_such_letter = refl;
+        small_letter = refl;
+        letter_again = refl;
+        no_letter = refl;
+        group = refl;
+        no_file = refl;
+        no_group_name = refl;
+        narrow = refl;
+        wide = refl;
+        no_width = refl;
+        too_wide = refl;
+        five_decimals = refl;
+        six_decimals = refl;
+        last_plane = refl;
+        no_plane = refl;
+        all_names = refl;
+      };
+      files = record {
+        model_and_events = refl;
+        model_and_log = refl;
+        model_and_out = refl;
+        model_and_frames = refl;
+        events_and_log = refl;
+        events_and_out = refl;
+        events_and_frames = refl;
+        log_and_out = refl;
+        log_and_frames = refl;
+        out_and_frames = refl;
+      };
+      drawings = record {
+        last_plane = refl;
+        past_planes = refl;
+        most_cells = refl;
+        too_many_cells = refl;
+        most_planes = refl;
+        too_many_planes = refl;
+        no_row = refl;
+        no_column = refl;
+        no_plane = refl;
+        one_number = refl;
+        four_numbers = refl;
+        widest = refl;
+        narrowest = refl;
+        no_width = refl;
+        too_wide = refl;
+        six_decimals = refl;
+        no_size = refl;
+        no_log = refl;
+        no_group = refl;
+        no_group_name = refl;
+      };
+      usage = record {
+        cdpp = refl;
+        drawlog = refl;
+      };
+    }
