@@ -82,8 +82,8 @@ SECTIONS = [
         "Words and files have one answer: the files that are made, both streams, the status and the files looked for. What a "
         "call does outside is that answer, or, where something fails, a beginning of it.",
         """
-        answer_model/Asked answer_model/Answer answer_model/Cdpp answer_model/RunFiles answer_model/RunEnd answer_model/Refusals
-        answer_model/AskedDrawing answer_model/Drawlog
+        answer_model/Options answer_model/Asked answer_model/Answer answer_model/Started answer_model/Cdpp
+        answer_model/RunFiles answer_model/RunEnd answer_model/Refusals answer_model/AskedDrawing answer_model/Drawlog
         room_edge/Outside room_edge/Faults answer_model/Status answer_model/Headline answer_model/FaultsAnswered
         answer_model/Outcome answer_model/Programs
         """,
@@ -124,7 +124,7 @@ SECTIONS = [
     (
         "Options that no program takes yet",
         "Saved states (`-S`, `-R`) and an order of service (`-T`). The definitions of the answer speak of them already. Today's "
-        "programs take no such option (`built_letters` in `Asked.antt`), so nothing that they do hangs on this section.",
+        "programs take no such option (`built_rows` in `Options.antt`), so nothing that they do hangs on this section.",
         """
         atomic_face/BoxStates text_forms/LeafStates text_forms/StateText text_forms/StateOf
         served_tree/Processors served_tree/Service served_tree/Order

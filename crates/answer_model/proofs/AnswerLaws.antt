@@ -5,21 +5,17 @@ use Rattle.rule_tree.specs.declared.outcome.RuleStop.{RuleStop}
 use Rattle.rule_tree.specs.declared.outcome.RuleStop.TheVariants.{NoTrueRule, Overflow, BadDelay}
 use Rattle.room_edge.specs.Outside.{Files}
 use Rattle.atomic_face.specs.declared.class.Class.{Class}
-use Rattle.model_tree.specs.Tree.{Word, Tree, ins_of}
+use Rattle.model_tree.specs.Tree.{Word, Tree}
 use Rattle.run_model.specs.Run.{Event, Cycle, Verdict, done, too_many, stop, Run}
-use Rattle.event_list.specs.Events.{events_of}
-use Rattle.model_text.specs.ModelOf as model_file
-use Rattle.model_text.specs.ModelOf.{ModelOf, ModelRead, model_of}
-use Rattle.model_text.specs.Models.{made_text}
 use Rattle.text_forms.specs.Frames.{drawn}
-use Rattle.text_forms.specs.StateOf.{Saved, state_of}
-use Rattle.answer_model.specs.Asked.{Asked, Source, file, made, asked, usage}
+use Rattle.text_forms.specs.StateOf.{Saved}
+use Rattle.answer_model.specs.Asked.{Asked}
 use Rattle.answer_model.specs.AskedDrawing.{AskedDrawing, asked_drawing, drawing_usage}
-use Rattle.answer_model.specs.Answer.{Answer, if_asked, missing, with_file, only_complains, only_shows, unless_refused}
-use Rattle.answer_model.specs.Refusals.{model_refused, events_refused, state_refused}
+use Rattle.answer_model.specs.Answer.{Answer, if_asked, missing, with_file, only_complains, only_shows}
 use Rattle.answer_model.specs.RunEnd.{said, stop_status}
 use Rattle.answer_model.specs.RunFiles.{answer_of_run}
-use Rattle.answer_model.specs.Cdpp.{run_on, with_source, if_model, drawing_of, with_events, with_state, answer, answer_by}
+use Rattle.answer_model.specs.Started.{Started, Stop, bad_words, no_file, bad_model, bad_events, bad_state, Stopped, line_of, status_of, started}
+use Rattle.answer_model.specs.Cdpp.{run_of, answer_of, answer}
 use Rattle.answer_model.specs.Drawlog.{log_refused, drawn_answer, drawing_answer}
 use Rattle.answer_model.specs.Outcome.{IsOwn}
 use Rattle.answer_model.specs.AnswerLaws.{IsAnswer, AllAreAnswers}
@@ -46,19 +42,6 @@ file_is files name inputs go h = by (files name)
     by None = missing_is name (inputs ++ name ∷ [])
     by (Some bytes) = h bytes (inputs ++ name ∷ [])
 
-unless_is : {A E : Type 0} (status : Status) (text : E → Bytes) (inputs : List Word) (r : Result A E) (go : A → Answer) → IsOwn status → ((x : A) → IsAnswer (go x)) → IsAnswer (unless_refused status text inputs r go)
-unless_is status text inputs (Ok x) go own h = h x
-unless_is status text inputs (Err e) go own h = complaint_is status (text e) inputs own
-
-source_is : (s : Source) (files : Files) (go : Bytes → List Word → Answer) → ((b : Bytes) (i : List Word) → IsAnswer (go b i)) → IsAnswer (with_source s files go)
-source_is (file name) files go h = file_is files name [] go h
-source_is (made size) files go h = h (made_text size) []
-
-model_is : (looked : List Word) (found : ModelOf) (inputs : List Word) (go : Tree → List Word → Answer) → ((t : Tree) (i : List Word) → IsAnswer (go t i)) → IsAnswer (if_model (record { looked = looked; found = found }) inputs go)
-model_is looked (model_file.model tree) inputs go h = h tree (inputs ++ looked)
-model_is looked (model_file.missing name) inputs go h = missing_is name (inputs ++ looked)
-model_is looked (model_file.refused r) inputs go h = complaint_is exit.ModelRefused (model_refused r) (inputs ++ looked) refl
-
 -- ---- the end of a run
 
 stop_own : (why : RuleStop) → IsOwn (stop_status why) × (of_refusals (row_of (stop_status why)).part ≡ false)
@@ -82,30 +65,20 @@ run_is a tree events from inputs r =
 
 -- ---- both programs
 
-events_is : (a : Asked) (files : Files) (tree : Tree) (inputs : List Word) (go : List Event → List Word → Answer) → ((es : List Event) (i : List Word) → IsAnswer (go es i)) → IsAnswer (with_events a files tree inputs go)
-events_is a files tree inputs go h = by a.events
-  where
-    by : (o : Option Word) → IsAnswer (elim o as (λ x. Answer) [ None ↦ go [] inputs | Some name ↦ with_file files name inputs (λ bytes looked. unless_refused exit.EventsRefused events_refused looked (events_of bytes (ins_of tree)) (λ events. go events looked)) ])
-    by None = h [] inputs
-    by (Some name) = file_is files name inputs _ (λ bytes looked. unless_is exit.EventsRefused events_refused looked (events_of bytes (ins_of tree)) (λ events. go events looked) refl (λ es. h es looked))
+-- the status of a stop is its own
+stop_owns : (why : Stop) → IsOwn (status_of why)
+stop_owns (bad_words form) = refl
+stop_owns (no_file name) = refl
+stop_owns (bad_model why) = refl
+stop_owns (bad_events why) = refl
+stop_owns (bad_state why) = refl
 
-state_is : (a : Asked) (files : Files) (tree : Tree) (inputs : List Word) (go : Option Saved → List Word → Answer) → ((s : Option Saved) (i : List Word) → IsAnswer (go s i)) → IsAnswer (with_state a files tree inputs go)
-state_is a files tree inputs go h = by a.state
-  where
-    by : (o : Option Word) → IsAnswer (elim o as (λ x. Answer) [ None ↦ go None inputs | Some name ↦ with_file files name inputs (λ bytes looked. unless_refused exit.StateRefused state_refused looked (state_of bytes tree a.end) (λ saved. go (Some saved) looked)) ])
-    by None = h None inputs
-    by (Some name) = file_is files name inputs _ (λ bytes looked. unless_is exit.StateRefused state_refused looked (state_of bytes tree a.end) (λ saved. go (Some saved) looked) refl (λ s. h (Some s) looked))
+started_is : (r : Result Started Stopped) → IsAnswer (answer_of r)
+started_is (Ok s) = run_is s.asked s.tree s.events s.from s.inputs (run_of s)
+started_is (Err e) = complaint_is (status_of e.why) (line_of e.why) e.inputs (stop_owns e.why)
 
 cdpp_is : (words : List Word) (files : Files) (classes : List Class) → IsAnswer (answer words files classes)
-unfolding answer_by
-cdpp_is words files classes =
-    asked_is usage (asked words) _ (λ a.
-    source_is a.source files _ (λ bytes inputs.
-    let read = model_of bytes files classes (drawing_of a.frames) in
-    model_is read.looked read.found inputs _ (λ tree inputs.
-    events_is a files tree inputs _ (λ events inputs.
-    state_is a files tree inputs _ (λ from inputs.
-    run_is a tree events from inputs (run_on tree events a.end a.limit from))))))
+cdpp_is words files classes = started_is (started words files classes)
 
 drawn_is : (a : AskedDrawing) (log : Bytes) (inputs : List Word) → IsAnswer (drawn_answer a log inputs)
 drawn_is a log inputs = by_length (nat_lt 268435456 (length log)) (drawn a.picture a.group log)

@@ -7,10 +7,12 @@ use Rattle.text_forms.specs.Lines.{ended}
 use Rattle.run_model.specs.Run.{run, run_from, next_cycle}
 use Rattle.text_forms.specs.Rows.{line_log}
 use Rattle.quantity.specs.Bytes.{Bytes}
-use Rattle.answer_model.specs.Asked.{Asked, file, asked, usage, asked_by, command_of}
+use Rattle.answer_model.specs.Options.{draft_by, command_by}
+use Rattle.answer_model.specs.Asked.{Asked, file, asked, usage}
 use Rattle.answer_model.specs.AskedRows.{words, plain}
 use Rattle.answer_model.specs.Answer.{MadeFiles, Answer}
-use Rattle.answer_model.specs.Cdpp.{answer, run_on, answer_by}
+use Rattle.answer_model.specs.Started.{started_by}
+use Rattle.answer_model.specs.Cdpp.{answer, run_on}
 use Rattle.answer_model.specs.WholeFiles.{folder, boxes, model, just_model, shows}
 use Rattle.model_text.specs.Models.{line_model}
 use Rattle.model_text.specs.ModelOf.{model_of}
@@ -28,14 +30,14 @@ abbrev answered : Answer
 answered = shows (codes "end 00:00:00:100 cycles 2") ((codes "log.txt", line_log) ∷ []) just_model
 
 is_answered : answer (words asks) (folder (model line_model)) boxes ≡ answered
-unfolding sections_of tokens written_rule rule_of model_of command_of digits clap_on_literals run run_from next_cycle asked_by answer_by run_on
+unfolding sections_of tokens written_rule rule_of model_of command_by digits clap_on_literals run run_from next_cycle draft_by started_by run_on
 is_answered = refl
 
 abbrev plain_model : Asked
 plain_model = record plain { source = file (codes "m.ma") }
 
 is_asked : asked (words asks) ≡ Some plain_model
-unfolding command_of clap_on_literals asked_by
+unfolding command_by clap_on_literals draft_by
 is_asked = refl
 
 abbrev bytes_in : Bytes × Bytes → ℕ
@@ -138,7 +140,7 @@ abbrev refused_words : Answer
 refused_words = record { made = []; shown = []; complained = usage_line; status = Usage; inputs = [] }
 
 is_refused : answer (words asks_no_time) (folder (model line_model)) boxes ≡ refused_words
-unfolding command_of digits clap_on_literals asked_by answer_by
+unfolding command_by digits clap_on_literals draft_by started_by
 is_refused = refl
 
 some_line : ◌≡◌ {A = Bytes} [] usage_line → ⊥

@@ -1,5 +1,5 @@
 -- Outcomes that are none.
-use Rattle.std.proofs.Common.{◌≡◌, ℕ, zero, suc, Option, Some, None, List, [], ◌∷◌, ◌++◌, get_or, length, refl, sym, ap, ◌∙◌, subst, arith, codes, Contains, inl, inr, ◌⊎◌}
+use Rattle.std.proofs.Common.{◌≡◌, ℕ, zero, suc, Option, Some, None, [], ◌∷◌, ◌++◌, get_or, length, refl, sym, ap, ◌∙◌, subst, arith, codes, inl, inr, ◌⊎◌}
 use Rattle.std.specs.Fmt.{digits}
 use Rattle.std.proofs.lemmas.Bool.{false≢true}
 use Rattle.clap.proofs.OnLiterals.{clap_on_literals}
@@ -15,10 +15,12 @@ use Rattle.run_model.specs.Run.{run, run_from, next_cycle}
 use Rattle.text_forms.specs.Rows.{line_log}
 use Rattle.model_text.specs.Models.{line_model}
 use Rattle.model_text.specs.ModelOf.{model_of}
-use Rattle.answer_model.specs.Asked.{asked, asked_by, command_of}
+use Rattle.answer_model.specs.Options.{draft_by, command_by}
+use Rattle.answer_model.specs.Asked.{asked}
 use Rattle.answer_model.specs.AskedRows.{words}
 use Rattle.answer_model.specs.Answer.{Answer, write_fault_line}
-use Rattle.answer_model.specs.Cdpp.{answer, run_on, answer_by}
+use Rattle.answer_model.specs.Started.{started_by}
+use Rattle.answer_model.specs.Cdpp.{answer, run_on}
 use Rattle.answer_model.specs.WholeFiles.{folder, boxes, model, just_model, shows}
 use Rattle.answer_model.specs.Headline.{Begins, FallsShort}
 use Rattle.answer_model.specs.Outcome.{Did, Outcome, Lacks, a_file, the_output, Complaint, of_answer, of_reading, of_writing, IsOwn}
@@ -31,7 +33,7 @@ abbrev answered : Answer
 answered = shows (codes "end 00:00:00:100 cycles 2") ((codes "log.txt", line_log) ∷ []) just_model
 
 is_answered : answer (words asks) (folder (model line_model)) boxes ≡ answered
-unfolding sections_of tokens written_rule rule_of model_of command_of digits clap_on_literals run run_from next_cycle asked_by answer_by run_on
+unfolding sections_of tokens written_rule rule_of model_of command_by digits clap_on_literals run run_from next_cycle draft_by started_by run_on
 is_answered = refl
 
 own : IsOwn Done
@@ -95,7 +97,7 @@ not_other_line o =
 -- ---- statuses
 
 no_time : asked (words asks_no_time) ≡ None
-unfolding command_of clap_on_literals asked_by
+unfolding command_by clap_on_literals draft_by
 no_time = refl
 
 pub ends_not_so : EndsNotSo

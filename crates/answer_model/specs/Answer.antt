@@ -1,6 +1,6 @@
 -- What a program answers: the files that it makes, what it shows and complains, its status, and the
 -- files that it looks for.
-use Rattle.std.specs.Prelude.{ℕ, Option, Some, None, List, [], ◌∷◌, ◌++◌, map, codes, decimal, Result, Ok, Err}
+use Rattle.std.specs.Prelude.{ℕ, Option, Some, None, List, [], ◌∷◌, ◌++◌, map, codes, decimal}
 use Rattle.model_tree.specs.Tree.{Word}
 use Rattle.quantity.specs.Bytes.{Bytes}
 use Rattle.room_edge.specs.Outside.{Files}
@@ -55,12 +55,6 @@ with_file files name inputs go =
 -- what is refused, at which line and why
 abbrev pub refused_text : Bytes → ℕ → Bytes → Bytes
 refused_text what line why = what ++ codes " refused: line " ++ decimal line ++ codes ": " ++ why
-
--- goes on with what was read, or ends refused
-abbrev pub unless_refused : {A E : Type 0} → Status → (E → Bytes) → List Word → Result A E
-    → (A → Answer) → Answer
-unless_refused status text inputs (Err e) go = only_complains status (text e) inputs
-unless_refused status text inputs (Ok x) go = go x
 
 -- ---- lines of faults, which no answer has
 

@@ -1,8 +1,7 @@
 -- What the words of the drawing program ask for.
-use Rattle.std.specs.Prelude.{◌&&◌, ◌==◌, nat_lt, nat_le, Option, Some, None, List, [], ◌∷◌, if◌then◌else◌, codes}
+use Rattle.std.specs.Prelude.{◌&&◌, ◌==◌, nat_lt, nat_le, Option, Some, None, List, [], ◌∷◌}
+use Rattle.std.specs.Prelude.{if◌then◌else◌, codes}
 use Rattle.std.specs.List.{slice_split}
-use Rattle.clap.specs.Walk.{Row}
-use Rattle.clap.specs.Simple.{App, new_app, matches_of}
 use Rattle.cell_grid.specs.declared.grid.Border.TheVariants.{NoWrapped}
 use Rattle.cell_grid.specs.Space.{Space, plane_count, cell_count}
 use Rattle.model_tree.specs.Tree.{Word}
@@ -10,10 +9,8 @@ use Rattle.quantity.specs.declared.bounds.TheConstants.{MAX_CELLS}
 use Rattle.quantity.specs.Bytes.{Bytes}
 use Rattle.quantity.specs.Written.{for_some}
 use Rattle.text_forms.specs.Frames.{Picture}
-use Rattle.answer_model.specs.Asked.{with_options, is_taken, value_of, or_else, needed, group_in, number}
-
-unfoldable pub drawlog_app : App
-drawlog_app = with_options (new_app (codes "drawlog")) (codes "lgswpf")
+use Rattle.answer_model.specs.Options.{Draft, drawing_rows, number, usage_by, draft_by}
+use Rattle.answer_model.specs.Asked.{group_in}
 
 -- what the words of drawlog ask for
 pub record AskedDrawing : Type 0 where
@@ -42,27 +39,29 @@ space_of parts = None
 abbrev pub space_in : Word → Option Space
 space_in text = space_of (slice_split (λ c. c == 44) text)
 
--- what the values of options ask to be drawn
-abbrev pub drawing_in : List Row → Option AskedDrawing
-drawing_in rows =
-    for_some (value_of rows (codes "l")) (λ log.
-    for_some (needed group_in (value_of rows (codes "g"))) (λ group.
-    for_some (needed space_in (value_of rows (codes "s"))) (λ space.
-    for_some (or_else 3 (number 1 20) (value_of rows (codes "w"))) (λ width.
-    for_some (or_else 0 (number 0 5) (value_of rows (codes "p"))) (λ decimals.
-    for_some (or_else 0 (number 0 1048575) (value_of rows (codes "f"))) (λ plane.
-    if nat_lt plane (plane_count space)
+-- what a draft asks to be drawn, where the space has the plane
+abbrev pub drawing_of : Draft → Option AskedDrawing
+drawing_of d =
+    for_some d.log (λ log.
+    for_some (for_some d.group group_in) (λ group.
+    for_some (for_some d.space space_in) (λ space.
+    if nat_lt d.plane (plane_count space)
     then Some (record {
       log = log;
       group = group;
-      picture = record { space = space; plane = plane; width = width; decimals = decimals };
+      picture = record {
+        space = space;
+        plane = d.plane;
+        width = d.width;
+        decimals = d.decimals;
+      };
     })
-    else None))))))
+    else None)))
 
-unfoldable pub asked_drawing : List Word → Option AskedDrawing
-asked_drawing words =
-    if is_taken drawlog_app words then drawing_in (matches_of drawlog_app words) else None
+-- what these words ask to be drawn, where they are of the form
+abbrev pub asked_drawing : List Word → Option AskedDrawing
+asked_drawing words = for_some (draft_by (codes "drawlog") drawing_rows words) drawing_of
 
 -- the usage line of drawlog
 abbrev pub drawing_usage : Bytes
-drawing_usage = codes "drawlog -l LOG -g GROUP -s SIZE [-w WIDTH] [-p DECIMALS] [-f PLANE]"
+drawing_usage = usage_by (codes "drawlog") drawing_rows

@@ -10,7 +10,7 @@ use Rattle.atomic_face.specs.declared.class.Class.{Class}
 use Rattle.atomic_face.specs.declared.class.Class.TheVariants.{Queue, Generator, Cpu, Counter, Table}
 use Rattle.model_tree.specs.Tree.{Word}
 use Rattle.text_forms.specs.Rows.{lines}
-use Rattle.answer_model.specs.Asked.{all_letters}
+use Rattle.answer_model.specs.Options.{all_rows}
 use Rattle.answer_model.specs.AskedRows.{words}
 use Rattle.answer_model.specs.Answer.{MadeFiles, Answer}
 use Rattle.answer_model.specs.Cdpp.{answer, answer_by}
@@ -32,7 +32,7 @@ to text files = answer (words text) (folder files) boxes
 
 -- what it answers with all options, also those that are still to come
 abbrev pub to_all : Bytes → MadeFiles → Answer
-to_all text files = answer_by all_letters (words text) (folder files) boxes
+to_all text files = answer_by all_rows (words text) (folder files) boxes
 
 -- a file of these lines
 abbrev pub holding : Bytes → List Bytes → Word × Bytes

@@ -5,7 +5,7 @@ use Rattle.cell_grid.specs.declared.grid.Border.TheVariants.{NoWrapped}
 use Rattle.quantity.specs.Bytes.{Bytes}
 use Rattle.answer_model.specs.Asked.{Asked, made, asked}
 use Rattle.answer_model.specs.AskedDrawing.{AskedDrawing, asked_drawing}
-use Rattle.answer_model.specs.AskedRows.{words, plain}
+use Rattle.answer_model.specs.AskedRows.{words, plain, usage_text, drawing_usage_text}
 use Rattle.answer_model.specs.Drawlog.{drawing_answer}
 use Rattle.answer_model.specs.WholeFiles.{folder, to, complains}
 use Rattle.answer_model.specs.declared.status.Status.TheVariants.{Usage}
@@ -55,7 +55,7 @@ pub record OptionsEndAsSaid : Type 0 where
   pub seven_digits : asks (codes " -c 0000005") ≡ Some (record least { limit = 5 })
   pub eight_digits : asks (codes " -c 00000005") ≡ None
   pub sign : asks (codes " -c +5") ≡ None
-  pub all_letters : asks (codes " -L SXNY") ≡ Some (record least { letters = codes "SXNY" })
+  pub all_letters : asks (codes " -L SXNY") ≡ Some (record least { letters = codes "YNXS" })
   pub one_letter : asks (codes " -L N") ≡ Some (record least { letters = codes "N" })
   pub no_such_letter : asks (codes " -L YZ") ≡ None
   pub small_letter : asks (codes " -L y") ≡ None
@@ -139,13 +139,9 @@ pub record DrawingsEndAsSaid : Type 0 where
 
 pub record UsageIsShown : Type 0 where
   pub cdpp : to (codes "cdpp") []
-      ≡ complains Usage
-      (codes "usage: cdpp (-m MODEL | -G N) -t END [-e EVENTS] [-l LOG] [-o OUT]"
-      ++ codes " [-d FRAMES -g GROUP] [-L LETTERS] [-c LIMIT] [-w WIDTH] [-p DECIMALS] [-f PLANE]")
-      [] []
+      ≡ complains Usage (codes "usage: " ++ usage_text) [] []
   pub drawlog : drawing_answer (words (codes "drawlog")) (folder [])
-      ≡ complains Usage
-      (codes "usage: drawlog -l LOG -g GROUP -s SIZE [-w WIDTH] [-p DECIMALS] [-f PLANE]") [] []
+      ≡ complains Usage (codes "usage: " ++ drawing_usage_text) [] []
 
 pub record WordsEndAsSaid : Type 0 where
   pub options : OptionsEndAsSaid

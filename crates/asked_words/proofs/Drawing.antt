@@ -2,23 +2,14 @@
 use Rattle.std.proofs.Common.{◌≡◌, ℕ, Option, Some, None, List, [], ◌∷◌, refl, sym, ap, ◌∙◌, map, length, get_or, arith}
 use Rattle.std.specs.Prelude.{codes}
 use Rattle.std.specs.Borrow.{Bor}
-use Rattle.clap.specs.Walk.{Row}
 use Rattle.cell_grid.specs.Space.{Space}
 use Rattle.cell_grid.specs.declared.grid.Border.TheVariants.{NoWrapped}
 use Rattle.model_tree.specs.Tree.{Word}
 use Rattle.quantity.specs.Written.{for_some}
-use Rattle.answer_model.specs.Asked.{value_of, needed, number, group_in}
-use Rattle.answer_model.specs.AskedDrawing.{drawing_in, space_in, space_if, space_of}
-use Rattle.asked_words.specs.Looking.{Looks, looks_asked, drawing_with, drawing_so, space_sized}
-use Rattle.asked_words.proofs.Looked.{looked}
-
--- the same for each three of what is given is the same where any of them is not
-for_three : {A B C D : Type 0} (a : Option A) (b : Option B) (c : Option C) (f g : A → B → C → Option D) → ((x : A) (y : B) (z : C) → f x y z ≡ g x y z)
-    → for_some a (λ x. for_some b (λ y. for_some c (λ z. f x y z))) ≡ for_some a (λ x. for_some b (λ y. for_some c (λ z. g x y z)))
-for_three None b c f g h = refl
-for_three (Some x) None c f g h = refl
-for_three (Some x) (Some y) None f g h = refl
-for_three (Some x) (Some y) (Some z) f g h = h x y z
+use Rattle.answer_model.specs.Options.{Draft, number}
+use Rattle.answer_model.specs.Asked.{group_in}
+use Rattle.answer_model.specs.AskedDrawing.{drawing_of, space_in, space_if, space_of}
+use Rattle.asked_words.specs.Spaces.{drawing_with, space_sized}
 
 -- the last of three may be looked at first
 last_first : {A B C D : Type 0} (a : Option A) (b : Option B) (c : Option C) (f : A → B → C → Option D)
@@ -57,14 +48,22 @@ three_parts (r ∷ c ∷ p ∷ q ∷ ps) d e f planes n is = absurd (omega arith
 
 -- ---- the drawing
 
--- what is asked is what is drawn of the values of the options
-pub drawing_is : (rows : List Row) → drawing_so (value_of rows (codes "l")) (needed group_in (value_of rows (codes "g"))) (needed space_in (value_of rows (codes "s"))) (looks_asked rows) ≡ drawing_in rows
-unfolding drawing_so
-drawing_is rows =
-    for_three (value_of rows (codes "l")) (needed group_in (value_of rows (codes "g"))) (needed space_in (value_of rows (codes "s"))) _ _
-    (λ log group space. sym (looked rows (λ width decimals plane. drawing_with log group space (record { width = width; decimals = decimals; plane = plane }))))
+pub no_log : (d : Draft) → d.log ≡ None → drawing_of d ≡ None
+no_log d h = ap (λ o. for_some o (λ log. for_some (for_some d.group group_in) (λ group. for_some (for_some d.space space_in) (λ space. drawing_with log group space d)))) h
 
--- the same of each is drawn the same
-pub drawn_same : (a a' b b' : Option Word) (c c' : Option Space) (l l' : Option Looks) → a ≡ a' → b ≡ b' → c ≡ c' → l ≡ l' → drawing_so a b c l ≡ drawing_so a' b' c' l'
-drawn_same a a' b b' c c' l l' p q r s =
-    ap (λ x. drawing_so x b c l) p ∙ ap (λ x. drawing_so a' x c l) q ∙ ap (λ x. drawing_so a' b' x l) r ∙ ap (drawing_so a' b' c') s
+pub no_group : (d : Draft) (l : Word) → d.log ≡ Some l → for_some d.group group_in ≡ None → drawing_of d ≡ None
+no_group d l hl h =
+    ap (λ o. for_some o (λ log. for_some (for_some d.group group_in) (λ group. for_some (for_some d.space space_in) (λ space. drawing_with log group space d)))) hl
+    ∙ ap (λ o. for_some o (λ group. for_some (for_some d.space space_in) (λ space. drawing_with l group space d))) h
+
+pub no_space : (d : Draft) (l g : Word) → d.log ≡ Some l → for_some d.group group_in ≡ Some g → for_some d.space space_in ≡ None → drawing_of d ≡ None
+no_space d l g hl hg h =
+    ap (λ o. for_some o (λ log. for_some (for_some d.group group_in) (λ group. for_some (for_some d.space space_in) (λ space. drawing_with log group space d)))) hl
+    ∙ ap (λ o. for_some o (λ group. for_some (for_some d.space space_in) (λ space. drawing_with l group space d))) hg
+    ∙ ap (λ o. for_some o (λ space. drawing_with l g space d)) h
+
+pub all_there : (d : Draft) (l g : Word) (s : Space) → d.log ≡ Some l → for_some d.group group_in ≡ Some g → for_some d.space space_in ≡ Some s → drawing_of d ≡ drawing_with l g s d
+all_there d l g s hl hg h =
+    ap (λ o. for_some o (λ log. for_some (for_some d.group group_in) (λ group. for_some (for_some d.space space_in) (λ space. drawing_with log group space d)))) hl
+    ∙ ap (λ o. for_some o (λ group. for_some (for_some d.space space_in) (λ space. drawing_with l group space d))) hg
+    ∙ ap (λ o. for_some o (λ space. drawing_with l g space d)) h

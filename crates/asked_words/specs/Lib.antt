@@ -1,4 +1,3 @@
 pub mod Shown
-pub mod Looking
-pub mod Options
-pub mod Running
+pub mod Group
+pub mod Spaces

@@ -1,6 +1,17 @@
-// What words ask for.
+// What words ask for, and that of the simulator.
+ghost use Rattle.std.specs.Prelude.{◌≡◌, ◌≤◌, IfOk, IfSome, map};
+ghost use Rattle.std.specs.Option.{option_map};
+ghost use Rattle.std.specs.String.{string_bytes};
+ghost use Rattle.answer_model.specs.Asked as A;
+ghost use Rattle.asked_words.specs.Shown.{text_of_name, source_of, frames_of, asked_of};
+ghost use Rattle.asked_words.specs.Shown.{IsOfSize, CanBeShown, IsInBounds};
+ghost use Rattle.word_options.specs.Drafts.{draft_of, IsBounded, MadeDiffer};
+
 use cell_grid::Grid;
-use quantity::{Name, Time};
+use quantity::{Name, OutOfMemory, Time};
+use std::alloc::Global;
+use word_options::values::group_in;
+use word_options::{Draft, cdpp_draft};
 
 /// Where a model comes from: a file, or a game of life with so many rows and columns, 5 to 1000.
 #[derive(Clone, Copy)]
@@ -20,19 +31,14 @@ pub struct FramesFile<'a> {
     pub decimals: u8,
 }
 
-/// What the words of the simulator ask for. `letters` are those of the log's lines, as they were
-/// given, at least one and no one twice; `limit` is how many cycles one instant may have, 1 to
-/// 1,000,000.
+/// What the words of the simulator ask for: the model, the last instant, the file of frames, where
+/// there is to be one, and all that is given, of which the options that stand alone are read.
 #[derive(Drop)]
 pub struct Asked<'a> {
     pub source: Source<'a>,
     pub end: Time,
-    pub events: Option<&'a str>,
-    pub log: Option<&'a str>,
-    pub out: Option<&'a str>,
     pub frames: Option<FramesFile<'a>>,
-    pub letters: &'a str,
-    pub limit: u32,
+    pub given: Draft<'a>,
 }
 
 /// What the words of the drawing program ask for: a log, a group in it with its space, the plane
@@ -45,4 +51,83 @@ pub struct AskedDrawing<'a> {
     pub plane: u32,
     pub width: u8,
     pub decimals: u8,
+}
+
+/// A model's file, or the size of a made one, and not both.
+fn source_in<'a>(model: Option<&'a str>, size: Option<u32>) -> Option<Source<'a>>
+    requires size { IfSome size (λ n. (5 ≤ n) × (n ≤ 1000)) }
+    ensures source { option_map source_of result ≡ A.source_in (text_of_name model.entry) size }
+    ensures size { IfSome result IsOfSize }
+{
+    match (model, size) {
+        (Some(name), None) => Some(Source::File(name)),
+        (None, Some(size)) => Some(Source::Made(size)),
+        _ => None,
+    }
+}
+
+/// A file of frames with its group, where both are given; neither is none.
+fn frames_in<'a>(
+    alloc: Global,
+    draft: &Draft<'a>,
+) -> Result<Option<Option<FramesFile<'a>>>, OutOfMemory>
+    requires { IsBounded draft.now }
+    ensures frames { IfOk result (λ f. option_map (option_map frames_of) f
+        ≡ A.frames_in (text_of_name draft.now.drawn) (text_of_name draft.now.group)
+        draft.now.width draft.now.decimals draft.now.plane) }
+    ensures bounds { IfOk result (λ f. IfSome f (λ f. IfSome f CanBeShown)) }
+    ensures named { IfOk result (λ f. IfSome f
+        (λ f. option_map (λ f. f.name.now) f ≡ text_of_name draft.now.drawn)) }
+{
+    match (draft.drawn, draft.group) {
+        (None, None) => Ok(Some(None)),
+        (Some(name), Some(group)) => match group_in(alloc, group)? {
+            None => Ok(None),
+            Some(group) => Ok(Some(Some(FramesFile {
+                name,
+                group,
+                plane: draft.plane,
+                width: draft.width,
+                decimals: draft.decimals,
+            }))),
+        },
+        _ => Ok(None),
+    }
+}
+
+/// What a draft asks for, where it has a model and an end.
+fn asked_of<'a>(alloc: Global, draft: &Draft<'a>) -> Result<Option<Asked<'a>>, OutOfMemory>
+    requires bounds { IsBounded draft.now }
+    requires made { MadeDiffer draft.now }
+    ensures value { IfOk result (λ a. option_map asked_of a ≡ A.asked_of (draft_of draft.now)) }
+    ensures bounds { IfOk result (λ a. IfSome a IsInBounds) }
+{
+    let Some(source) = source_in(draft.model, draft.size) else {
+        return Ok(None);
+    };
+    let Some(end) = draft.end else {
+        return Ok(None);
+    };
+    let Some(frames) = frames_in(alloc, draft)? else {
+        return Ok(None);
+    };
+    Ok(Some(Asked {
+        source,
+        end,
+        frames,
+        given: Draft { ..*draft },
+    }))
+}
+
+/// What the words ask for, of which the first is the program's name; None where they are refused.
+pub fn read_words<'a>(alloc: Global, words: &'a [String]) -> Result<Option<Asked<'a>>, OutOfMemory>
+    ensures value { IfOk result (λ a. option_map asked_of a
+        ≡ A.asked (map string_bytes words.entry.now)) }
+    ensures bounds { IfOk result (λ a. IfSome a IsInBounds) }
+{
+    match cdpp_draft(alloc, words) {
+        Ok(Some(draft)) => asked_of(alloc, &draft),
+        Ok(None) => Ok(None),
+        Err(OutOfMemory) => Err(OutOfMemory),
+    }
 }

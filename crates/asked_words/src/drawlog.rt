@@ -3,21 +3,20 @@ ghost use Rattle.std.specs.Prelude.{◌≡◌, ◌<◌, ◌≤◌, ◌==◌, IfO
 ghost use Rattle.std.specs.List.{slice_split};
 ghost use Rattle.std.specs.Option.{option_map};
 ghost use Rattle.std.specs.String.{string_bytes};
-ghost use Rattle.clap.specs.Words.{rows_of, found_of};
 ghost use Rattle.cell_grid.specs.declared.grid.Border.TheVariants.{NoWrapped};
+ghost use Rattle.quantity.specs.Written.{for_some};
 ghost use Rattle.answer_model.specs.Asked as A;
 ghost use Rattle.answer_model.specs.AskedDrawing as D;
-ghost use Rattle.asked_words.specs.Shown.{text_of_name, drawing_of};
-ghost use Rattle.asked_words.specs.Looking.{looks_of, space_sized, drawing_with, drawing_so};
+ghost use Rattle.asked_words.specs.Shown.{text_of_name, drawing_of, CanBeDrawn};
+ghost use Rattle.word_options.specs.Drafts.{draft_of, IsBounded};
+ghost use Rattle.asked_words.specs.Spaces.{space_sized, drawing_with};
 
 use crate::asked::AskedDrawing;
-use crate::command::drawlog_matches;
-use crate::looks::{Looks, looks_in};
-use crate::values::{group_in, number};
 use cell_grid::{Border, Grid};
-use clap::ArgMatches;
 use quantity::{Name, OutOfMemory};
 use std::alloc::{AllocError, Global};
+use word_options::values::{group_in, number};
+use word_options::{Draft, drawlog_draft};
 
 /// The pieces of a text between its commas.
 fn pieces<'a>(alloc: Global, text: &'a str) -> Result<Vec<&'a str>, AllocError>
@@ -38,7 +37,7 @@ fn space_if(rows: u32, columns: u32, planes: Option<u32>) -> Option<Grid>
 }
 
 /// A space of these rows, columns and planes.
-#[tactic(auto, unfolding(crate::specs::Looking::space_sized))]
+#[tactic(auto, unfolding(crate::specs::Spaces::space_sized))]
 fn space_with(rows: &str, columns: &str, planes: Option<u32>) -> Option<Grid>
     ensures { result ≡ space_sized rows.now columns.now planes }
 {
@@ -70,20 +69,25 @@ fn space_in(alloc: Global, text: &str) -> Result<Option<Grid>, OutOfMemory>
 }
 
 /// What is drawn so, where the space has the plane.
-fn drawn_so<'a>(log: &'a str, group: Name, space: Grid, looks: &Looks) -> Option<AskedDrawing<'a>>
-    requires width { looks.now.width ≤ 20 }
-    requires decimals { looks.now.decimals ≤ 5 }
-    ensures { option_map drawing_of result
-        ≡ drawing_with log.entry.now group space (looks_of looks.now) }
+fn drawn_so<'a>(
+    log: &'a str,
+    group: Name,
+    space: Grid,
+    draft: &Draft<'_>,
+) -> Option<AskedDrawing<'a>>
+    requires { IsBounded draft.now }
+    ensures value { option_map drawing_of result
+        ≡ drawing_with log.entry.now group space (draft_of draft.now) }
+    ensures bounds { IfSome result CanBeDrawn }
 {
-    if looks.plane < space.planes() {
+    if draft.plane < space.planes() {
         Some(AskedDrawing {
             log,
             group,
             space,
-            plane: looks.plane,
-            width: looks.width as u8,
-            decimals: looks.decimals as u8,
+            plane: draft.plane,
+            width: draft.width,
+            decimals: draft.decimals,
         })
     } else {
         None
@@ -92,7 +96,7 @@ fn drawn_so<'a>(log: &'a str, group: Name, space: Grid, looks: &Looks) -> Option
 
 /// The group that is given.
 fn group_given(alloc: Global, text: Option<&str>) -> Result<Option<Name>, OutOfMemory>
-    ensures { IfOk result (λ name. name ≡ A.needed A.group_in (text_of_name text.entry)) }
+    ensures { IfOk result (λ name. name ≡ for_some (text_of_name text.entry) A.group_in) }
 {
     match text {
         None => Ok(None),
@@ -102,7 +106,7 @@ fn group_given(alloc: Global, text: Option<&str>) -> Result<Option<Name>, OutOfM
 
 /// The space that is given.
 fn space_given(alloc: Global, text: Option<&str>) -> Result<Option<Grid>, OutOfMemory>
-    ensures { IfOk result (λ space. space ≡ A.needed D.space_in (text_of_name text.entry)) }
+    ensures { IfOk result (λ space. space ≡ for_some (text_of_name text.entry) D.space_in) }
 {
     match text {
         None => Ok(None),
@@ -110,33 +114,22 @@ fn space_given(alloc: Global, text: Option<&str>) -> Result<Option<Grid>, OutOfM
     }
 }
 
-/// What is drawn, where all of it is given.
-#[tactic(auto, unfolding(crate::specs::Looking::drawing_so))]
-fn drawn<'a>(
-    log: Option<&'a str>,
-    group: Option<Name>,
-    space: Option<Grid>,
-    looks: Option<Looks>,
-) -> Option<AskedDrawing<'a>>
-    requires width { IfSome looks (λ l. l.width ≤ 20) }
-    requires decimals { IfSome looks (λ l. l.decimals ≤ 5) }
-    ensures { option_map drawing_of result
-        ≡ drawing_so (text_of_name log.entry) group space (option_map looks_of looks) }
+/// What a draft asks to be drawn, where it has a log, a group and a space.
+fn drawing_of<'a>(alloc: Global, draft: &Draft<'a>) -> Result<Option<AskedDrawing<'a>>, OutOfMemory>
+    requires { IsBounded draft.now }
+    ensures value { IfOk result (λ a. option_map drawing_of a ≡ D.drawing_of (draft_of draft.now)) }
+    ensures bounds { IfOk result (λ a. IfSome a CanBeDrawn) }
 {
-    drawn_so(log?, group?, space?, &looks?)
-}
-
-/// What the matches ask for.
-fn drawing_in<'a>(
-    alloc: Global,
-    matches: &ArgMatches<'a>,
-) -> Result<Option<AskedDrawing<'a>>, OutOfMemory>
-    ensures { IfOk result (λ a. option_map drawing_of a
-        ≡ D.drawing_in (rows_of (found_of matches.now))) }
-{
-    let space = space_given(alloc, matches.get_str("s"))?;
-    let group = group_given(alloc, matches.get_str("g"))?;
-    Ok(drawn(matches.get_str("l"), group, space, looks_in(matches)))
+    let Some(log) = draft.log else {
+        return Ok(None);
+    };
+    let Some(group) = group_given(alloc, draft.group)? else {
+        return Ok(None);
+    };
+    let Some(space) = space_given(alloc, draft.space)? else {
+        return Ok(None);
+    };
+    Ok(drawn_so(log, group, space, draft))
 }
 
 /// What the words ask for, of which the first is the program's name; None where they are refused.
@@ -144,14 +137,13 @@ pub fn read_drawing_words<'a>(
     alloc: Global,
     words: &'a [String],
 ) -> Result<Option<AskedDrawing<'a>>, OutOfMemory>
-    ensures { IfOk result (λ a. option_map drawing_of a
+    ensures value { IfOk result (λ a. option_map drawing_of a
         ≡ D.asked_drawing (map string_bytes words.entry.now)) }
+    ensures bounds { IfOk result (λ a. IfSome a CanBeDrawn) }
 {
-    let Some(matches) = drawlog_matches(alloc, words)? else {
-        return Ok(None);
-    };
-    let asked = drawing_in(alloc, &matches);
-    // A call, so that the drop is proved once.
-    drop(matches);
-    asked
+    match drawlog_draft(alloc, words) {
+        Ok(Some(draft)) => drawing_of(alloc, &draft),
+        Ok(None) => Ok(None),
+        Err(OutOfMemory) => Err(OutOfMemory),
+    }
 }

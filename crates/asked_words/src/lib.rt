@@ -2,14 +2,11 @@
 #![tactic(auto)]
 
 pub mod asked;
-mod cdpp;
-mod command;
 mod drawlog;
 mod given;
-mod looks;
-mod values;
+pub mod group;
 
-pub use asked::{Asked, AskedDrawing, FramesFile, Source};
-pub use cdpp::read_words;
+pub use asked::{Asked, AskedDrawing, FramesFile, Source, read_words};
 pub use drawlog::read_drawing_words;
 pub use given::given_words;
+pub use group::GroupAt;

@@ -1,34 +1,107 @@
--- The causes of a status where a model or events can't be read.
-use Rattle.std.proofs.Common.{◌≡◌, refl, sym, subst}
+-- The causes of a status where something can't be read.
+use Rattle.std.proofs.Common.{◌≡◌, Some, None, List, refl, sym, ◌∙◌, subst, arith}
 use Rattle.std.specs.declared.result.Result.TheVariants.{Err}
+use Rattle.room_edge.specs.Faults.{KeepsMisses}
 use Rattle.room_edge.specs.Outside.{Outside, OnlyInput}
 use Rattle.event_list.specs.declared.refusal.EventRefusal.{EventRefusal}
 use Rattle.event_list.specs.declared.refusal.EventRefusal.TheVariants as E
+use Rattle.model_tree.specs.Tree.{Word}
 use Rattle.model_files.specs.declared.refusal.ModelRefusal.{ModelRefusal}
-use Rattle.model_files.specs.declared.refusal.ModelRefusal.TheVariants as why
+use Rattle.model_files.specs.declared.refusal.ModelRefusal.TheVariants as M
 use Rattle.model_files.specs.Reading.{Counted}
 use Rattle.answer_model.specs.declared.status.Status.{Status}
 use Rattle.answer_model.specs.declared.status.Status.TheVariants as exit
-use Rattle.answer_model.specs.Status.{of_reading}
+use Rattle.answer_model.specs.Status.{row_of, of_words, of_reading, of_cdpp}
+use Rattle.answer_model.specs.Asked.{Asked, asked, usage}
+use Rattle.answer_model.specs.Started.{bad_words}
 use Rattle.answer_model.specs.Outcome.{EndsBy}
 use Rattle.answer_model.specs.FaultsAnswered.{NoReadFault}
-use Rattle.answer_model.proofs.FaultLemmas.{clean_read}
-use Rattle.answer_model.proofs.Causing.{memory_ends, said_ends, unread_ends}
-use Rattle.cdpp_top.specs.Reading.{TellsModel, TellsEvents}
+use Rattle.answer_model.proofs.FaultLemmas.{nothing_done, clean_read, clean_answers, said_answers}
+use Rattle.answer_model.proofs.Said.{said_among}
+use Rattle.answer_model.proofs.Causing.{read_known, cause_for, said_caused, memory_ends, nothing_read, nothing_written, said_ends, unread_ends}
+use Rattle.cdpp_top.specs.Unread.{unread_model, TellsStop, TellsNothing, TellsEvents, TellsUnread}
+use Rattle.cdpp_top.specs.Stages.{EndsOverAll}
+
+-- ---- of a stage
 
 -- memory ran out after something was read
-unsaid_ends : (old mid new : Outside) (s : Status) → OnlyInput old mid → NoReadFault old mid → s ≡ exit.NoMemory → new ≡ mid → EndsBy of_reading old new s
-unsaid_ends old mid new s only sure own same =
+pub nothing_told : (old mid new : Outside) (s : Status) → OnlyInput old mid → NoReadFault old mid → TellsNothing mid new s → EndsBy of_reading old new s
+nothing_told old mid new s only sure (own, same) =
     subst (EndsBy of_reading old new) (sym own) (subst (λ (o : Outside). EndsBy of_reading old o exit.NoMemory) (sym same) (memory_ends of_reading old mid refl (clean_read old mid only sure)))
 
-pub model_told : (T : Type 0) (reason : ModelRefusal) (old mid new : Outside) (s : Status) → Counted {T = T} (Err reason) old mid → OnlyInput old mid → TellsModel reason mid new s → EndsBy of_reading old new s
-model_told T (why.Missing name) old mid new s counted only says = said_ends of_reading _ exit.Missing old mid new s refl refl counted.0 only counted.1 says
-model_told T (why.ReadFault name) old mid new s counted only says = unread_ends of_reading name old mid new s refl refl counted.1 only says
-model_told T (why.Refused line kind) old mid new s counted only says = said_ends of_reading _ exit.ModelRefused old mid new s refl refl tt only counted.1 says
-model_told T why.Memory old mid new s counted only (own, same) = unsaid_ends old mid new s only counted.1 own same
+pub model_told : (T : Type 0) (reason : ModelRefusal) (old mid new : Outside) (s : Status) → Counted {T = T} (Err reason) old mid → OnlyInput old mid → TellsUnread (unread_model reason) mid new s → EndsBy of_reading old new s
+model_told T (M.Missing name) old mid new s counted only says = said_ends of_reading _ exit.Missing old mid new s refl refl counted.0 only counted.1 says
+model_told T (M.ReadFault name) old mid new s counted only says = unread_ends of_reading name old mid new s refl refl counted.1 only says
+model_told T (M.Refused line kind) old mid new s counted only says = said_ends of_reading _ exit.ModelRefused old mid new s refl refl tt only counted.1 says
+model_told T M.Memory old mid new s counted only tells = nothing_told old mid new s only counted.1 tells
 
 pub events_told : (reason : EventRefusal) (old mid new : Outside) (s : Status) → OnlyInput old mid → NoReadFault old mid → TellsEvents reason mid new s → EndsBy of_reading old new s
 events_told (E.BadEventLine line) old mid new s only sure says = said_ends of_reading _ exit.EventsRefused old mid new s refl refl tt only sure says
 events_told (E.UnknownPort line) old mid new s only sure says = said_ends of_reading _ exit.EventsRefused old mid new s refl refl tt only sure says
 events_told (E.TooLarge line) old mid new s only sure says = said_ends of_reading _ exit.EventsRefused old mid new s refl refl tt only sure says
-events_told E.Memory old mid new s only sure (own, same) = unsaid_ends old mid new s only sure own same
+events_told E.Memory old mid new s only sure tells = nothing_told old mid new s only sure tells
+
+-- ---- of the program
+
+-- once the words are taken
+pub taken_ends : (words : List Word) (old new : Outside) (s : Status) → (asked words ≡ None → ⊥) → EndsBy of_reading old new s → EndsOverAll words old new s
+taken_ends words old new s taken ends =
+    record {
+      causes = record {
+        known = read_known s ends.known;
+        cause = cause_for ⊥ (asked words ≡ None) old new (row_of s).cause (λ e. absurd e) ends.cause;
+        refused = λ none. absurd (taken none);
+      };
+      faults = ends.faults;
+      nothing = ends.nothing;
+    }
+
+-- words that are taken are not refused
+pub are_taken : (words : List Word) (a : Asked) → Some a ≡ asked words → asked words ≡ None → ⊥
+are_taken words a is none = let both = is ∙ none in let no : ⊥ = cc in no
+
+-- words that are refused
+pub refused_ends : (words : List Word) (old new : Outside) (s : Status) → None ≡ asked words → TellsStop (bad_words usage) old new s → EndsOverAll words old new s
+refused_ends words old new s is says =
+    record {
+      causes = record {
+        known = said_among of_cdpp _ exit.Usage old new s refl refl refl says;
+        cause = said_caused (asked words ≡ None) _ exit.Usage old old new s (omega arith) (sym is) says;
+        refused = λ e. said_among of_words _ exit.Usage old new s refl refl refl says;
+      };
+      faults = said_answers _ exit.Usage old new s says;
+      nothing = λ e. nothing_written _ exit.Usage old old new s (nothing_read old) says;
+    }
+
+no_memory_ends : (words : List Word) (now : Outside) → EndsOverAll words now now exit.NoMemory
+no_memory_ends words now =
+    record {
+      causes = record { known = refl; cause = tt; refused = λ e. refl };
+      faults = clean_answers now now exit.NoMemory (nothing_done now);
+      nothing = λ e. absurd cc;
+    }
+
+-- no memory for them
+pub unread_words_end : (words : List Word) (old new : Outside) (s : Status) → TellsNothing old new s → EndsOverAll words old new s
+unread_words_end words old new s (own, same) =
+    subst (EndsOverAll words old new) (sym own) (subst (λ (o : Outside). EndsOverAll words old o exit.NoMemory) (sym same) (no_memory_ends words old))
+
+-- ---- one reading after another
+
+pub only_then : (old mid new : Outside) → OnlyInput old mid → OnlyInput mid new → OnlyInput old new
+only_then old mid new first second =
+    record {
+      files = second.files ∙ first.files;
+      made = second.made ∙ first.made;
+      shown = second.shown ∙ first.shown;
+      complained = second.complained ∙ first.complained;
+      write_faults = second.write_faults ∙ first.write_faults;
+      complain_faults = second.complain_faults ∙ first.complain_faults;
+      created = second.created ∙ first.created;
+    }
+
+pub misses_then : (old mid new : Outside) → KeepsMisses old mid → KeepsMisses mid new → KeepsMisses old new
+misses_then old mid new first second = omega (arith, first, second)
+
+pub misses_kept : (o : Outside) → KeepsMisses o o
+misses_kept o = omega arith

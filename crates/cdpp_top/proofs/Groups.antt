@@ -39,6 +39,16 @@ accepted : (b : Bool) → cond b None (Some (refusal 0 NoSuchPlane)) ≡ None �
 accepted true h = refl
 accepted false h = cc
 
+refused : (b : Bool) → cond b None (Some (refusal 0 NoSuchPlane)) ≡ None → b ≡ false → ⊥
+refused true h off = absurd (cc)
+refused false h off = absurd (cc)
+
+-- a drawing that is accepted is of a group that has leaves
+pub group_there : (t : Tree) (d : Drawing) → is_sound_model t ≡ true → drawing_refused (Some d) t ≡ None → group_at d.group (leaves t) ≡ None → ⊥
+group_there t d sound drawn none =
+    let named : group_named d.group t ≡ None = sym (group_found t 0 d.group (sound_is t sound).parts) ∙ ap group_in none in
+    refused (has_plane d.plane (group_named d.group t)) drawn (ap (has_plane d.plane) named)
+
 -- a drawing that is accepted is of a plane of its group
 pub plane_inside : (t : Tree) (d : Drawing) (p : ℕ × Group) → is_sound_model t ≡ true → drawing_refused (Some d) t ≡ None → group_at d.group (leaves t) ≡ Some p → d.plane < plane_count p.1.space
 plane_inside t d p sound drawn there =

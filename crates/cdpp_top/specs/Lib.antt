@@ -1,4 +1,4 @@
 pub mod Starting
-pub mod Reading
-pub mod Visits
+pub mod Unread
+pub mod Stages
 pub mod Leaving

@@ -4,13 +4,13 @@
 mod events;
 pub mod laws;
 mod lines;
-mod outputs;
 mod program;
-mod reading;
+mod read;
 mod run;
 mod start;
 mod sure;
 mod tell;
+mod unread;
 
-pub use program::{cdpp, cdpp_over};
+pub use program::cdpp;
 pub use sure::cdpp_surely;

@@ -1,23 +1,22 @@
 // The run of a model with its events.
-ghost use Rattle.std.specs.Prelude.{◌≡◌, ◌+◌, ◌≤◌, true, None, List};
+ghost use Rattle.std.specs.Prelude.{◌≡◌, ◌+◌, ◌≤◌, true, List, []};
 ghost use Rattle.model_tree.specs.Tree.{Word, ins_of};
-ghost use Rattle.run_model.specs.Run.{run as run_of};
-ghost use Rattle.run_model.specs.Visits.{visits};
 ghost use Rattle.sparse_cycle.specs.Feed.{AreAtInputs};
-ghost use Rattle.answer_model.specs.Cdpp.{answer_from};
+ghost use Rattle.room_edge.specs.Faults.{WriteFaultCounted};
+ghost use Rattle.answer_model.specs.declared.status.Status.TheVariants.{WriteFault};
+ghost use Rattle.answer_model.specs.Status.{of_run, IsOf};
+ghost use Rattle.answer_model.specs.Cdpp.{start_answer};
+ghost use Rattle.answer_model.specs.Visits.{start_visits};
 ghost use Rattle.answer_model.specs.Endings.{looked_for, EndsWith};
-ghost use Rattle.asked_words.specs.Shown.{asked_of};
-ghost use Rattle.cdpp_top.specs.Leaving.{RunLeaves};
-ghost use Rattle.cdpp_top.specs.Starting.{tree_on, MayStart};
+ghost use Rattle.answer_model.specs.FaultsAnswered.{AnswersFaults};
 ghost use Rattle.run_loop.specs.Leaves.{spent};
-ghost use Rattle.answer_model.specs.Outcome.{EndsBy};
-ghost use Rattle.answer_model.specs.Status.{of_reading};
+ghost use Rattle.asked_words.specs.Shown.{asked_of};
+ghost use Rattle.cdpp_top.specs.Starting.{tree_on, MayStart};
+ghost use Rattle.cdpp_top.specs.Stages.{start_with};
+ghost use Rattle.cdpp_top.specs.Leaving.{RunLeaves};
 
-use crate::outputs::outputs_of;
 use crate::start::Start;
-use asked_words::Asked;
 use atomic_face::AtomicModel;
-use event_list::Events;
 use flat_run::{FlatRun, Steps};
 use linked_queue::LinkedQueue;
 use room_edge::Room;
@@ -26,47 +25,52 @@ use std::alloc::Global;
 use std::sync::ledger::Ledger;
 use told_lines::Status;
 
-/// Runs a model with these events, and tells how that went.
-pub(crate) fn run_from<R: Room, M: AtomicModel, L: Ledger>(
+/// Runs what was read, and tells how that went.
+pub(crate) fn run<R: Room, M: AtomicModel, L: Ledger>(
     alloc: Global,
     room: &mut R,
-    asked: &Asked<'_>,
-    start: Start<M>,
-    events: Events,
+    start: Start<'_, M>,
     steps: &mut Steps<L>,
 ) -> Status
-    requires start { MayStart asked.now start.stock start.model start.routes }
-    requires at_inputs { AreAtInputs (ins_of (tree_on start.model start.stock)) events }
-    ensures ends { (inputs : List Word) → EndsWith
-        (answer_from (asked_of asked.now) (tree_on start.model start.stock) events inputs None)
-        (looked_for inputs) (R.outside room.old) (R.outside room.new) result }
-    ensures causes { EndsBy of_reading (R.outside room.old) (R.outside room.new) result }
+    requires may_start { MayStart start.asked start.stock start.model start.routes start.drawn }
+    requires at_inputs { AreAtInputs (ins_of (tree_on start.model start.stock)) start.events }
+    ensures ends { (inputs : List Word) → EndsWith (start_answer (start_with
+        (asked_of start.entry.asked) (tree_on start.entry.model start.entry.stock)
+        start.entry.events inputs)) (looked_for inputs)
+        (R.outside room.old) (R.outside room.new) result }
+    ensures known { IsOf of_run result }
+    ensures write_fault { result ≡ WriteFault
+        → WriteFaultCounted (R.outside room.old) (R.outside room.new) }
+    // Each fault that was counted shows in the status.
+    ensures faults { AnswersFaults (R.outside room.old) (R.outside room.new) result }
     // The visits that the reference run may cost.
-    ensures visits { let tree = tree_on start.model start.stock in
-        steps.new ≤ steps.old + visits tree (run_of tree events asked.now.end asked.now.limit) }
+    ensures visits { steps.new ≤ steps.old + start_visits (start_with (asked_of start.entry.asked)
+        (tree_on start.entry.model start.entry.stock) start.entry.events []) }
     // The files that the run leaves, and the visits of the cycles that were begun.
-    ensures leaves { RunLeaves (asked_of asked.now) (tree_on start.model start.stock) events
+    ensures leaves { RunLeaves (start_with (asked_of start.entry.asked)
+        (tree_on start.entry.model start.entry.stock) start.entry.events [])
         (R.outside room.old) (R.outside room.new) (spent true steps.old steps.new) result }
 {
     let Ok(queue) = LinkedQueue::with_leaves(alloc, start.model.leaves()) else {
-        drop((start, events));
+        drop(start);
         return Status::NoMemory;
     };
+    let asked = start.asked;
+    let drawn = start.drawn;
     let run = FlatRun::new(
         alloc,
         start.model,
         start.routes,
         start.stock,
-        events,
+        start.events,
         queue,
         asked.end,
-        asked.limit,
+        asked.given.limit,
     );
     let Ok(mut run) = run else {
         return Status::NoMemory;
     };
-    let outputs = outputs_of(asked);
-    let status = run_and_tell(alloc, room, &outputs, &mut run, steps);
+    let status = run_and_tell(alloc, room, &asked, drawn, &mut run, steps);
     drop(run);
     status
 }

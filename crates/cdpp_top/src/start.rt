@@ -1,12 +1,18 @@
 // What a run starts with.
+use asked_words::{Asked, GroupAt};
 use atomic_face::{AtomicModel, Stock};
+use event_list::Events;
 use model_tree::Model;
 use route_flat::Routes;
 
-/// A model that was read, with its routes, and the stock that its boxes stand in.
+/// What is asked for, the model that was read with its routes, the group that is drawn, the stock
+/// that its boxes stand in, and the events.
 #[derive(Drop)]
-pub(crate) struct Start<M: AtomicModel> {
+pub(crate) struct Start<'a, M: AtomicModel> {
+    pub(crate) asked: Asked<'a>,
     pub(crate) model: Model,
     pub(crate) routes: Routes,
+    pub(crate) drawn: Option<GroupAt>,
     pub(crate) stock: Stock<M>,
+    pub(crate) events: Events,
 }

@@ -1,27 +1,30 @@
-// Why there is no model, or no events.
+// What is told where nothing is read that a run could start from.
 ghost use Rattle.std.specs.Prelude.{◌++◌, codes};
 ghost use Rattle.text_forms.specs.Lines.{ended};
+ghost use Rattle.answer_model.specs.declared.status.Status.TheVariants.{Usage, EventsRefused};
 ghost use Rattle.answer_model.specs.Answer.{refused_text};
+ghost use Rattle.answer_model.specs.Asked.{usage};
 ghost use Rattle.answer_model.specs.Endings.{Says};
-ghost use Rattle.answer_model.specs.declared.status.Status.TheVariants.{EventsRefused};
-ghost use Rattle.cdpp_top.specs.Reading.{TellsModel, TellsEvents};
+ghost use Rattle.cdpp_top.specs.Unread.{TellsEvents, TellsUnread};
 
 use crate::lines::refused_line;
+use crate::unread::Unread;
 use event_list::EventRefusal;
-use model_read::ModelRefusal;
 use room_edge::Room;
 use std::alloc::Global;
 use told_lines::{Status, complain, complain_of};
+use word_options::usage_line;
 
-/// Tells why there is no model, as far as it can.
-pub(crate) fn tell_model<R: Room>(alloc: Global, room: &mut R, why: ModelRefusal) -> Status
-    ensures { TellsModel why (R.outside room.old) (R.outside room.new) result }
+/// Tells why nothing is read, as far as it can.
+pub(crate) fn tell_unread<R: Room>(alloc: Global, room: &mut R, why: Unread) -> Status
+    ensures { TellsUnread why (R.outside room.old) (R.outside room.new) result }
 {
     match why {
-        ModelRefusal::Missing(name) => {
+        Unread::Usage => tell_usage(alloc, room),
+        Unread::Missing(name) => {
             complain_of(alloc, room, b"missing: ", name.as_bytes(), Status::Missing)
         }
-        ModelRefusal::ReadFault(name) => {
+        Unread::ReadFault(name) => {
             complain_of(
                 alloc,
                 room,
@@ -30,7 +33,7 @@ pub(crate) fn tell_model<R: Room>(alloc: Global, room: &mut R, why: ModelRefusal
                 Status::ReadFault,
             )
         }
-        ModelRefusal::Refused { line, kind } => tell_refused(
+        Unread::Model { line, kind } => tell_refused(
             alloc,
             room,
             b"model",
@@ -38,12 +41,24 @@ pub(crate) fn tell_model<R: Room>(alloc: Global, room: &mut R, why: ModelRefusal
             kind.text().as_bytes(),
             Status::ModelRefused,
         ),
-        ModelRefusal::Memory => Status::NoMemory,
+        Unread::Events(refusal) => tell_events(alloc, room, refusal),
+        Unread::Memory => Status::NoMemory,
     }
 }
 
+/// Tells what words the program takes, as far as it can.
+fn tell_usage<R: Room>(alloc: Global, room: &mut R) -> Status
+    ensures { Says (ended (codes "usage: " ++ usage)) Usage
+        (R.outside room.old) (R.outside room.new) result }
+{
+    let Ok(line) = usage_line(alloc) else {
+        return Status::NoMemory;
+    };
+    complain(room, &line, Status::Usage)
+}
+
 /// Tells why there are no events, as far as it can.
-pub(crate) fn tell_events<R: Room>(alloc: Global, room: &mut R, why: EventRefusal) -> Status
+fn tell_events<R: Room>(alloc: Global, room: &mut R, why: EventRefusal) -> Status
     ensures { TellsEvents why (R.outside room.old) (R.outside room.new) result }
 {
     match why {

@@ -6,7 +6,7 @@ ghost use Rattle.model_read.specs.Read.{IsReady};
 use atomic_face::{PortNo, Stock};
 use atomic_kinds::CounterModel;
 use cell_engine::{Cell, CellState, CellStore, Given, PortState, Steps};
-use model_read::read_model_bytes;
+use model_read::{ReadModel, read_model_bytes};
 use model_tree::Model;
 use quantity::{Name, Time, Value};
 use room_edge::MemoryRoom;
@@ -107,7 +107,15 @@ fn one_cell(alloc: Global, lines: &str, variables: usize) -> Result<CellStore, F
     let boxes: Vec<CounterModel> = Vec::new(alloc);
     let mut stock = Stock::new(alloc, boxes)?;
     let mut room = MemoryRoom::new(alloc, 4096);
-    let Ok((model, routes)) = read_model_bytes(alloc, &mut room, &text, &mut stock, None) else {
+    let read = read_model_bytes(alloc, &mut room, &text, &mut stock, None);
+    let Ok(
+        ReadModel {
+            model,
+            routes,
+            drawn: _,
+        },
+    ) = read
+    else {
         return Err(Fail::new("refused"));
     };
     store_of(alloc, &stock, &model, &routes, variables)

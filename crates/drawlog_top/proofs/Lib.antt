@@ -1,2 +1,1 @@
-pub mod AskedPictures
 pub mod DrawnAnswers

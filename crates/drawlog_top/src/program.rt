@@ -13,12 +13,12 @@ ghost use Rattle.asked_words.specs.Shown.{drawing_of};
 ghost use Rattle.drawlog_top.specs.Ends.{answer_to_file};
 
 use crate::draw::draw;
-use crate::refuse::refuse;
+use crate::refuse::{refuse, tell_usage};
 use asked_words::{AskedDrawing, read_drawing_words};
 use quantity::MAX_LOG_BYTES;
 use room_edge::{ReadWhole, Room, read_whole};
 use std::alloc::Global;
-use told_lines::{Status, complain, complain_named};
+use told_lines::{Status, complain_named};
 
 // The most bytes that a log may have.
 const MOST_BYTES: u32 = MAX_LOG_BYTES as u32;
@@ -68,11 +68,7 @@ pub fn drawlog<R: Room>(alloc: Global, words: &[String], room: &mut R) -> Status
 {
     match read_drawing_words(alloc, words) {
         Ok(Some(asked)) => draw_asked(alloc, room, &asked),
-        Ok(None) => complain(
-            room,
-            b"usage: drawlog -l LOG -g GROUP -s SIZE [-w WIDTH] [-p DECIMALS] [-f PLANE]\n",
-            Status::Usage,
-        ),
+        Ok(None) => tell_usage(alloc, room),
         Err(_) => Status::NoMemory,
     }
 }

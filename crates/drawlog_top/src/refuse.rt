@@ -1,7 +1,8 @@
-// What is said of a log that is refused.
-ghost use Rattle.std.specs.Prelude.{◌≡◌, IfOk};
+// What is said of words and of a log that are refused.
+ghost use Rattle.std.specs.Prelude.{◌≡◌, ◌++◌, IfOk, codes};
 ghost use Rattle.text_forms.specs.Lines.{ended};
-ghost use Rattle.answer_model.specs.declared.status.Status.TheVariants.{LogRefused};
+ghost use Rattle.answer_model.specs.AskedDrawing.{drawing_usage};
+ghost use Rattle.answer_model.specs.declared.status.Status.TheVariants.{LogRefused, Usage};
 ghost use Rattle.answer_model.specs.Drawlog.{log_refused};
 ghost use Rattle.answer_model.specs.Endings.{Says};
 
@@ -9,6 +10,7 @@ use quantity::OutOfMemory;
 use room_edge::Room;
 use std::alloc::Global;
 use told_lines::{Status, complain};
+use word_options::drawing_usage_line;
 
 /// The line that names the first line that is refused, or 0 for a log that is too long.
 fn refused_line(alloc: Global, line: u32) -> Result<Vec<u8>, OutOfMemory>
@@ -29,4 +31,15 @@ pub(crate) fn refuse<R: Room>(alloc: Global, room: &mut R, line: u32) -> Status
         return Status::NoMemory;
     };
     complain(room, &text, Status::LogRefused)
+}
+
+/// Tells what words the program takes, as far as it can.
+pub(crate) fn tell_usage<R: Room>(alloc: Global, room: &mut R) -> Status
+    ensures { Says (ended (codes "usage: " ++ drawing_usage)) Usage
+        (R.outside room.old) (R.outside room.new) result }
+{
+    let Ok(line) = drawing_usage_line(alloc) else {
+        return Status::NoMemory;
+    };
+    complain(room, &line, Status::Usage)
 }

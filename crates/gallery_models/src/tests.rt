@@ -4,17 +4,15 @@ ghost use Rattle.std.specs.Prelude.{◌<◌, ◌^◌, length, IfOk};
 use crate::texts::{FILES, MODELS};
 use atomic_face::{AtomicModel, Class, Stock};
 use atomic_kinds::{CounterModel, CpuModel, GeneratorModel, QueueModel};
-use model_read::{ModelRefusal, read_model};
-use model_tree::Model;
+use model_read::{ModelRefusal, ReadModel, read_model};
 use room_edge::MemoryRoom;
-use route_flat::Routes;
 use state_tables::TableModel;
 use std::alloc::Global;
 use std::process::Abort;
 use std::test::Fail;
 
 /// Whether there is a model.
-fn is_model(read: Result<(Model, Routes), ModelRefusal>) -> bool {
+fn is_model(read: Result<ReadModel, ModelRefusal>) -> bool {
     read.is_ok()
 }
 

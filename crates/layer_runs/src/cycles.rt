@@ -11,7 +11,7 @@ use cell_engine::Steps;
 use event_list::Events;
 use flat_run::{FlatRun, Progress};
 use linked_queue::LinkedQueue;
-use model_read::read_model_bytes;
+use model_read::{ReadModel, read_model_bytes};
 use model_tree::Model;
 use quantity::{OutOfMemory, Time, Value};
 use record_text::{Records, SRecord, YRecord};
@@ -83,9 +83,9 @@ fn begun(
 }
 
 /// Reads the ring.
-fn read_ring(alloc: Global, stock: &mut Stock<CounterModel>) -> Result<(Model, Routes), Fail>
+fn read_ring(alloc: Global, stock: &mut Stock<CounterModel>) -> Result<ReadModel, Fail>
     requires free { IsTrue (list_all (λ s. not s.taken) stock.old) }
-    ensures ready { IfOk result (λ read. IsReady stock.new read.0 read.1) }
+    ensures ready { IfOk result (λ read. IsReady stock.new read.model read.routes) }
 {
     let text = RING.as_bytes();
     if text.len() > 1000 {
@@ -106,7 +106,13 @@ fn ring_run(alloc: Global) -> Result<Run, Fail> {
     let boxes: Vec<CounterModel> = Vec::new(alloc);
     let mut stock = Stock::new(alloc, boxes)?;
     match read_ring(alloc, &mut stock) {
-        Ok((model, routes)) => Ok(begun(alloc, stock, model, routes, end)?),
+        Ok(
+            ReadModel {
+                model,
+                routes,
+                drawn: _,
+            },
+        ) => Ok(begun(alloc, stock, model, routes, end)?),
         Err(fail) => {
             drop(stock);
             Err(fail)

@@ -29,6 +29,8 @@ use Rattle.model_files.specs.Reading.{ReadsFiles}
 use Rattle.model_files.specs.Spaces.{shown, said}
 use Rattle.model_laid.specs.Boxes.{settings_in, HasBoxes}
 use Rattle.model_laid.specs.Laws.{GroupsAreMet, BlanksAreLaid, LinksStay, LaidModelsAreSound, BoxesAreStanding}
+use Rattle.asked_words.specs.declared.group.GroupAt.{GroupAt}
+use Rattle.asked_words.specs.Group.{IsDrawn}
 use Rattle.model_read.specs.Ends.{RoutesGive, IsBlank, can_draw}
 use Rattle.model_read.specs.Read.{IsReady, Reads}
 use Rattle.model_read.specs.Whole.{behind_limit}
@@ -105,10 +107,11 @@ module _ (ss : List Section) (drawing : Option Drawing) (top : Coupled) (m : Mod
 
     pub finished : (T : Type 0) (x : T) (routes : Routes) → OfTree m (λ t. RoutesOf t routes) → HasBoxes stock top → (o p : Outside)
         → ReadsFiles (initial_files ss) (Ok x) o p → IfSome o.files (λ folder. values ≡ map (initial_of folder) (groups ss))
-        → ((folder : Files) → drawing_refused drawing (tree_of folder ss) ≡ None) → Reads (behind_limit ss drawing) drawing stock (Ok (n, routes)) o p
-    finished T x routes routes_are has o p read right can =
-        a_model ss drawing stock T x n routes o p few_paths read can
+        → ((folder : Files) → drawing_refused drawing (tree_of folder ss) ≡ None) → (drawn : Option GroupAt) → OfTree n (λ t. IsDrawn drawing drawn t)
+        → Reads (behind_limit ss drawing) drawing stock (Ok (record { model = n; routes = routes; drawn = drawn })) o p
+    finished T x routes routes_are has o p read right can drawn group =
+        a_model ss drawing stock T x n routes drawn o p few_paths read can
         (on_one o.files right (λ folder e.
         laws.files folder classes ss passed ∙ ap (λ v. laid v (tree_of no_files ss)) (sym e) ∙ sym tree_is))
         (ready routes routes_are has)
-        (ap (drawing_refused drawing) tree_is ∙ drawn_alike drawing (tree_of no_files ss) values ∙ can no_files)
+        (ap (drawing_refused drawing) tree_is ∙ drawn_alike drawing (tree_of no_files ss) values ∙ can no_files) group

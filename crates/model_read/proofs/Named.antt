@@ -21,12 +21,13 @@ use Rattle.model_files.specs.Reading.{Tried, StopsAs, ReadsFiles}
 use Rattle.model_files.specs.Whole.{any_file}
 use Rattle.model_files.proofs.Looking.{looks_for_one}
 use Rattle.model_files.proofs.Readings.{only_both, tried_behind, counted_behind, counted_as, last_as}
+use Rattle.model_read.specs.declared.found.ReadModel.{ReadModel}
 use Rattle.model_read.specs.Read.{ModelGives, Reads}
 use Rattle.model_read.specs.Whole.{found_in, looked_in, of_name}
 use Rattle.model_read.proofs.UpToLimit.{too_long}
 
 abbrev Answer : Type 0
-Answer = Result (Model × Routes) ModelRefusal
+Answer = Result (ReadModel) ModelRefusal
 
 on_one : {P Q : Files → Type 0} (o : Option Files) → IfSome o P → ((folder : Files) → P folder → Q folder) → IfSome o Q
 on_one None p go = tt
@@ -85,7 +86,7 @@ module _ (name : Bytes) (folder : Files) (classes : List Class) (drawing : Optio
   found_as T Memory s = tt
 
   tried_as : (T : Type 0) (w : ModelRefusal) (old new : List Bytes) → StopsAs {T = T} (Err w) (stop_of name (folder name)) → Tried {T = T} (Err w) (looked_for folder (any_file 0 name ∷ [])) old new
-      → Tried {T = Model × Routes} (Err w) (name ∷ looked_in (folder name) folder classes drawing) old new
+      → Tried {T = ReadModel} (Err w) (name ∷ looked_in (folder name) folder classes drawing) old new
   tried_as T (Missing n) old new s t = t ∙ ap (λ ns. old ++ ns) (looks_for_one folder (any_file 0 name) ∙ ap (λ ns. name ∷ ns) (sym (found_missing n (folder name) s).1))
   tried_as T (Refused line kind) old new s t = t ∙ ap (λ ns. old ++ ns) (looks_for_one folder (any_file 0 name) ∙ ap (λ ns. name ∷ ns) (sym (found_refused (refusal line kind) (folder name) s).1))
   tried_as T (ReadFault n) old new s t = (
@@ -114,8 +115,9 @@ named_stop T name classes drawing stock w o n a =
       tried = on_both o.files a.stops a.tried (λ folder s t. tried_as name folder classes drawing stock T w o.tried n.tried s t);
       ready = tt;
       drawn = tt;
-      last = last_as T (Model × Routes) w n.tried a.last;
-      counted = counted_as T (Model × Routes) w o n a.counted;
+      group = tt;
+      last = last_as T (ReadModel) w n.tried a.last;
+      counted = counted_as T (ReadModel) w o n a.counted;
       misses = a.misses;
       faults = a.faults;
       only = a.only;
@@ -132,11 +134,12 @@ named_bytes T x name classes drawing stock bytes r o m n a there b =
           (λ folder e g. subst (λ y. ModelGives (found_in y name folder classes drawing) stock r) (sym e) g);
       tried = all_told o.files there a.tried (subst (λ f. IfSome f (λ folder. Tried r (model_of bytes folder classes drawing).looked m.tried n.tried)) same b.tried)
           (λ folder e t u. subst (λ y. Tried r (name ∷ looked_in y folder classes drawing) o.tried n.tried) (sym e)
-          (tried_behind (Model × Routes) r (name ∷ []) (model_of bytes folder classes drawing).looked o.tried m.tried n.tried (t ∙ ap (λ ns. o.tried ++ ns) (looks_for_one folder (any_file 0 name))) u));
+          (tried_behind (ReadModel) r (name ∷ []) (model_of bytes folder classes drawing).looked o.tried m.tried n.tried (t ∙ ap (λ ns. o.tried ++ ns) (looks_for_one folder (any_file 0 name))) u));
       ready = b.ready;
       drawn = b.drawn;
+      group = b.group;
       last = b.last;
-      counted = counted_behind (Model × Routes) r o m n a.counted b.counted;
+      counted = counted_behind (ReadModel) r o m n a.counted b.counted;
       misses = le_trans a.misses b.misses;
       faults = le_trans a.faults b.faults;
       only = only_both o m n a.only b.only;

@@ -22,6 +22,7 @@ read_nothing definition drawing stock o =
       tried = tried o.files;
       ready = tt;
       drawn = tt;
+      group = tt;
       last = tt;
       counted = (refl, refl);
       misses = le_refl o.misses;

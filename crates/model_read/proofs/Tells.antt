@@ -9,6 +9,7 @@ use Rattle.atomic_face.specs.StockView.{Stocked}
 use Rattle.room_edge.specs.Outside.{Outside}
 use Rattle.model_tree.specs.declared.table.Model.{Model}
 use Rattle.model_tree.specs.Models as code
+use Rattle.model_tree.specs.Leaves.{OfTree}
 use Rattle.model_tree.specs.Sound.{path_count}
 use Rattle.route_flat.specs.declared.routes.Routes.{Routes}
 use Rattle.model_text.specs.declared.kind.Kind.{Kind}
@@ -22,12 +23,15 @@ use Rattle.model_files.specs.declared.refusal.ModelRefusal.{ModelRefusal}
 use Rattle.model_files.specs.declared.refusal.ModelRefusal.TheVariants.{Missing, ReadFault, Refused, Memory}
 use Rattle.model_files.specs.Reading.{Tried, IsLastTried, Counted, StopsAs, ReadsFiles}
 use Rattle.model_laid.specs.Boxes.{settings_in}
+use Rattle.model_read.specs.declared.found.ReadModel.{ReadModel}
+use Rattle.asked_words.specs.declared.group.GroupAt.{GroupAt}
+use Rattle.asked_words.specs.Group.{IsDrawn}
 use Rattle.model_read.specs.Read.{ModelGives, IsReady, CanBeDrawn, Reads}
 use Rattle.model_read.specs.Whole.{behind_limit}
 use Rattle.model_read.proofs.Nothing.{nothing_changed}
 
 abbrev Answer : Type 0
-Answer = Result (Model × Routes) ModelRefusal
+Answer = Result (ReadModel) ModelRefusal
 
 -- ---- what is told of the files
 
@@ -49,6 +53,7 @@ refused_at_once definition drawing stock o line kind is =
       tried = on_any o.files (λ folder. sym (append-nil o.tried) ∙ ap (λ (r : ModelRead). o.tried ++ r.looked) (sym (is folder)));
       ready = tt;
       drawn = tt;
+      group = tt;
       last = tt;
       counted = (refl, refl);
       misses = le_refl o.misses;
@@ -65,6 +70,7 @@ reads_by a b drawing stock r old new same h =
       tried = on_one old.files h.tried (λ folder t. subst (λ (d : ModelRead). Tried r d.looked old.tried new.tried) (same folder) t);
       ready = h.ready;
       drawn = h.drawn;
+      group = h.group;
       last = h.last;
       counted = h.counted;
       misses = h.misses;
@@ -99,19 +105,19 @@ module _ (ss : List Section) (drawing : Option Drawing) (stock : List Stocked) w
   found_as T (ReadFault name) folder s = tt
   found_as T Memory folder s = tt
 
-  tried_as : (T : Type 0) (w : ModelRefusal) (looked old new : List Bytes) → Tried {T = T} (Err w) looked old new → Tried {T = Model × Routes} (Err w) looked old new
+  tried_as : (T : Type 0) (w : ModelRefusal) (looked old new : List Bytes) → Tried {T = T} (Err w) looked old new → Tried {T = ReadModel} (Err w) looked old new
   tried_as T (Missing name) looked old new t = t
   tried_as T (Refused line kind) looked old new t = t
   tried_as T (ReadFault name) looked old new t = t
   tried_as T Memory looked old new t = t
 
-  last_as : (T : Type 0) (w : ModelRefusal) (tried : List Bytes) → IsLastTried {T = T} (Err w) tried → IsLastTried {T = Model × Routes} (Err w) tried
+  last_as : (T : Type 0) (w : ModelRefusal) (tried : List Bytes) → IsLastTried {T = T} (Err w) tried → IsLastTried {T = ReadModel} (Err w) tried
   last_as T (Missing name) tried l = l
   last_as T (ReadFault name) tried l = l
   last_as T (Refused line kind) tried l = tt
   last_as T Memory tried l = tt
 
-  counted_as : (T : Type 0) (w : ModelRefusal) (o n : Outside) → Counted {T = T} (Err w) o n → Counted {T = Model × Routes} (Err w) o n
+  counted_as : (T : Type 0) (w : ModelRefusal) (o n : Outside) → Counted {T = T} (Err w) o n → Counted {T = ReadModel} (Err w) o n
   counted_as T (Missing name) o n c = c
   counted_as T (ReadFault name) o n c = c
   counted_as T (Refused line kind) o n c = c
@@ -126,6 +132,7 @@ module _ (ss : List Section) (drawing : Option Drawing) (stock : List Stocked) w
         tried = on_one o.files a.tried (λ folder t. tried_as T w (looked_for folder (initial_files ss)) o.tried n.tried t);
         ready = tt;
         drawn = tt;
+        group = tt;
         last = last_as T w n.tried a.last;
         counted = counted_as T w o n a.counted;
         misses = a.misses;
@@ -146,6 +153,7 @@ module _ (ss : List Section) (drawing : Option Drawing) (stock : List Stocked) w
         tried = a.tried;
         ready = tt;
         drawn = tt;
+        group = tt;
         last = tt;
         counted = a.counted;
         misses = a.misses;
@@ -159,18 +167,19 @@ module _ (ss : List Section) (drawing : Option Drawing) (stock : List Stocked) w
   both_told None p q go = tt
   both_told (Some folder) p q go = go folder p q
 
-  pub a_model : (T : Type 0) (x : T) (m : Model) (routes : Routes) (o n : Outside) → path_count (tree_of no_files ss) ≤ 65536 → ReadsFiles (initial_files ss) (Ok x) o n
+  pub a_model : (T : Type 0) (x : T) (m : Model) (routes : Routes) (drawn : Option GroupAt) (o n : Outside) → path_count (tree_of no_files ss) ≤ 65536 → ReadsFiles (initial_files ss) (Ok x) o n
       → ((folder : Files) → drawing_refused drawing (tree_of folder ss) ≡ None)
-      → IfSome o.files (λ folder. tree_of folder ss ≡ code.tree_of m (settings_in stock)) → IsReady stock m routes → CanBeDrawn drawing stock m
-      → Reads (behind_limit ss drawing) drawing stock (Ok (m, routes)) o n
-  a_model T x m routes o n few a allowed is ready can =
-      reads_by (λ folder. with_files ss folder drawing) (behind_limit ss drawing) drawing stock (Ok (m, routes)) o n (λ folder. sym (few_are few folder))
+      → IfSome o.files (λ folder. tree_of folder ss ≡ code.tree_of m (settings_in stock)) → IsReady stock m routes → CanBeDrawn drawing stock m → OfTree m (λ t. IsDrawn drawing drawn t)
+      → Reads (behind_limit ss drawing) drawing stock (Ok (record { model = m; routes = routes; drawn = drawn })) o n
+  a_model T x m routes drawn o n few a allowed is ready can group =
+      reads_by (λ folder. with_files ss folder drawing) (behind_limit ss drawing) drawing stock (Ok (record { model = m; routes = routes; drawn = drawn })) o n (λ folder. sym (few_are few folder))
       (record {
         found = both_told o.files a.stops is (λ folder s e.
             ap (λ x. after_files x drawing (tree_of folder ss)) s ∙ ap (λ r. model_unless r (tree_of folder ss)) (allowed folder) ∙ ap model e);
         tried = a.tried;
         ready = ready;
         drawn = can;
+        group = group;
         last = tt;
         counted = a.counted;
         misses = a.misses;

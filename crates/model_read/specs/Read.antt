@@ -1,5 +1,6 @@
 -- What the reading of a model answers.
 use Rattle.std.specs.Prelude.{◌≡◌, true, Option, None, List, IfSome, IfOk, ⊤}
+use Rattle.std.specs.Borrow.{Bor}
 use Rattle.std.specs.Option.{option_map}
 use Rattle.std.specs.declared.result.Result.{Result}
 use Rattle.std.specs.declared.result.Result.TheVariants.{Ok, Err}
@@ -19,12 +20,15 @@ use Rattle.model_text.specs.ModelOf.{ModelOf, model, missing, refused, ModelRead
 use Rattle.model_files.specs.declared.refusal.ModelRefusal.{ModelRefusal}
 use Rattle.model_files.specs.declared.refusal.ModelRefusal.TheVariants as why
 use Rattle.model_files.specs.Reading.{Tried, IsLastTried, Counted}
-use Rattle.model_read.specs.declared.drawing.Drawing as code
+use Rattle.asked_words.specs.declared.asked.FramesFile.{FramesFile}
 use Rattle.model_laid.specs.Boxes.{settings_in, BoxesStand}
+use Rattle.asked_words.specs.Group.{IsDrawn}
+use Rattle.model_read.specs.declared.found.ReadModel.{ReadModel}
 
--- what is to be drawn, as a plain value
-abbrev pub drawing_of : Option code.Drawing → Option D.Drawing
-drawing_of d = option_map (λ (x : code.Drawing). record { group = x.group; plane = x.plane }) d
+-- what is drawn for a file of frames
+abbrev pub drawing_of : Option (Bor FramesFile) → Option D.Drawing
+drawing_of frames =
+    option_map (λ (f : Bor FramesFile). record { group = f.now.group; plane = f.now.plane }) frames
 
 -- a model that a run may start from: it is sound, the routes are its own, and so are the boxes of
 -- its atomic components
@@ -35,8 +39,8 @@ pub record IsReady (stock : List Stocked) (m : Model) (routes : Routes) : Type 0
 
 -- the model is the one that is found, under the settings of the boxes; a missing file and a refusal
 -- are those that are found
-abbrev pub ModelGives : ModelOf → List Stocked → Result (Model × Routes) ModelRefusal → Type 0
-ModelGives found stock (Ok read) = found ≡ model (tree_of read.0 (settings_in stock))
+abbrev pub ModelGives : ModelOf → List Stocked → Result ReadModel ModelRefusal → Type 0
+ModelGives found stock (Ok read) = found ≡ model (tree_of read.model (settings_in stock))
 ModelGives found stock (Err (why.Missing name)) = found ≡ missing name
 ModelGives found stock (Err (why.Refused line kind)) = found ≡ refused (refusal line kind)
 ModelGives found stock (Err (why.ReadFault name)) = ⊤
@@ -48,12 +52,13 @@ CanBeDrawn drawing stock m = D.drawing_refused drawing (tree_of m (settings_in s
 
 -- all of this of a reading whose definition is this, where the files are told
 pub record Reads (definition : Files → ModelRead) (drawing : Option D.Drawing)
-    (stock : List Stocked) (result : Result (Model × Routes) ModelRefusal)
+    (stock : List Stocked) (result : Result ReadModel ModelRefusal)
     (old new : Outside) : Type 0 where
   pub found : IfSome old.files (λ files. ModelGives (definition files).found stock result)
   pub tried : IfSome old.files (λ files. Tried result (definition files).looked old.tried new.tried)
-  pub ready : IfOk result (λ read. IsReady stock read.0 read.1)
-  pub drawn : IfOk result (λ read. CanBeDrawn drawing stock read.0)
+  pub ready : IfOk result (λ read. IsReady stock read.model read.routes)
+  pub drawn : IfOk result (λ read. CanBeDrawn drawing stock read.model)
+  pub group : IfOk result (λ read. OfTree read.model (λ t. IsDrawn drawing read.drawn t))
   pub last : IsLastTried result new.tried
   pub counted : Counted result old new
   pub misses : KeepsMisses old new

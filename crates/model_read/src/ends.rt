@@ -18,7 +18,9 @@ ghost use Rattle.model_read.specs.Read.{drawing_of, Reads};
 ghost use Rattle.model_read.specs.Whole.{behind_limit};
 ghost use Rattle.model_read.specs.Ends.{can_draw, has_plane, IsBlank, RoutesGive};
 
-use crate::drawing::Drawing;
+use crate::found::ReadModel;
+use crate::group::drawn_in;
+use asked_words::FramesFile;
 use cell_grid::Initial;
 use ma_lines::Sections;
 use model_files::{GroupSpace, ModelRefusal, initial_values};
@@ -41,8 +43,8 @@ pub fn finish<R: Room>(
     room: &mut R,
     sections: &Sections,
     judged: Judged<'_>,
-    drawing: Option<Drawing>,
-) -> Result<(Model, Routes), ModelRefusal>
+    frames: Option<&FramesFile<'_>>,
+) -> Result<ReadModel, ModelRefusal>
     requires plain { All IsPlainSection sections.now }
     requires passed { Passes sections.now }
     requires built { (settings : Settings) × IsBuilt sections.now settings judged.top }
@@ -51,8 +53,8 @@ pub fn finish<R: Room>(
     requires values { judged.values.items ≡ map values_before_files (W.groups sections.now) }
     ensures { (stock : List Stocked) → IsBuilt sections.now (settings_in stock) judged.entry.top
         → HasBoxes stock judged.entry.top
-        → Reads (behind_limit sections.now (drawing_of drawing)) (drawing_of drawing) stock result
-        (R.outside room.old) (R.outside room.new) }
+        → Reads (behind_limit sections.now (drawing_of frames.entry)) (drawing_of frames.entry)
+        stock result (R.outside room.old) (R.outside room.new) }
 {
     groups_are_met();
     blanks_are_laid();
@@ -68,13 +70,18 @@ pub fn finish<R: Room>(
     } = judged;
     let mut model = Model::new(alloc, top)?;
     let routes = routes_of(alloc, &model)?;
-    let is_there = can_draw(&drawing, &groups);
+    let is_there = can_draw(frames, &groups);
     let values = initial_values(alloc, room, sections, &groups, values)?;
     if !is_there {
         return Err(no_such_plane());
     }
     lay_values(sections, &mut model, values);
-    Ok((model, routes))
+    let drawn = drawn_in(&model, frames);
+    Ok(ReadModel {
+        model,
+        routes,
+        drawn,
+    })
 }
 
 /// The routes of a model, or the refusal of too many paths.
@@ -102,23 +109,23 @@ fn no_such_plane() -> ModelRefusal
 }
 
 /// Whether nothing is drawn, or a plane that there is.
-fn can_draw(drawing: &Option<Drawing>, groups: &[GroupSpace<'_>]) -> bool
-    ensures { result ≡ can_draw (drawing_of drawing.now) groups.now }
+fn can_draw(frames: Option<&FramesFile<'_>>, groups: &[GroupSpace<'_>]) -> bool
+    ensures { result ≡ can_draw (drawing_of frames.entry) groups.now }
 {
-    match drawing {
+    match frames {
         None => true,
-        Some(drawing) => has_plane(drawing, groups),
+        Some(frames) => has_plane(frames, groups),
     }
 }
 
 /// Whether a group of this name has the plane.
-fn has_plane(drawing: &Drawing, groups: &[GroupSpace<'_>]) -> bool
-    ensures { result ≡ has_plane drawing.now.plane
-        (find (λ g. bytes_eq g.section.now.name drawing.now.group) groups.now) }
+fn has_plane(frames: &FramesFile<'_>, groups: &[GroupSpace<'_>]) -> bool
+    ensures { result ≡ has_plane frames.now.plane
+        (find (λ g. bytes_eq g.section.now.name frames.now.group) groups.now) }
 {
     for group in groups {
-        if group.section.name.as_bytes() == drawing.group.as_bytes() {
-            return drawing.plane < group.grid.planes();
+        if group.section.name.as_bytes() == frames.group.as_bytes() {
+            return frames.plane < group.grid.planes();
         }
     }
     false

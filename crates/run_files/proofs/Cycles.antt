@@ -16,7 +16,7 @@ use Rattle.room_edge.specs.Outside.{Outside}
 use Rattle.run_files.specs.declared.outputs.Output.TheVariants.{Log, Out, Frames}
 use Rattle.run_files.specs.declared.outputs.Unwritten.{Unwritten}
 use Rattle.run_files.specs.declared.outputs.Unwritten.TheVariants.{Memory}
-use Rattle.run_files.specs.AskedFiles.{text_of_name}
+use Rattle.asked_words.specs.Shown.{text_of_name}
 use Rattle.run_files.specs.Texts.{Names}
 use Rattle.run_files.specs.Order.{Piece, piece_of, one_piece}
 use Rattle.run_files.specs.Pieces.{lines_of, cycle_pieces}

@@ -1,165 +1,22 @@
--- The group whose frames are drawn: leaves one after another.
-use Rattle.std.proofs.Common.{◌≡◌, ℕ, zero, suc, ◌+◌, ◌-◌, ◌<◌, ◌≤◌, Bool, true, false, cond, Option, Some, None, List, [], ◌∷◌, ◌++◌, length, map, drop, get_or, refl, sym, ap, ◌∙◌, subst, arith}
-use Rattle.std.specs.Prelude.{⊤, ℤ, slice_get, nat_eq, not}
-use Rattle.std.specs.Option.{option_eq}
-use Rattle.std.proofs.lemmas.Bool.Decides.{nat_tests}
-use Rattle.std.specs.List.{range_with_len}
-use Rattle.std.specs.Str.{bytes_eq}
+-- The group whose frames are drawn, and how they begin.
+use Rattle.std.proofs.Common.{◌≡◌, ℕ, ◌<◌, Option, Some, None, List, [], length, get_or, refl, sym, ap, ◌∙◌, subst, arith}
+use Rattle.std.specs.Prelude.{slice_get}
+use Rattle.std.specs.Option.{option_map}
 use Rattle.std.proofs.lemmas.Option.{slice_get_within, slice_get-get_or}
-use Rattle.std.proofs.Math.Seq.{drop-length}
 use Rattle.atomic_face.specs.declared.class.Class.TheVariants.{Queue}
-use Rattle.cell_grid.specs.Space.{Space, cell_count}
-use Rattle.model_tree.specs.Tree.{Word, Group, Tree, Trees, coupled, cells, atomic, nil, cons, Leaf, atomic_leaf, cell_leaf, leaf_count, leaves_from, all_leaves_from, leaves}
-use Rattle.model_tree.specs.Leaves.{HasBox, IsCellIn}
+use Rattle.cell_grid.specs.Space.{Space}
+use Rattle.model_tree.specs.Tree.{Group, Tree, Leaf, atomic_leaf, leaf_count, leaves, groups}
 use Rattle.model_tree.proofs.Read.{leaves-length}
+use Rattle.answer_model.specs.Asked.{FramesFile}
+use Rattle.answer_model.specs.Started.{drawing_of}
 use Rattle.answer_model.specs.RunFiles.{group_at}
 use Rattle.frame_draw.specs.Drawing.{CanDraw}
-use Rattle.run_files.specs.declared.outputs.FramesFile.{FramesFile}
-use Rattle.run_files.specs.declared.group.GroupAt.{GroupAt}
-use Rattle.run_files.specs.Groups.{IsGroup, IsCellOf, IsNoCellOf, begun_at, CanDrawOf, picture_of}
+use Rattle.asked_words.specs.declared.asked.FramesFile as code
+use Rattle.asked_words.specs.declared.group.GroupAt.{GroupAt}
+use Rattle.asked_words.specs.Group.{IsDrawn}
+use Rattle.asked_words.specs.Shown.{frames_of}
+use Rattle.run_files.specs.Groups.{picture_of, begun_at, showing_at_start, CanDrawOf, CanShow}
 use Rattle.run_files.specs.Showing.{Showing, showing_none}
-
--- ---- the number of a cell's leaf
-
--- a cell's leaf is as far behind the leaf of its group's first cell as the cell is behind that
-abbrev pub IsNumbered : ℕ → Leaf → Type 0
-IsNumbered k (atomic_leaf name class settings) = ⊤
-IsNumbered k (cell_leaf g first cell) = first + cell ≡ k
-
-abbrev AreNumbered : ℕ → List Leaf → Type 0
-AreNumbered k [] = ⊤
-AreNumbered k (l ∷ ls) = IsNumbered k l × AreNumbered (k + 1) ls
-
-numbered_append : (k : ℕ) (xs ys : List Leaf) → AreNumbered k xs → AreNumbered (k + length xs) ys → AreNumbered k (xs ++ ys)
-numbered_append k [] ys a b = subst (λ (n : ℕ). AreNumbered n ys) (none k) b
-  where
-    none : (k : ℕ) → k + 0 ≡ k
-    none k = omega arith
-numbered_append k (x ∷ xs) ys a b = (a.0, numbered_append (k + 1) xs ys a.1 (subst (λ (n : ℕ). AreNumbered n ys) (one k (length xs)) b))
-  where
-    one : (k n : ℕ) → k + suc n ≡ (k + 1) + n
-    one k n = omega arith
-
-cells_numbered : (g : Group) (first a n : ℕ) → AreNumbered (first + a) (map (cell_leaf g first) (range_with_len a n))
-cells_numbered g first a zero = tt
-cells_numbered g first a (suc n) =
-    (refl, subst (λ (k : ℕ). AreNumbered k (map (cell_leaf g first) (range_with_len (a + 1) n))) (one first a) (cells_numbered g first (a + 1) n))
-  where
-    one : (b a : ℕ) → b + (a + 1) ≡ (b + a) + 1
-    one b a = omega arith
-
-zero_more : (k : ℕ) → k + 0 ≡ k
-zero_more k = omega arith
-
-mutual
-  leaves_numbered : (t : Tree) (first : ℕ) → AreNumbered first (leaves_from t first)
-  leaves_numbered (coupled name ins outs children links) first = all_numbered children first
-  leaves_numbered (cells g) first =
-      subst (λ (k : ℕ). AreNumbered k (map (cell_leaf g first) (range_with_len 0 (cell_count g.space)))) (zero_more first) (cells_numbered g first 0 (cell_count g.space))
-  leaves_numbered (atomic name class settings) first = (tt, tt)
-
-  all_numbered : (ts : Trees) (first : ℕ) → AreNumbered first (all_leaves_from ts first)
-  all_numbered nil first = tt
-  all_numbered (cons c rest) first =
-      numbered_append first (leaves_from c first) (all_leaves_from rest (first + leaf_count c)) (leaves_numbered c first)
-      (subst (λ (n : ℕ). AreNumbered (first + n) (all_leaves_from rest (first + leaf_count c))) (sym (leaves-length c first)) (all_numbered rest (first + leaf_count c)))
-
-numbered_at : (k i : ℕ) (ls : List Leaf) (l : Leaf) → AreNumbered k ls → slice_get ls i ≡ Some l → IsNumbered (k + i) l
-numbered_at k i [] l a e = absurd (cc)
-numbered_at k zero (x ∷ xs) l a e =
-    let same : x ≡ l = cc in
-    subst (λ (n : ℕ). IsNumbered n l) (none k) (subst (IsNumbered k) same a.0)
-  where
-    none : (k : ℕ) → k ≡ k + 0
-    none k = omega arith
-numbered_at k (suc i) (x ∷ xs) l a e = subst (λ (n : ℕ). IsNumbered n l) (one k i) (numbered_at (k + 1) i xs l a.1 e)
-  where
-    one : (k i : ℕ) → (k + 1) + i ≡ k + suc i
-    one k i = omega arith
-
-pub leaf_numbered : (t : Tree) (k : ℕ) (l : Leaf) → slice_get (leaves t) k ≡ Some l → IsNumbered k l
-leaf_numbered t k l e = subst (λ (n : ℕ). IsNumbered n l) (from_zero k) (numbered_at 0 k (leaves t) l (leaves_numbered t 0) e)
-  where
-    from_zero : (k : ℕ) → 0 + k ≡ k
-    from_zero k = omega arith
-
--- ---- the search goes on, and finds
-
-group_next : (name : Word) (ls : List Leaf) (i : ℕ) (l : Leaf) → slice_get ls i ≡ Some l → IsNoCellOf name l → group_at name (drop i ls) ≡ group_at name (drop (suc i) ls)
-group_next name [] i l e other = absurd (cc)
-group_next name (x ∷ xs) zero l e other = let same : x ≡ l = cc in passes x (subst (IsNoCellOf name) (sym same) other)
-  where
-    passes : (x : Leaf) → IsNoCellOf name x → group_at name (x ∷ xs) ≡ group_at name xs
-    passes (atomic_leaf n class settings) h = refl
-    passes (cell_leaf g first cell) h = ap (λ b. cond b (Some (first, g)) (group_at name xs)) h
-group_next name (x ∷ xs) (suc i) l e other = group_next name xs i l e other
-
-pub group_passes : (name : Word) (ls : List Leaf) (i : ℕ) (l : Leaf) → slice_get ls i ≡ Some l → IsNoCellOf name l → group_at name ls ≡ group_at name (drop i ls) → group_at name ls ≡ group_at name (drop (i + 1) ls)
-group_passes name ls i l e other so = so ∙ group_next name ls i l e other ∙ ap (λ (k : ℕ). group_at name (drop k ls)) (one i)
-  where
-    one : (i : ℕ) → suc i ≡ i + 1
-    one i = omega arith
-
-group_here : (name : Word) (p : GroupAt) (ls : List Leaf) (i : ℕ) (l : Leaf) → slice_get ls i ≡ Some l → IsCellOf name p l → IsGroup (Some p) (group_at name (drop i ls))
-group_here name p [] i l e here = absurd (cc)
-group_here name p (x ∷ xs) zero l e here = let same : x ≡ l = cc in finds x (subst (IsCellOf name p) (sym same) here)
-  where
-    finds : (x : Leaf) → IsCellOf name p x → IsGroup (Some p) (group_at name (x ∷ xs))
-    finds (atomic_leaf n class settings) h = absurd h
-    finds (cell_leaf g first cell) h =
-        subst (IsGroup (Some p)) (sym (ap (λ b. cond b (Some (first, g)) (group_at name xs)) h.0)) (h.1, h.2)
-group_here name p (x ∷ xs) (suc i) l e here = group_here name p xs i l e here
-
-pub group_found : (name : Word) (p : GroupAt) (ls : List Leaf) (i : ℕ) (l : Leaf) → slice_get ls i ≡ Some l → IsCellOf name p l → group_at name ls ≡ group_at name (drop i ls) → IsGroup (Some p) (group_at name ls)
-group_found name p ls i l e here so = subst (IsGroup (Some p)) (sym so) (group_here name p ls i l e here)
-
-pub group_none : (name : Word) (ls : List Leaf) (n : ℕ) → n ≡ length ls → group_at name ls ≡ group_at name (drop n ls) → IsGroup None (group_at name ls)
-group_none name ls n all so = subst (IsGroup None) (sym (so ∙ ap (λ (k : ℕ). group_at name (drop k ls)) all ∙ ap (group_at name) (drop-length ls))) tt
-
--- ---- one leaf
-
--- a cell of a group that was passed
-pub passed_cell : (name : Word) (gs : List Group) (number cell : ℕ) (l : Leaf) → IsCellIn (slice_get gs number) cell l → ((g : Group) → slice_get gs number ≡ Some g → bytes_eq g.name name ≡ false) → IsNoCellOf name l
-passed_cell name gs number cell l h other = by (slice_get gs number) refl l h
-  where
-    by : (o : Option Group) → slice_get gs number ≡ o → (l : Leaf) → IsCellIn o cell l → IsNoCellOf name l
-    by o e (atomic_leaf n class settings) h = absurd h
-    by None e (cell_leaf g first n) h = absurd h
-    by (Some k) e (cell_leaf g first n) h = other g (e ∙ ap (λ (x : Group). Some x) (sym h.0))
-
--- a cell of the group of this name
-pub named_cell : (name : Word) (p : GroupAt) (gs : List Group) (number cell leaf : ℕ) (h : Group) (l : Leaf) → IsCellIn (slice_get gs number) cell l → slice_get gs number ≡ Some h → IsNumbered leaf l → bytes_eq h.name name ≡ true → p.first ≡ leaf - cell → p.grid ≡ h.space
-    → IsCellOf name p l
-named_cell name p gs number cell leaf h l here is numbered same first grid = by l (subst (λ (o : Option Group). IsCellIn o cell l) is here) numbered
-  where
-    by : (l : Leaf) → IsCellIn (Some h) cell l → IsNumbered leaf l → IsCellOf name p l
-    by (atomic_leaf n class settings) q k = absurd q
-    by (cell_leaf g f n) q k =
-        (ap (λ (x : Group). bytes_eq x.name name) q.0 ∙ same, let e = q.1 in omega (arith, first, k, e), grid ∙ ap (λ (x : Group). x.space) (sym q.0))
-
-pub cell_within : (leaf cell number : ℕ) (gs : List Group) (l : Leaf) → IsCellIn (slice_get gs number) cell l → IsNumbered leaf l → cell ≤ leaf
-cell_within leaf cell number gs l here numbered = by (slice_get gs number) l here numbered
-  where
-    by : (o : Option Group) (l : Leaf) → IsCellIn o cell l → IsNumbered leaf l → cell ≤ leaf
-    by o (atomic_leaf n class settings) q k = absurd q
-    by None (cell_leaf g f n) q k = absurd q
-    by (Some h) (cell_leaf g f n) q k = let e = q.1 in omega (arith, k, e)
-
-pub group_within : (gs : List Group) (number cell : ℕ) (l : Leaf) → IsCellIn (slice_get gs number) cell l → number < length gs
-group_within gs number cell l here = by (slice_get gs number) refl l here
-  where
-    by : (o : Option Group) → slice_get gs number ≡ o → (l : Leaf) → IsCellIn o cell l → number < length gs
-    by o e (atomic_leaf n class settings) h = absurd h
-    by None e (cell_leaf g f n) h = absurd h
-    by (Some k) e (cell_leaf g f n) h = slice_get_within gs number k e
-
--- a cell of a group of another name
-pub other_named : (name : Word) (gs : List Group) (number cell : ℕ) (h : Group) (l : Leaf) → IsCellIn (slice_get gs number) cell l → slice_get gs number ≡ Some h → bytes_eq h.name name ≡ false → IsNoCellOf name l
-other_named name gs number cell h l here is other = by l (subst (λ (o : Option Group). IsCellIn o cell l) is here)
-  where
-    by : (l : Leaf) → IsCellIn (Some h) cell l → IsNoCellOf name l
-    by (atomic_leaf n class settings) q = tt
-    by (cell_leaf g f n) q = ap (λ (x : Group). bytes_eq x.name name) q.0 ∙ other
 
 -- the leaf that there is
 pub leaf_in : (t : Tree) (k : ℕ) → k < leaf_count t → (l : Leaf) × (slice_get (leaves t) k ≡ Some l)
@@ -167,44 +24,45 @@ leaf_in t k lt =
     let d = atomic_leaf [] Queue [] in
     (get_or (leaves t) k d, slice_get-get_or (leaves t) k d (omega (arith, lt, leaves-length t 0)))
 
-pub same_passed : (o : Option ℕ) (n : ℕ) → true ≡ option_eq nat_eq o (Some n) → o ≡ Some n
-same_passed None n e = absurd (cc)
-same_passed (Some m) n e = ap (λ (k : ℕ). Some k) (same m n e)
-  where
-    same : (m n : ℕ) → true ≡ nat_eq m n → m ≡ n
-    same m n e = grind (arith, nat_tests)
-
-pub names_differ : (x y u v : Word) → true ≡ not (bytes_eq x y) → x ≡ u → y ≡ v → bytes_eq u v ≡ false
-names_differ x y u v e p q = sym (λ i. bytes_eq (p i) (q i)) ∙ off (bytes_eq x y) e
-  where
-    off : (b : Bool) → true ≡ not b → b ≡ false
-    off true e = absurd (cc)
-    off false e = refl
-
-pub names_agree : (x y u v : Word) → false ≡ not (bytes_eq x y) → x ≡ u → y ≡ v → bytes_eq u v ≡ true
-names_agree x y u v e p q = sym (λ i. bytes_eq (p i) (q i)) ∙ on (bytes_eq x y) e
-  where
-    on : (b : Bool) → false ≡ not b → b ≡ true
-    on true e = refl
-    on false e = absurd (cc)
-
--- a leaf of an atomic component is no cell
-pub box_no_cell : (name : Word) (words : List ℤ) (l : Leaf) → HasBox words l → IsNoCellOf name l
-box_no_cell name words (atomic_leaf n class settings) h = tt
-box_no_cell name words (cell_leaf g first cell) h = absurd h
-
 -- ---- how the frames begin
 
-pub none_shown : (f : FramesFile) (g : Option (ℕ × Group)) → IsGroup None g → None ≡ begun_at f g
-none_shown f None h = refl
-none_shown f (Some g) h = absurd h
+-- none without a group
+pub none_shown : (t : Tree) (o : Option code.FramesFile) (f : code.FramesFile) (group : Option GroupAt) → o ≡ Some f → group ≡ None → IsDrawn (drawing_of (option_map frames_of o)) group t → None ≡ showing_at_start t (option_map frames_of o)
+none_shown t None f group some none is = absurd (cc)
+none_shown t (Some k) f None some none is = sym (ap (begun_at (frames_of k)) is)
+none_shown t (Some k) f (Some p) some none is = absurd (cc)
 
-pub shown_from : (f : FramesFile) (p : GroupAt) (g : Option (ℕ × Group)) (w : Showing) → IsGroup (Some p) g → w ≡ showing_none p.first (picture_of f p.grid) → Some w ≡ begun_at f g
-shown_from f p None w h is = absurd h
-shown_from f p (Some g) w h is =
-    ap (λ (x : Showing). Some x) (is ∙ (λ i. showing_none (h.0 i) (picture_of f (h.1 i))))
+-- the group of this number is one of the model's
+pub number_within : (t : Tree) (o : Option code.FramesFile) (f : code.FramesFile) (group : Option GroupAt) (p : GroupAt) → o ≡ Some f → group ≡ Some p → IsDrawn (drawing_of (option_map frames_of o)) group t → p.number < length (groups t)
+number_within t None f group p some here is = absurd (cc)
+number_within t (Some k) f None p some here is = absurd (cc)
+number_within t (Some k) f (Some q) p some here is =
+    let same : q ≡ p = cc in
+    subst (λ (x : GroupAt). x.number < length (groups t)) same (slice_get_within (groups t) q.number is.0 is.2)
 
-pub can_draw : (f : FramesFile) (p : GroupAt) (g : Option (ℕ × Group)) → IsGroup (Some p) g → CanDrawOf f g → CanDraw p.grid f.plane f.width f.decimals
-can_draw f p None h can = absurd h
-can_draw f p (Some g) h can =
-    subst (λ (s : Space). CanDraw s f.plane f.width f.decimals) (sym h.1) (record { plane_inside = can.plane_inside g refl; some_width = can.some_width; narrow = can.narrow; short = can.short })
+-- it is this one
+space_is : (t : Tree) (k : FramesFile) (p : GroupAt) (h : Group) → IsDrawn (Some k.drawing) (Some p) t → slice_get (groups t) p.number ≡ Some h → group_at k.drawing.group (leaves t) ≡ Some (p.first, h)
+space_is t k p h is there =
+    let both : Some is.0 ≡ Some h = sym is.2 ∙ there in
+    let same : is.0 ≡ h = cc in
+    is.1 ∙ ap (λ (g : Group). let x : Option (ℕ × Group) = Some (p.first, g) in x) same
+
+pub can_draw : (t : Tree) (o : Option code.FramesFile) (f : code.FramesFile) (group : Option GroupAt) (p : GroupAt) (h : Group) → o ≡ Some f → group ≡ Some p → IsDrawn (drawing_of (option_map frames_of o)) group t → slice_get (groups t) p.number ≡ Some h → CanShow t (option_map frames_of o)
+    → CanDraw h.space f.plane f.width f.decimals
+can_draw t None f group p h some here is there can = absurd (cc)
+can_draw t (Some k) f None p h some here is there can = absurd (cc)
+can_draw t (Some k) f (Some q) p h some here is there can =
+    let same : q ≡ p = cc in
+    let frames : k ≡ f = cc in
+    let found = space_is t (frames_of k) q h is (subst (λ (x : GroupAt). slice_get (groups t) x.number ≡ Some h) (sym same) there) in
+    subst (λ (x : code.FramesFile). CanDraw h.space x.plane x.width x.decimals) frames (subst (CanDrawOf (frames_of k)) found can)
+
+pub shown_from : (t : Tree) (o : Option code.FramesFile) (f : code.FramesFile) (group : Option GroupAt) (p : GroupAt) (h : Group) (w : Showing) → o ≡ Some f → group ≡ Some p → IsDrawn (drawing_of (option_map frames_of o)) group t → slice_get (groups t) p.number ≡ Some h
+    → w ≡ showing_none p.first (picture_of (frames_of f) h.space) → Some w ≡ showing_at_start t (option_map frames_of o)
+shown_from t None f group p h w some here is there begins = absurd (cc)
+shown_from t (Some k) f None p h w some here is there begins = absurd (cc)
+shown_from t (Some k) f (Some q) p h w some here is there begins =
+    let same : q ≡ p = cc in
+    let frames : k ≡ f = cc in
+    let found = space_is t (frames_of k) q h is (subst (λ (x : GroupAt). slice_get (groups t) x.number ≡ Some h) (sym same) there) in
+    ap (λ (x : Showing). Some x) (begins ∙ (λ i. showing_none ((sym same i).first) (picture_of (frames_of (sym frames i)) h.space))) ∙ sym (ap (begun_at (frames_of k)) found)

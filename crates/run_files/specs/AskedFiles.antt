@@ -1,17 +1,21 @@
--- The names of files, without where they lie.
+-- The files that are asked for.
 use Rattle.std.specs.Prelude.{Option}
 use Rattle.std.specs.Option.{option_map}
-use Rattle.std.specs.Borrow.{Bor}
 use Rattle.model_tree.specs.Tree.{Word}
-use Rattle.run_files.specs.declared.outputs.Named.{Named}
+use Rattle.answer_model.specs.Asked as A
+use Rattle.asked_words.specs.declared.asked.Asked.{Asked}
+use Rattle.asked_words.specs.Shown.{asked_of}
 use Rattle.run_files.specs.Texts.{Names}
 pub use Rattle.run_files.specs.Texts.{name_at}
 
--- a name that may be left out
-abbrev pub text_of_name : Option (Bor Word) → Option Word
-text_of_name name = option_map (λ (n : Bor Word). n.now) name
+-- the name of a file of frames
+abbrev pub frames_name : Option A.FramesFile → Option Word
+frames_name frames = option_map (λ (f : A.FramesFile). f.name) frames
 
 -- the names of the files that are asked for
-abbrev pub names_of : Named → Names
-names_of n =
-    record { log = text_of_name n.log; out = text_of_name n.out; frames = text_of_name n.frames }
+abbrev pub names_asked : A.Asked → Names
+names_asked a = record { log = a.log; out = a.out; frames = frames_name a.frames }
+
+-- the same of what is asked, in code
+abbrev pub names_of : Asked → Names
+names_of a = names_asked (asked_of a)

@@ -2,23 +2,24 @@
 ghost use Rattle.run_files.specs.AskedFiles.{names_of};
 ghost use Rattle.run_files.specs.Written.{MakesOne, MakesFiles};
 
-use crate::outputs::{Named, Output, Unwritten};
+use crate::outputs::{Output, Unwritten, name_of};
+use asked_words::Asked;
 use room_edge::{Room, WriteError};
 
 /// Makes the log, then the output, then the file of frames, where there are to be such.
-pub fn create_files<R: Room>(room: &mut R, named: &Named<'_>) -> Result<(), Unwritten>
-    ensures { MakesFiles (names_of named.now) (R.outside room.old) (R.outside room.new) result }
+pub fn create_files<R: Room>(room: &mut R, asked: &Asked<'_>) -> Result<(), Unwritten>
+    ensures { MakesFiles (names_of asked.now) (R.outside room.old) (R.outside room.new) result }
 {
-    create(room, named, Output::Log)?;
-    create(room, named, Output::Out)?;
-    create(room, named, Output::Frames)
+    create(room, asked, Output::Log)?;
+    create(room, asked, Output::Out)?;
+    create(room, asked, Output::Frames)
 }
 
 /// Makes one of the files, where there is to be one.
-fn create<R: Room>(room: &mut R, named: &Named<'_>, file: Output) -> Result<(), Unwritten>
-    ensures { MakesOne (names_of named.now) file (R.outside room.old) (R.outside room.new) result }
+fn create<R: Room>(room: &mut R, asked: &Asked<'_>, file: Output) -> Result<(), Unwritten>
+    ensures { MakesOne (names_of asked.now) file (R.outside room.old) (R.outside room.new) result }
 {
-    let Some(name) = named.name(file) else {
+    let Some(name) = name_of(asked, file) else {
         return Ok(());
     };
     match room.create(name) {

@@ -16,8 +16,9 @@ ghost use Rattle.run_files.specs.Showing.{after_cycle, frame_before, last_frame,
 ghost use Rattle.run_files.specs.Written.{Writes};
 
 use crate::drawn::Drawn;
-use crate::outputs::{Named, Output, Unwritten};
+use crate::outputs::{Output, Unwritten, name_of};
 use crate::write::write_piece;
+use asked_words::Asked;
 use model_tree::Model;
 use quantity::{OutOfMemory, Time};
 use record_text::{Letters, Records, YRecord, log_bytes, out_bytes};
@@ -34,27 +35,27 @@ use room_edge::Room;
 /// `Memory` where memory ran out, at some place of that order.
 pub fn write_cycle<R: Room>(
     room: &mut R,
-    named: &Named<'_>,
+    asked: &Asked<'_>,
     drawn: &mut Option<Drawn>,
     model: &Model,
     records: &Records,
     at: Time,
     piece: &mut Vec<u8>,
 ) -> Result<(), Unwritten>
-    requires apart { AreApart (names_of named.now) }
-    requires created { AreCreated (names_of named.now) (R.outside room.old).created }
+    requires apart { AreApart (names_of asked.now) }
+    requires created { AreCreated (names_of asked.now) (R.outside room.old).created }
     requires leaves { NamesLeaves model.now records.now }
     // For the cycle whose records these are.
     ensures texts { (c : Cycle) → Holds records.now c → c.time ≡ at → OfTree model.now (λ tree.
-        Writes (names_of named.now) (cycle_pieces tree (letters_of named.now.letters) drawn.old c)
+        Writes (names_of asked.now) (cycle_pieces tree (letters_of asked.now.given.letters) drawn.old c)
         (R.outside room.old) (R.outside room.new) result) }
     ensures drawn { OnOk result ((c : Cycle) → Holds records.now c → c.time ≡ at →
         drawn.new ≡ option_map (after_cycle c) drawn.old) }
 {
-    write_before(room, named, drawn, at, piece)?;
+    write_before(room, asked, drawn, at, piece)?;
     take(drawn, at, &records.y);
-    write_lines(room, named, Output::Log, model, records, piece)?;
-    write_lines(room, named, Output::Out, model, records, piece)
+    write_lines(room, asked, Output::Log, model, records, piece)?;
+    write_lines(room, asked, Output::Out, model, records, piece)
 }
 
 /// Adds the frame of the instant that was begun, where a run ends.
@@ -65,18 +66,18 @@ pub fn write_cycle<R: Room>(
 /// beginning of the frame.
 pub fn write_last<R: Room>(
     room: &mut R,
-    named: &Named<'_>,
+    asked: &Asked<'_>,
     drawn: &mut Option<Drawn>,
     piece: &mut Vec<u8>,
 ) -> Result<(), Unwritten>
-    requires apart { AreApart (names_of named.now) }
-    requires created { AreCreated (names_of named.now) (R.outside room.old).created }
-    ensures texts { Writes (names_of named.now) (one_piece frames (last_frame drawn.old))
+    requires apart { AreApart (names_of asked.now) }
+    requires created { AreCreated (names_of asked.now) (R.outside room.old).created }
+    ensures texts { Writes (names_of asked.now) (one_piece frames (last_frame drawn.old))
         (R.outside room.old) (R.outside room.new) result }
     ensures drawn { OnOk result (drawn.new ≡ option_map ended drawn.old) }
 {
     let filled = draw_last(drawn, piece);
-    write_piece(room, named, Output::Frames, filled, piece)
+    write_piece(room, asked, Output::Frames, filled, piece)
 }
 
 /// The frame of the instant that was begun stands in `piece`, and that instant is over.
@@ -94,19 +95,19 @@ fn draw_last(drawn: &mut Option<Drawn>, piece: &mut Vec<u8>) -> Result<(), OutOf
 /// Adds the frame of an instant that is over, where this one begins another.
 fn write_before<R: Room>(
     room: &mut R,
-    named: &Named<'_>,
+    asked: &Asked<'_>,
     drawn: &mut Option<Drawn>,
     at: Time,
     piece: &mut Vec<u8>,
 ) -> Result<(), Unwritten>
-    requires apart { AreApart (names_of named.now) }
-    requires created { AreCreated (names_of named.now) (R.outside room.old).created }
-    ensures texts { Writes (names_of named.now) (one_piece frames (frame_before at drawn.old))
+    requires apart { AreApart (names_of asked.now) }
+    requires created { AreCreated (names_of asked.now) (R.outside room.old).created }
+    ensures texts { Writes (names_of asked.now) (one_piece frames (frame_before at drawn.old))
         (R.outside room.old) (R.outside room.new) result }
     ensures drawn { OnOk result (drawn.new ≡ option_map (ended_before at) drawn.old) }
 {
     if has_begun_before(drawn, at) {
-        write_last(room, named, drawn, piece)
+        write_last(room, asked, drawn, piece)
     } else {
         Ok(())
     }
@@ -125,27 +126,27 @@ fn has_begun_before(drawn: &Option<Drawn>, at: Time) -> bool
 /// Adds the lines of a cycle to the log or to the output.
 fn write_lines<R: Room>(
     room: &mut R,
-    named: &Named<'_>,
+    asked: &Asked<'_>,
     file: Output,
     model: &Model,
     records: &Records,
     piece: &mut Vec<u8>,
 ) -> Result<(), Unwritten>
-    requires apart { AreApart (names_of named.now) }
-    requires created { AreCreated (names_of named.now) (R.outside room.old).created }
+    requires apart { AreApart (names_of asked.now) }
+    requires created { AreCreated (names_of asked.now) (R.outside room.old).created }
     requires leaves { NamesLeaves model.now records.now }
     ensures texts { (c : Cycle) → Holds records.now c → OfTree model.now (λ tree.
-        Writes (names_of named.now)
-        (one_piece file (lines_of tree (letters_of named.now.letters) c file))
+        Writes (names_of asked.now)
+        (one_piece file (lines_of tree (letters_of asked.now.given.letters) c file))
         (R.outside room.old) (R.outside room.new) result) }
     ensures created { (R.outside room.new).created ≡ (R.outside room.old).created }
 {
-    if named.name(file).is_none() {
+    if name_of(asked, file).is_none() {
         return Ok(());
     }
     piece.clear();
-    let filled = put_lines(&named.letters, file, model, records, piece);
-    write_piece(room, named, file, filled, piece)
+    let filled = put_lines(&asked.given.letters, file, model, records, piece);
+    write_piece(room, asked, file, filled, piece)
 }
 
 /// Appends the lines that a cycle has in a file.

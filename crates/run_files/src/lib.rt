@@ -5,8 +5,8 @@ mod counted;
 mod create;
 mod cycle;
 mod drawn;
-mod group;
 mod outputs;
+mod start;
 mod tell;
 mod write;
 
@@ -14,6 +14,6 @@ pub use counted::{Counted, count};
 pub use create::create_files;
 pub use cycle::{write_cycle, write_last};
 pub use drawn::Drawn;
-pub use group::drawn_at_start;
-pub use outputs::{FramesFile, Named, Output, Outputs, Unwritten};
+pub use outputs::{Output, Unwritten};
+pub use start::drawn_at_start;
 pub use tell::tell_unwritten;

@@ -1,34 +1,10 @@
-// What is asked of a run's files and of its last line.
+// The files of a run, and why one isn't written.
 ghost use Rattle.std.specs.Prelude.{◌≡◌};
-ghost use Rattle.run_files.specs.AskedFiles.{text_of_name, names_of, name_at};
+ghost use Rattle.std.specs.Option.{option_map};
+ghost use Rattle.asked_words.specs.Shown.{text_of_name, frames_of};
+ghost use Rattle.run_files.specs.AskedFiles.{names_of, frames_name, name_at};
 
-use quantity::Time;
-use record_text::Letters;
-
-/// The files that a run makes, or none of them; and what its last line and its complaints tell.
-#[derive(Clone, Copy)]
-pub struct Outputs<'a> {
-    /// The size of a model that is made, 5 to 1000, or None where it is read of a file.
-    pub made: Option<u32>,
-    pub end: Time,
-    pub log: Option<&'a str>,
-    pub out: Option<&'a str>,
-    pub frames: Option<FramesFile<'a>>,
-    pub letters: Letters,
-    /// How many cycles one instant may have, 1 to 1,000,000.
-    pub limit: u32,
-}
-
-/// A file of frames: its name, the group and its plane, and how values are drawn: in `width` places,
-/// 1 to 20, with `decimals` decimals, 0 to 5.
-#[derive(Clone, Copy)]
-pub struct FramesFile<'a> {
-    pub name: &'a str,
-    pub group: &'a str,
-    pub plane: u32,
-    pub width: u8,
-    pub decimals: u8,
-}
+use asked_words::{Asked, FramesFile};
 
 /// One of the files.
 #[derive(Clone, Copy)]
@@ -45,24 +21,23 @@ pub enum Unwritten {
     Memory,
 }
 
-/// The names of the files that are made, and the letters of the log's lines.
-#[derive(Clone, Copy)]
-pub struct Named<'a> {
-    pub log: Option<&'a str>,
-    pub out: Option<&'a str>,
-    pub frames: Option<&'a str>,
-    pub letters: Letters,
+/// The name of one of the files, where there is to be one.
+pub(crate) fn name_of<'a>(asked: &Asked<'a>, file: Output) -> Option<&'a str>
+    ensures { text_of_name result ≡ name_at (names_of asked.now) file }
+{
+    match file {
+        Output::Log => asked.given.log,
+        Output::Out => asked.given.out,
+        Output::Frames => frames_named(&asked.frames),
+    }
 }
 
-impl<'a> Named<'a> {
-    /// The name of one of the files, where there is to be one.
-    pub fn name(&self, file: Output) -> Option<&'a str>
-        ensures { text_of_name result ≡ name_at (names_of self.now) file }
-    {
-        match file {
-            Output::Log => self.log,
-            Output::Out => self.out,
-            Output::Frames => self.frames,
-        }
+/// The name of the file of frames, where there is to be one.
+fn frames_named<'a>(frames: &Option<FramesFile<'a>>) -> Option<&'a str>
+    ensures { text_of_name result ≡ frames_name (option_map frames_of frames.now) }
+{
+    match frames {
+        None => None,
+        Some(frames) => Some(frames.name),
     }
 }

@@ -2,7 +2,8 @@
 ghost use Rattle.run_files.specs.AskedFiles.{names_of};
 ghost use Rattle.run_files.specs.Written.{Tells, Blames};
 
-use crate::outputs::{Named, Unwritten};
+use crate::outputs::{Unwritten, name_of};
+use asked_words::Asked;
 use room_edge::Room;
 use std::alloc::Global;
 use told_lines::{Status, write_fault};
@@ -11,15 +12,15 @@ use told_lines::{Status, write_fault};
 pub fn tell_unwritten<R: Room>(
     alloc: Global,
     room: &mut R,
-    named: &Named<'_>,
+    asked: &Asked<'_>,
     why: Unwritten,
 ) -> Status
-    requires { Blames (names_of named.now) why }
-    ensures { Tells (names_of named.now) why (R.outside room.old) (R.outside room.new) result }
+    requires { Blames (names_of asked.now) why }
+    ensures { Tells (names_of asked.now) why (R.outside room.old) (R.outside room.new) result }
 {
     match why {
         Unwritten::Fault(file) => {
-            let Some(name) = named.name(file) else {
+            let Some(name) = name_of(asked, file) else {
                 unreachable!()
             };
             write_fault(alloc, room, name)

@@ -7,29 +7,30 @@ ghost use Rattle.run_files.specs.Texts.{AreApart, AreCreated};
 ghost use Rattle.run_files.specs.Order.{one_piece};
 ghost use Rattle.run_files.specs.Written.{Writes};
 
-use crate::outputs::{Named, Output, Unwritten};
+use crate::outputs::{Output, Unwritten, name_of};
+use asked_words::Asked;
 use quantity::OutOfMemory;
 use room_edge::{Room, WriteAll, write_all};
 
 /// Adds a piece to one of the files, where there was memory to fill it.
 pub(crate) fn write_piece<R: Room>(
     room: &mut R,
-    named: &Named<'_>,
+    asked: &Asked<'_>,
     file: Output,
     filled: Result<(), OutOfMemory>,
     piece: &[u8],
 ) -> Result<(), Unwritten>
-    requires apart { AreApart (names_of named.now) }
-    requires created { AreCreated (names_of named.now) (R.outside room.old).created }
+    requires apart { AreApart (names_of asked.now) }
+    requires created { AreCreated (names_of asked.now) (R.outside room.old).created }
     // For the bytes that it is filled with.
     ensures texts { (bytes : Bytes) → OnOk filled (piece.now ≡ bytes) →
-        Writes (names_of named.now) (one_piece file bytes) (R.outside room.old)
+        Writes (names_of asked.now) (one_piece file bytes) (R.outside room.old)
         (R.outside room.new) result }
     ensures filled { OnOk result (IsOk filled) }
     ensures created { (R.outside room.new).created ≡ (R.outside room.old).created }
 {
     match filled {
-        Ok(()) => write_to(room, named, file, piece),
+        Ok(()) => write_to(room, asked, file, piece),
         Err(_) => Err(Unwritten::Memory),
     }
 }
@@ -37,16 +38,16 @@ pub(crate) fn write_piece<R: Room>(
 /// Adds bytes to one of the files, where it is made. They are handed over in one piece.
 fn write_to<R: Room>(
     room: &mut R,
-    named: &Named<'_>,
+    asked: &Asked<'_>,
     file: Output,
     piece: &[u8],
 ) -> Result<(), Unwritten>
-    requires apart { AreApart (names_of named.now) }
-    requires created { AreCreated (names_of named.now) (R.outside room.old).created }
-    ensures { Writes (names_of named.now) (one_piece file piece.now) (R.outside room.old)
+    requires apart { AreApart (names_of asked.now) }
+    requires created { AreCreated (names_of asked.now) (R.outside room.old).created }
+    ensures { Writes (names_of asked.now) (one_piece file piece.now) (R.outside room.old)
         (R.outside room.new) result }
 {
-    let Some(name) = named.name(file) else {
+    let Some(name) = name_of(asked, file) else {
         return Ok(());
     };
     match write_all(room, name, piece) {

@@ -1,5 +1,5 @@
 -- What a run costs: a call takes no more than what is left of the run.
-use Rattle.std.proofs.Common.{◌≡◌, ℕ, zero, suc, ◌+◌, ◌-◌, ◌<◌, ◌≤◌, List, [], ◌∷◌, refl, sym, ap, ◌∙◌, subst, arith}
+use Rattle.std.proofs.Common.{◌≡◌, ℕ, zero, suc, ◌+◌, ◌-◌, ◌<◌, ◌≤◌, Option, List, [], ◌∷◌, refl, sym, ap, ◌∙◌, subst, arith}
 use Rattle.std.specs.List.{sum_by}
 use Rattle.std.proofs.lemmas.List.Sums.{sum_by-cons}
 use Rattle.model_tree.specs.Tree.{Tree, leaf_count}
@@ -9,7 +9,8 @@ use Rattle.run_model.specs.Instants.{RunIsARun}
 use Rattle.run_model.specs.Visits.{cycle_visits, last_visits, visits}
 use Rattle.flat_run.specs.Standing.{Standing, tree_in, next_of}
 use Rattle.flat_run.specs.Steps.{Keeps, visits_of}
-use Rattle.run_files.specs.declared.outputs.Outputs.{Outputs}
+use Rattle.asked_words.specs.declared.asked.Asked.{Asked}
+use Rattle.asked_words.specs.declared.group.GroupAt.{GroupAt}
 use Rattle.run_loop.specs.Answers.{MayRun}
 use Rattle.run_loop.specs.Left.{run_of, EndsWithin}
 use Rattle.run_loop.proofs.GoesOn.{run_ended, from_cycled, from_none, run_more, same_tree}
@@ -103,9 +104,9 @@ whole_next left s m c whole some is keeps =
 
 -- ---- from the start
 
-pub ends_whole : (o : Outputs) (s : Standing) → MayRun o s → RunIsARun → EndsWithin (most_cycles o.end o.limit) s
-ends_whole o s may is_run =
+pub ends_whole : (a : Asked) (drawn : Option GroupAt) (s : Standing) → MayRun a drawn s → RunIsARun → EndsWithin (most_cycles a.end a.given.limit) s
+ends_whole a drawn s may is_run =
     let is = is_run (tree_in s) s.state.events s.end s.limit in
-    let r = run_of (most_cycles o.end o.limit) s in
+    let r = run_of (most_cycles a.end a.given.limit) s in
     subst (λ (x : RunState). Runs (tree_in s) s.end s.limit x r.cycles r.verdict r.left) (sym may.starts)
-    (subst (λ (q : Run). Runs (tree_in s) s.end s.limit (start (tree_in s) s.state.events) q.cycles q.verdict q.left) (run_is_run o s may) is)
+    (subst (λ (q : Run). Runs (tree_in s) s.end s.limit (start (tree_in s) s.state.events) q.cycles q.verdict q.left) (run_is_run a drawn s may) is)

@@ -13,20 +13,20 @@ use Rattle.quantity.specs.Bytes.{Bytes}
 use Rattle.rule_tree.specs.declared.outcome.RuleStop.{RuleStop}
 use Rattle.rule_tree.specs.declared.outcome.RuleStop.TheVariants.{NoTrueRule, Overflow, BadDelay}
 use Rattle.model_tree.specs.Tree.{Word, Tree, Leaf, atomic_leaf, cell_leaf, leaves, leaf_count}
-use Rattle.run_model.specs.Run.{Cycle, Run, Verdict, done, too_many, stop}
+use Rattle.run_model.specs.Run.{Event, Cycle, Run, Verdict, done, too_many, stop}
 use Rattle.text_forms.specs.Lines.{ended}
 use Rattle.room_edge.specs.Faults.{WriteFaultCounted, KeepsWriteFaults}
 use Rattle.room_edge.specs.Outside.{Outside}
 use Rattle.answer_model.specs.declared.status.Status.{Status}
 use Rattle.answer_model.specs.declared.status.Status.TheVariants as exit
 use Rattle.answer_model.specs.Status.{of_run, IsOf}
+use Rattle.answer_model.specs.Asked.{Source, file, made, Asked}
 use Rattle.answer_model.specs.Answer.{Answer}
 use Rattle.answer_model.specs.Endings.{Says, ShowsEnd, made_after, EndsWith}
-use Rattle.answer_model.specs.RunEnd.{made_line, many_line, stop_line, stop_status}
+use Rattle.answer_model.specs.RunEnd.{Said, said, done_line, made_line, mark_text, many_line, stop_line, stop_status}
 use Rattle.answer_model.proofs.Endings.{endings_follow}
 use Rattle.answer_model.proofs.Said.{said_among, shown_among}
 use Rattle.answer_model.proofs.Stages.{then_ends, rose_by_said, rose_by_shown}
-use Rattle.run_files.specs.declared.outputs.Outputs.{Outputs}
 use Rattle.run_files.specs.Texts.{Names, Texts, no_texts, files}
 use Rattle.answer_model.specs.FaultsAnswered.{AnswersFaults}
 use Rattle.answer_model.proofs.FaultLemmas.{then_answers, said_answers, shown_answers}
@@ -38,26 +38,27 @@ use Rattle.run_files.specs.Counts.{Counts, no_counts, counts_of}
 use Rattle.run_files.proofs.Counting.{counts_y, counts_s, ones_counted}
 use Rattle.run_loop.specs.declared.going.Going.{Going}
 use Rattle.run_loop.specs.declared.ending.Ending.{Ending}
-use Rattle.run_loop.specs.Begins.{BeginsWith}
+use Rattle.run_loop.specs.Begins.{BeginsWith, counts_at_start}
 use Rattle.run_loop.specs.Ran.{HasEnded}
-use Rattle.run_loop.specs.Ends.{IsVerdict, end_text, made_text, leaf_called, done_text, said_by, TellsEnd, HasCounted}
+use Rattle.run_loop.specs.Ends.{IsVerdict, end_text, made_text, leaf_called, IsSaid, is_shown, is_complained, HasCounted}
 use Rattle.run_loop.specs.ToBe.{IsAnswerOf}
 use Rattle.run_loop.proofs.Leaving.{told_made}
 
 -- ---- the last line
 
 -- of a model that is read
-pub end_told : (o : Outputs) (tree : Tree) (cycles : List Cycle) (going : Going) (line : Bytes) → o.made ≡ None → HasCounted o tree cycles going → line ≡ ended (end_text o.end going.cycles) → line ≡ ended (done_text o.made o.end tree cycles)
-end_told o tree cycles going line none has is =
-    is ∙ ap (λ n. ended (end_text o.end n)) has.number ∙ sym (ap (λ m. ended (done_text m o.end tree cycles)) none)
+pub end_told : (a : Asked) (tree : Tree) (cycles : List Cycle) (going : Going) (line : Bytes) (name : Word) → a.source ≡ file name → HasCounted a tree cycles going → line ≡ ended (end_text a.end going.cycles) → line ≡ ended (done_line a tree cycles)
+end_told a tree cycles going line name read has is =
+    is ∙ ap (λ n. ended (end_text a.end n)) has.number ∙ sym (ap (λ (s : Source). ended (done_line (record a { source = s }) tree cycles)) read)
 
-none_counted : (o : Outputs) (tree : Tree) (cycles : List Cycle) (going : Going) (size : ℕ) → o.made ≡ Some size → going.counted ≡ None → HasCounted o tree cycles going → ⊥
-none_counted o tree cycles going size some none has =
-    let both : (let x : Option Counts = None in x) ≡ Some (counts_of cycles (no_counts (leaf_count tree))) = sym none ∙ has.counted ∙ ap (option_map (λ (n : ℕ). counts_of cycles (no_counts (leaf_count tree)))) some in
+-- what was counted of a made model
+counted_made : (a : Asked) (tree : Tree) (cycles : List Cycle) (going : Going) (size : ℕ) → a.source ≡ made size → HasCounted a tree cycles going → going.counted ≡ Some (counts_of cycles (no_counts (leaf_count tree)))
+counted_made a tree cycles going size of_size has = has.counted ∙ ap (λ (s : Source). option_map (counts_of cycles) (counts_at_start tree s)) of_size
+
+pub not_counted : (a : Asked) (tree : Tree) (cycles : List Cycle) (going : Going) (size : ℕ) → a.source ≡ made size → going.counted ≡ None → HasCounted a tree cycles going → ⊥
+not_counted a tree cycles going size of_size none has =
+    let both : (let x : Option Counts = None in x) ≡ Some (counts_of cycles (no_counts (leaf_count tree))) = sym none ∙ counted_made a tree cycles going size of_size has in
     cc
-
-pub not_counted : (o : Outputs) (tree : Tree) (cycles : List Cycle) (going : Going) (size : ℕ) → o.made ≡ Some size → going.counted ≡ None → HasCounted o tree cycles going → ⊥
-not_counted = none_counted
 
 made_is : (size : ℕ) (tree : Tree) (cycles : List Cycle) → made_text size (leaf_count tree) (length cycles) (counts_of cycles (no_counts (leaf_count tree))) ≡ made_line size tree cycles
 made_is size tree cycles =
@@ -72,96 +73,115 @@ made_is size tree cycles =
     from_zero n = omega arith
 
 -- of a model that is made
-pub made_told : (o : Outputs) (tree : Tree) (cycles : List Cycle) (going : Going) (line : Bytes) (size cells : ℕ) (k : Counts) → o.made ≡ Some size → going.counted ≡ Some k → cells ≡ leaf_count tree → HasCounted o tree cycles going → line ≡ ended (made_text size cells going.cycles k)
-    → line ≡ ended (done_text o.made o.end tree cycles)
-made_told o tree cycles going line size cells k some counted all has is =
-    let both : Some k ≡ Some (counts_of cycles (no_counts (leaf_count tree))) = sym counted ∙ has.counted ∙ ap (option_map (λ (n : ℕ). counts_of cycles (no_counts (leaf_count tree)))) some in
+pub made_told : (a : Asked) (tree : Tree) (cycles : List Cycle) (going : Going) (line : Bytes) (size cells : ℕ) (k : Counts) → a.source ≡ made size → going.counted ≡ Some k → cells ≡ leaf_count tree → HasCounted a tree cycles going → line ≡ ended (made_text size cells going.cycles k)
+    → line ≡ ended (done_line a tree cycles)
+made_told a tree cycles going line size cells k of_size counted all has is =
+    let both : Some k ≡ Some (counts_of cycles (no_counts (leaf_count tree))) = sym counted ∙ counted_made a tree cycles going size of_size has in
     let same : k ≡ counts_of cycles (no_counts (leaf_count tree)) = cc in
-    is ∙ (λ i. ended (made_text size (all i) (has.number i) (same i))) ∙ ap ended (made_is size tree cycles) ∙ sym (ap (λ m. ended (done_text m o.end tree cycles)) some)
+    is ∙ (λ i. ended (made_text size (all i) (has.number i) (same i))) ∙ ap ended (made_is size tree cycles) ∙ sym (ap (λ (s : Source). ended (done_line (record a { source = s }) tree cycles)) of_size)
+
+-- ---- what is said
+
+-- of a run that is done, where no order of service is asked for
+pub done_said : (a : Asked) (tree : Tree) (events : List Event) (cycles : List Cycle) (v : Verdict) (old new : Outside) (status : Status) → a.seed ≡ None → v ≡ done → ShowsEnd (ended (done_line a tree cycles)) exit.Done old new status
+    → IsSaid (said a tree events cycles v) old new status
+done_said a tree events cycles v old new status unmarked is shows =
+    let mark : mark_text a tree events ≡ [] = ap (λ (s : Option ℕ). mark_text (record a { seed = s }) tree events) unmarked in
+    let line : done_line a tree cycles ++ mark_text a tree events ≡ done_line a tree cycles = ap (λ m. done_line a tree cycles ++ m) mark ∙ append-nil (done_line a tree cycles) in
+    subst (λ (x : Verdict). IsSaid (said a tree events cycles x) old new status) (sym is)
+    (is_shown refl (subst (λ (l : Bytes). ShowsEnd (ended l) exit.Done old new status) (sym line) shows))
+
+-- of a stop
+pub stop_said : (a : Asked) (tree : Tree) (events : List Event) (cycles : List Cycle) (v : Verdict) (leaf t : ℕ) (why : RuleStop) (old new : Outside) (status : Status) → v ≡ stop leaf t why → Says (ended (stop_line tree leaf t why)) (stop_status why) old new status
+    → IsSaid (said a tree events cycles v) old new status
+stop_said a tree events cycles v leaf t why old new status is says =
+    subst (λ (x : Verdict). IsSaid (said a tree events cycles x) old new status) (sym is) (is_complained refl says)
+
+-- of too many cycles
+pub many_said : (a : Asked) (tree : Tree) (events : List Event) (cycles : List Cycle) (v : Verdict) (t : ℕ) (old new : Outside) (status : Status) → v ≡ too_many t → Says (ended (many_line a.limit t)) exit.TooManyCycles old new status
+    → IsSaid (said a tree events cycles v) old new status
+many_said a tree events cycles v t old new status is says =
+    subst (λ (x : Verdict). IsSaid (said a tree events cycles x) old new status) (sym is) (is_complained refl says)
 
 -- ---- the outcome
 
 -- all is written, and what is to be said was said
-pub told_ends : (a : Answer) (n : Names) (texts : Texts) (o : Outputs) (tree : Tree) (cycles : List Cycle) (v : Verdict) (inputs : List Word) (old mid new : Outside) (status : Status) → IsAnswerOf n texts (said_by o tree cycles v) a → Adds n texts old mid → TellsEnd o tree cycles v mid new status
+told_ends : (a : Answer) (n : Names) (texts : Texts) (s : Said) (inputs : List Word) (old mid new : Outside) (status : Status) → IsAnswerOf n texts s a → Adds n texts old mid → IsSaid s mid new status
     → EndsWith a (made_after inputs (files n no_texts)) old new status
-told_ends a n texts o tree cycles done inputs old mid new status is adds tells =
+told_ends a n texts s inputs old mid new status is adds (is_shown none shows) =
     then_ends a (made_after inputs (files n no_texts)) (made_after inputs (files n texts)) old mid new status (adds.leads no_texts a inputs)
-    (endings_follow.ended a (made_after inputs (files n texts)) mid new (ended (done_text o.made o.end tree cycles)) status (sym is.made) is.shown is.complained
-    (subst (λ s. ShowsEnd (ended (done_text o.made o.end tree cycles)) s mid new status) (sym is.status) tells))
-told_ends a n texts o tree cycles (too_many t) inputs old mid new status is adds tells =
+    (endings_follow.ended a (made_after inputs (files n texts)) mid new s.shown status (sym is.made) is.shown (is.complained ∙ none)
+    (subst (λ x. ShowsEnd s.shown x mid new status) (sym is.status) shows))
+told_ends a n texts s inputs old mid new status is adds (is_complained none says) =
     then_ends a (made_after inputs (files n no_texts)) (made_after inputs (files n texts)) old mid new status (adds.leads no_texts a inputs)
-    (endings_follow.said a (made_after inputs (files n texts)) mid new status (sym is.made) (sym is.shown)
-    (subst (λ l. Says l a.status mid new status) (sym is.complained) (subst (λ s. Says (ended (many_line o.limit t)) s mid new status) (sym is.status) tells)))
-told_ends a n texts o tree cycles (stop leaf t why) inputs old mid new status is adds tells =
-    then_ends a (made_after inputs (files n no_texts)) (made_after inputs (files n texts)) old mid new status (adds.leads no_texts a inputs)
-    (endings_follow.said a (made_after inputs (files n texts)) mid new status (sym is.made) (sym is.shown)
-    (subst (λ l. Says l a.status mid new status) (sym is.complained) (subst (λ s. Says (ended (stop_line tree leaf t why)) s mid new status) (sym is.status) tells)))
+    (endings_follow.said a (made_after inputs (files n texts)) mid new status (sym is.made) (sym (is.shown ∙ none))
+    (subst (λ l. Says l a.status mid new status) (sym is.complained) (subst (λ x. Says s.complained x mid new status) (sym is.status) says)))
 
 -- ---- statuses
 
-abbrev IsOwn : RuleStop → Type 0
-IsOwn why = IsOf of_run (stop_status why) × (stop_status why ≡ exit.WriteFault → ⊥)
+-- the status is one of a run, and it is no write fault
+abbrev IsOwn : Status → Type 0
+IsOwn own = IsOf of_run own × (own ≡ exit.WriteFault → ⊥)
 
-own : (why : RuleStop) → IsOwn why
-own NoTrueRule = (refl, λ e. absurd cc)
-own Overflow = (refl, λ e. absurd cc)
-own (BadDelay d) = (refl, λ e. absurd cc)
+own_stop : (why : RuleStop) → IsOwn (stop_status why)
+own_stop NoTrueRule = (refl, λ e. absurd cc)
+own_stop Overflow = (refl, λ e. absurd cc)
+own_stop (BadDelay d) = (refl, λ e. absurd cc)
 
-pub told_known : (o : Outputs) (tree : Tree) (cycles : List Cycle) (v : Verdict) (old new : Outside) (status : Status) → TellsEnd o tree cycles v old new status → IsOf of_run status
-told_known o tree cycles done old new status tells = shown_among of_run (ended (done_text o.made o.end tree cycles)) exit.Done old new status refl refl refl tells
-told_known o tree cycles (too_many t) old new status tells = said_among of_run (ended (many_line o.limit t)) exit.TooManyCycles old new status refl refl refl tells
-told_known o tree cycles (stop leaf t why) old new status tells = said_among of_run (ended (stop_line tree leaf t why)) (stop_status why) old new status (own why).0 refl refl tells
+own : (a : Asked) (tree : Tree) (events : List Event) (cycles : List Cycle) (v : Verdict) → IsOwn (said a tree events cycles v).status
+own a tree events cycles done = (refl, λ e. absurd cc)
+own a tree events cycles (too_many t) = (refl, λ e. absurd cc)
+own a tree events cycles (stop leaf t why) = own_stop why
 
-pub told_rose : (o : Outputs) (tree : Tree) (cycles : List Cycle) (v : Verdict) (old mid new : Outside) (status : Status) → KeepsWriteFaults old mid → TellsEnd o tree cycles v mid new status → status ≡ exit.WriteFault → WriteFaultCounted old new
-told_rose o tree cycles done old mid new status keeps tells five = rose_by_shown (ended (done_text o.made o.end tree cycles)) exit.Done old mid new status keeps (λ e. absurd cc) tells five
-told_rose o tree cycles (too_many t) old mid new status keeps tells five = rose_by_said (ended (many_line o.limit t)) exit.TooManyCycles old mid new status keeps (λ e. absurd cc) tells five
-told_rose o tree cycles (stop leaf t why) old mid new status keeps tells five = rose_by_said (ended (stop_line tree leaf t why)) (stop_status why) old mid new status keeps (λ e. absurd ((own why).1 e)) tells five
+told_known : (s : Said) (old new : Outside) (status : Status) → IsOwn s.status → IsSaid s old new status → IsOf of_run status
+told_known s old new status is (is_shown none shows) = shown_among of_run s.shown s.status old new status is.0 refl refl shows
+told_known s old new status is (is_complained none says) = said_among of_run s.complained s.status old new status is.0 refl refl says
+
+told_rose : (s : Said) (old mid new : Outside) (status : Status) → IsOwn s.status → KeepsWriteFaults old mid → IsSaid s mid new status → status ≡ exit.WriteFault → WriteFaultCounted old new
+told_rose s old mid new status is keeps (is_shown none shows) five = rose_by_shown s.shown s.status old mid new status keeps (λ e. absurd (is.1 e)) shows five
+told_rose s old mid new status is keeps (is_complained none says) five = rose_by_said s.complained s.status old mid new status keeps (λ e. absurd (is.1 e)) says five
+
+-- what is told counts each fault
+told_answers : (s : Said) (old new : Outside) (status : Status) → IsSaid s old new status → AnswersFaults old new status
+told_answers s old new status (is_shown none shows) = shown_answers s.shown s.status old new status shows
+told_answers s old new status (is_complained none says) = said_answers s.complained s.status old new status says
 
 -- ---- a run whose files are made
 
-counted_at_end : (cs : List Cycle) (made : Option ℕ) (leaves : ℕ) → option_map (counts_of cs) (option_map (λ (size : ℕ). no_counts leaves) made) ≡ option_map (λ (size : ℕ). counts_of cs (no_counts leaves)) made
-counted_at_end cs None leaves = refl
-counted_at_end cs (Some size) leaves = refl
-
-has_counted : (o : Outputs) (tree : Tree) (r : Run) (was going : Going) (ending : Ending) → BeginsWith o tree was → HasEnded r was going ending → HasCounted o tree r.cycles going
-has_counted o tree r was going ending begins has =
+has_counted : (a : Asked) (tree : Tree) (r : Run) (was going : Going) (ending : Ending) → BeginsWith a tree was → HasEnded r was going ending → HasCounted a tree r.cycles going
+has_counted a tree r was going ending begins has =
     record {
       number = let n = has.cycles in let z = begins.cycles in omega (arith, n, z);
-      counted = has.counted ∙ ap (option_map (counts_of r.cycles)) begins.counted ∙ counted_at_end r.cycles o.made (leaf_count tree);
+      counted = has.counted ∙ ap (option_map (counts_of r.cycles)) begins.counted;
     }
 
 -- what is told of a verdict and of the cycles that were counted
-abbrev pub TellsAny : Outputs → Tree → Going → Ending → Outside → Outside → Status → Type 0
-TellsAny o tree going ending old new status = (cycles : List Cycle) (v : Verdict) → IsVerdict ending v → HasCounted o tree cycles going → TellsEnd o tree cycles v old new status
+abbrev pub TellsAny : Asked → Tree → Going → Ending → Outside → Outside → Status → Type 0
+TellsAny a tree going ending old new status =
+    (events : List Event) (cycles : List Cycle) (v : Verdict) → IsVerdict ending v → HasCounted a tree cycles going → IsSaid (said a tree events cycles v) old new status
 
-module _ (n : Names) (letters : List ℕ) (o : Outputs) (tree : Tree) (r : Run) (old mid new : Outside) (was going : Going) (ending : Ending) (status : Status) (begins : BeginsWith o tree was) (has : HasEnded r was going ending) (adds : AddsAll n (run_pieces tree letters was.drawn r.cycles) old mid) (tells : TellsAny o tree going ending mid new status) where
-  told : TellsEnd o tree r.cycles r.verdict mid new status
-  told = tells r.cycles r.verdict has.verdict (has_counted o tree r was going ending begins has)
+module _ (n : Names) (letters : List ℕ) (a : Asked) (tree : Tree) (r : Run) (old mid new : Outside) (was going : Going) (ending : Ending) (status : Status) (begins : BeginsWith a tree was) (has : HasEnded r was going ending) (adds : AddsAll n (run_pieces tree letters was.drawn r.cycles) old mid) (tells : TellsAny a tree going ending mid new status) where
+  told : (events : List Event) → IsSaid (said a tree events r.cycles r.verdict) mid new status
+  told events = tells events r.cycles r.verdict has.verdict (has_counted a tree r was going ending begins has)
 
-  pub created_ends : (a : Answer) (inputs : List Word) → IsAnswerOf n (texts_of (run_pieces tree letters was.drawn r.cycles)) (said_by o tree r.cycles r.verdict) a → EndsWith a (made_after inputs (files n no_texts)) old new status
-  created_ends a inputs is = told_ends a n (texts_of (run_pieces tree letters was.drawn r.cycles)) o tree r.cycles r.verdict inputs old mid new status is adds.adds told
+  pub created_ends : (x : Answer) (events : List Event) (inputs : List Word) → IsAnswerOf n (texts_of (run_pieces tree letters was.drawn r.cycles)) (said a tree events r.cycles r.verdict) x → EndsWith x (made_after inputs (files n no_texts)) old new status
+  created_ends x events inputs is = told_ends x n (texts_of (run_pieces tree letters was.drawn r.cycles)) (said a tree events r.cycles r.verdict) inputs old mid new status is adds.adds (told events)
 
   pub created_known : IsOf of_run status
-  created_known = told_known o tree r.cycles r.verdict mid new status told
+  created_known = told_known (said a tree [] r.cycles r.verdict) mid new status (own a tree [] r.cycles r.verdict) (told [])
 
   pub created_rose : status ≡ exit.WriteFault → WriteFaultCounted old new
-  created_rose five = told_rose o tree r.cycles r.verdict old mid new status adds.adds.keeps told five
+  created_rose five = told_rose (said a tree [] r.cycles r.verdict) old mid new status (own a tree [] r.cycles r.verdict) adds.adds.keeps (told []) five
 
-pub created_made : (o : Outputs) (tree : Tree) (r : Run) (mid new : Outside) (was going : Going) (ending : Ending) (status : Status) → BeginsWith o tree was → HasEnded r was going ending → TellsAny o tree going ending mid new status → new.made ≡ mid.made
-created_made o tree r mid new was going ending status begins has tells =
-    told_made o tree r.cycles r.verdict mid new status (tells r.cycles r.verdict has.verdict (has_counted o tree r was going ending begins has))
+pub created_made : (a : Asked) (tree : Tree) (r : Run) (mid new : Outside) (was going : Going) (ending : Ending) (status : Status) → BeginsWith a tree was → HasEnded r was going ending → TellsAny a tree going ending mid new status → new.made ≡ mid.made
+created_made a tree r mid new was going ending status begins has tells =
+    told_made (said a tree [] r.cycles r.verdict) mid new status (tells [] r.cycles r.verdict has.verdict (has_counted a tree r was going ending begins has))
 
--- what is told counts each fault
-told_answers : (o : Outputs) (tree : Tree) (cycles : List Cycle) (v : Verdict) (old new : Outside) (status : Status) → TellsEnd o tree cycles v old new status → AnswersFaults old new status
-told_answers o tree cycles done old new status tells = shown_answers (ended (done_text o.made o.end tree cycles)) exit.Done old new status tells
-told_answers o tree cycles (too_many t) old new status tells = said_answers (ended (many_line o.limit t)) exit.TooManyCycles old new status tells
-told_answers o tree cycles (stop leaf t why) old new status tells = said_answers (ended (stop_line tree leaf t why)) (stop_status why) old new status tells
-
-pub created_answers : (n : Names) (pieces : List Piece) (o : Outputs) (tree : Tree) (r : Run) (old mid new : Outside) (was going : Going) (ending : Ending) (status : Status) → BeginsWith o tree was → HasEnded r was going ending → AddsAll n pieces old mid → TellsAny o tree going ending mid new status
+pub created_answers : (n : Names) (pieces : List Piece) (a : Asked) (tree : Tree) (r : Run) (old mid new : Outside) (was going : Going) (ending : Ending) (status : Status) → BeginsWith a tree was → HasEnded r was going ending → AddsAll n pieces old mid → TellsAny a tree going ending mid new status
     → AnswersFaults old new status
-created_answers n pieces o tree r old mid new was going ending status begins has adds tells =
+created_answers n pieces a tree r old mid new was going ending status begins has adds tells =
     then_answers old mid new status (clean_adds n pieces old mid adds)
-    (told_answers o tree r.cycles r.verdict mid new status (tells r.cycles r.verdict has.verdict (has_counted o tree r was going ending begins has)))
+    (told_answers (said a tree [] r.cycles r.verdict) mid new status (tells [] r.cycles r.verdict has.verdict (has_counted a tree r was going ending begins has)))
 
 -- ---- how a leaf is called
 

@@ -4,18 +4,16 @@ use Rattle.std.specs.Prelude.{Ok}
 use Rattle.std.proofs.lemmas.List.{append-nil}
 use Rattle.quantity.specs.Bytes.{Bytes}
 use Rattle.model_tree.specs.Tree.{Word, Tree}
-use Rattle.run_model.specs.Run.{Cycle, Run, Verdict, done, too_many, stop}
-use Rattle.text_forms.specs.Lines.{ended}
+use Rattle.run_model.specs.Run.{Cycle, Run}
 use Rattle.room_edge.specs.Outside.{Outside}
 use Rattle.answer_model.specs.declared.status.Status.{Status}
 use Rattle.answer_model.specs.declared.status.Status.TheVariants as exit
 use Rattle.answer_model.specs.Answer.{Answer, write_fault_line}
 use Rattle.answer_model.specs.Headline.{puts_all}
 use Rattle.answer_model.specs.Endings.{Says, ShowsEnd, all_shown, stopped, unshown, made_after, looked_for, LeadsTo}
-use Rattle.answer_model.specs.RunEnd.{many_line, stop_line, stop_status}
+use Rattle.answer_model.specs.RunEnd.{Said}
 use Rattle.answer_model.proofs.Endings.{steps_lead}
 use Rattle.answer_model.proofs.Said.{said_only}
-use Rattle.run_files.specs.declared.outputs.Outputs.{Outputs}
 use Rattle.run_files.specs.declared.outputs.Unwritten.{Unwritten}
 use Rattle.run_files.specs.declared.outputs.Unwritten.TheVariants.{Fault, Memory}
 use Rattle.run_files.specs.Texts.{Names, no_texts, files, name_at, made_before}
@@ -26,9 +24,8 @@ use Rattle.run_files.specs.Showing.{Showing}
 use Rattle.run_files.proofs.Making.{some_of, if_some}
 use Rattle.run_loop.specs.declared.ending.Ending.{Ending}
 use Rattle.run_loop.specs.declared.going.Going.{Going}
-use Rattle.run_loop.specs.Ends.{TellsEnd, done_text}
-use Rattle.flat_run.specs.Standing.{Standing}
-use Rattle.run_loop.specs.Ran.{asking, RunsWhole, BreaksOff, WritesBegun}
+use Rattle.run_loop.specs.Ends.{IsSaid, is_shown, is_complained}
+use Rattle.run_loop.specs.Ran.{RunsWhole, BreaksOff, WritesBegun}
 use Rattle.run_loop.specs.Leaves.{Asking, Spent, Leaves, some_made, all_made}
 
 -- ---- what is told changes no file
@@ -38,10 +35,9 @@ shown_made bytes own old new _ (all_shown showed keeps) = showed.1.made
 shown_made bytes own old new status (stopped part mid short showed keeps rose says) = (said_only _ _ mid new status says).made ∙ showed.1.made
 shown_made bytes own old new _ (unshown part begins showed keeps) = showed.1.made
 
-pub told_made : (o : Outputs) (tree : Tree) (cycles : List Cycle) (v : Verdict) (old new : Outside) (status : Status) → TellsEnd o tree cycles v old new status → new.made ≡ old.made
-told_made o tree cycles done old new status tells = shown_made (ended (done_text o.made o.end tree cycles)) exit.Done old new status tells
-told_made o tree cycles (too_many t) old new status tells = (said_only (ended (many_line o.limit t)) exit.TooManyCycles old new status tells).made
-told_made o tree cycles (stop leaf t why) old new status tells = (said_only (ended (stop_line tree leaf t why)) (stop_status why) old new status tells).made
+pub told_made : (s : Said) (old new : Outside) (status : Status) → IsSaid s old new status → new.made ≡ old.made
+told_made s old new status (is_shown none shows) = shown_made s.shown s.status old new status shows
+told_made s old new status (is_complained none says) = (said_only s.complained s.status old new status says).made
 
 pub tells_made : (n : Names) (why : Unwritten) (old new : Outside) (status : Status) → Blames n why → Tells n why old new status → new.made ≡ old.made
 tells_made n (Fault file) old new status blames tells =
@@ -73,9 +69,6 @@ created_leaves x a r w old mid new spent made b =
 pub unmade_leaves : (x : Answer) (a : Asking) (r : Run) (w : Option Showing) (why : Unwritten) (old mid new : Outside) (spent : Spent) → FallsMaking a.names why old mid → new.made ≡ mid.made → spent.after ≡ spent.before → Leaves a r w old new spent
 unmade_leaves x a r w why old mid new spent f same none = some_made f.file (same ∙ made_by x [] (made_before a.names f.file) old mid (f.leads x [])) none
 
--- with the names, letters and frames that are asked for
-pub leaves_as : (s : Standing) (r : Run) (old new : Outside) (spent : Spent) (n m : Names) (letters asked : List ℕ) (w v : Option Showing) → n ≡ m → letters ≡ asked → w ≡ v → Leaves (asking n letters s) r w old new spent → Leaves (asking m asked s) r v old new spent
-leaves_as s r old new spent n m letters asked w v names same drawn l =
-    subst (λ (x : Names). Leaves (asking x asked s) r v old new spent) names
-    (subst (λ (x : List ℕ). Leaves (asking n x s) r v old new spent) same
-    (subst (λ (x : Option Showing). Leaves (asking n letters s) r x old new spent) drawn l))
+-- with the frames that are asked for
+pub leaves_as : (a : Asking) (r : Run) (w v : Option Showing) (old new : Outside) (spent : Spent) → w ≡ v → Leaves a r w old new spent → Leaves a r v old new spent
+leaves_as a r w v old new spent drawn l = subst (λ (x : Option Showing). Leaves a r x old new spent) drawn l

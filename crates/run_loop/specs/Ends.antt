@@ -1,21 +1,21 @@
 -- How a run ended, and what is told of it.
-use Rattle.std.specs.Prelude.{◌≡◌, ℕ, Option, Some, None, List, [], ◌++◌, length, slice_get, codes, decimal, count_by}
+use Rattle.std.specs.Prelude.{◌≡◌, ℕ, List, [], ◌++◌, length, slice_get, codes, decimal, count_by}
 use Rattle.std.specs.Option.{option_map, unwrap_or}
 use Rattle.quantity.specs.Bytes.{Bytes}
 use Rattle.quantity.specs.Times.{time_text}
 use Rattle.rule_tree.specs.declared.outcome.RuleStop.TheVariants as rules
-use Rattle.model_tree.specs.Tree.{Tree, leaves, leaf_count}
+use Rattle.model_tree.specs.Tree.{Tree, leaves}
 use Rattle.run_model.specs.Run.{Cycle, Verdict, done, too_many, stop}
 use Rattle.text_forms.specs.LogLine.{leaf_text}
-use Rattle.text_forms.specs.Lines.{leaf_name, ended}
+use Rattle.text_forms.specs.Lines.{leaf_name}
 use Rattle.room_edge.specs.Outside.{Outside}
 use Rattle.answer_model.specs.declared.status.Status.{Status}
-use Rattle.answer_model.specs.declared.status.Status.TheVariants as exit
-use Rattle.answer_model.specs.RunEnd.{end_line, made_line, many_line, stop_line, stop_status, Said, shows, complains}
+use Rattle.answer_model.specs.Asked.{Asked}
+use Rattle.answer_model.specs.RunEnd.{Said}
 use Rattle.answer_model.specs.Endings.{Says, ShowsEnd}
 use Rattle.flat_run.specs.declared.progress.Stop.TheVariants.{NoTrueRule, Overflow, BadDelay, TooManyCycles, Memory}
-use Rattle.run_files.specs.declared.outputs.Outputs.{Outputs}
-use Rattle.run_files.specs.Counts.{Counts, no_counts, counts_of}
+use Rattle.run_files.specs.Counts.{Counts, counts_of}
+use Rattle.run_loop.specs.Begins.{counts_at_start}
 use Rattle.run_loop.specs.declared.ending.Ending.{Ending}
 use Rattle.run_loop.specs.declared.ending.Ending.TheVariants.{Done, Stopped}
 use Rattle.run_loop.specs.declared.going.Going.{Going}
@@ -50,29 +50,14 @@ leaf_called tree leaf =
 
 -- ---- what is said of a run
 
--- the line of a run that is done
-abbrev pub done_text : Option ℕ → ℕ → Tree → List Cycle → Bytes
-done_text None end tree cycles = end_line end cycles
-done_text (Some size) end tree cycles = made_line size tree cycles
-
--- what is shown and complained, and the status
-abbrev pub said_by : Outputs → Tree → List Cycle → Verdict → Said
-said_by o tree cycles done = shows (done_text o.made o.end tree cycles)
-said_by o tree cycles (too_many t) = complains exit.TooManyCycles (many_line o.limit t)
-said_by o tree cycles (stop leaf t why) = complains (stop_status why) (stop_line tree leaf t why)
-
--- it is said, as far as it can be
-abbrev pub TellsEnd : Outputs → Tree → List Cycle → Verdict → Outside → Outside → Status → Type 0
-TellsEnd o tree cycles done old new status =
-    ShowsEnd (ended (done_text o.made o.end tree cycles)) exit.Done old new status
-TellsEnd o tree cycles (too_many t) old new status =
-    Says (ended (many_line o.limit t)) exit.TooManyCycles old new status
-TellsEnd o tree cycles (stop leaf t why) old new status =
-    Says (ended (stop_line tree leaf t why)) (stop_status why) old new status
+-- it is said, as far as it can be: a line is shown, or a line is complained
+pub data IsSaid (s : Said) (old new : Outside) (status : Status) : Type 0 where
+  is_shown : s.complained ≡ [] → ShowsEnd s.shown s.status old new status → IsSaid s old new status
+  is_complained : s.shown ≡ [] → Says s.complained s.status old new status
+      → IsSaid s old new status
 
 -- the cycles were counted, and what the last line of a made model tells
-pub record HasCounted (o : Outputs) (tree : Tree) (cycles : List Cycle) (going : Going) : Type 0
+pub record HasCounted (a : Asked) (tree : Tree) (cycles : List Cycle) (going : Going) : Type 0
   where
     pub number : going.cycles ≡ length cycles
-    pub counted : going.counted ≡ option_map
-        (λ (size : ℕ). counts_of cycles (no_counts (leaf_count tree))) o.made
+    pub counted : going.counted ≡ option_map (counts_of cycles) (counts_at_start tree a.source)

@@ -1,4 +1,3 @@
-pub mod Asks
 pub mod Answers
 pub mod Known
 pub mod Left

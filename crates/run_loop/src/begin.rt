@@ -2,29 +2,32 @@
 ghost use Rattle.std.specs.Prelude.{◌≡◌, ◌<◌, ◌^◌, IfOk};
 ghost use Rattle.model_tree.specs.Leaves.{OfTree};
 ghost use Rattle.run_model.specs.Run.{most_cycles as most};
-ghost use Rattle.run_files.specs.AskedFiles.{text_of_name, names_of};
-ghost use Rattle.run_files.specs.Groups.{CanShowIn};
-ghost use Rattle.run_loop.specs.Asks.{names_with, frames_with};
+ghost use Rattle.asked_words.specs.Shown.{asked_of, source_of};
+ghost use Rattle.run_files.specs.Groups.{IsFoundIn, CanShowIn};
 ghost use Rattle.run_loop.specs.Begins.{BeginsWith, counts_at_start};
 
 use crate::going::Going;
+use asked_words::{Asked, GroupAt, Source};
 use model_tree::Model;
 use quantity::{OutOfMemory, Time};
 use record_text::Records;
-use run_files::{Counted, Named, Outputs, drawn_at_start};
+use run_files::{Counted, drawn_at_start};
 use std::alloc::Global;
 
 /// Frames of which nothing is drawn yet, and nothing counted.
 pub(crate) fn begin(
     alloc: Global,
-    outputs: &Outputs<'_>,
+    asked: &Asked<'_>,
+    drawn: Option<GroupAt>,
     model: &Model,
 ) -> Result<Going, OutOfMemory>
-    requires { CanShowIn model.now outputs.now.frames }
-    ensures { IfOk result (λ going. OfTree model.now (λ tree. BeginsWith outputs.now tree going)) }
+    requires found { IsFoundIn model.now (asked_of asked.now).frames drawn }
+    requires shows { CanShowIn model.now (asked_of asked.now).frames }
+    ensures { IfOk result (λ going. OfTree model.now
+        (λ tree. BeginsWith (asked_of asked.now) tree going)) }
 {
-    let drawn = drawn_at_start(alloc, model, &outputs.frames)?;
-    let counted = counted_at_start(alloc, outputs.made, model)?;
+    let drawn = drawn_at_start(alloc, model, asked, drawn)?;
+    let counted = counted_at_start(alloc, &asked.source, model)?;
     Ok(Going {
         drawn,
         counted,
@@ -37,40 +40,17 @@ pub(crate) fn begin(
 /// Counts for the last line, where the model is made.
 fn counted_at_start(
     alloc: Global,
-    made: Option<u32>,
+    source: &Source<'_>,
     model: &Model,
 ) -> Result<Option<Counted>, OutOfMemory>
     ensures { IfOk result (λ counted. OfTree model.now
-        (λ tree. counted ≡ counts_at_start tree made)) }
+        (λ tree. counted ≡ counts_at_start tree (source_of source.now))) }
 {
-    let Some(_size) = made else {
+    let Source::Made(_) = source else {
         return Ok(None);
     };
     let counted = Counted::new(alloc, model.leaves())?;
     Ok(Some(counted))
-}
-
-/// The names of the files: there is one of frames where there is a group to draw.
-pub(crate) fn named_of<'a>(outputs: &Outputs<'a>, has_frames: bool) -> Named<'a>
-    ensures names { names_of result ≡ names_with outputs.now has_frames }
-    ensures letters { result.letters ≡ outputs.now.letters }
-{
-    Named {
-        log: outputs.log,
-        out: outputs.out,
-        frames: frames_named(outputs, has_frames),
-        letters: outputs.letters,
-    }
-}
-
-/// The name of the file of frames.
-fn frames_named<'a>(outputs: &Outputs<'a>, has_frames: bool) -> Option<&'a str>
-    ensures { text_of_name result ≡ frames_with outputs.now has_frames }
-{
-    let Some(asked) = outputs.frames else {
-        return None;
-    };
-    if has_frames { Some(asked.name) } else { None }
 }
 
 /// The most cycles that a run up to this end may have: as many as the limit at each instant, and

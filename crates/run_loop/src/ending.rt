@@ -2,21 +2,22 @@
 ghost use Rattle.std.specs.Prelude.{◌≡◌, ◌++◌, List, codes, IfOk};
 ghost use Rattle.quantity.specs.ValueTexts.{text5};
 ghost use Rattle.model_tree.specs.Leaves.{OfTree};
-ghost use Rattle.run_model.specs.Run.{Cycle, Verdict};
+ghost use Rattle.run_model.specs.Run.{Event, Cycle, Verdict};
 ghost use Rattle.text_forms.specs.Lines.{ended};
 ghost use Rattle.answer_model.specs.declared.status.Status.TheVariants as exit;
 ghost use Rattle.answer_model.specs.Endings.{Says, ShowsEnd};
-ghost use Rattle.answer_model.specs.RunEnd.{many_line, stopped_at};
+ghost use Rattle.answer_model.specs.RunEnd.{done_line as last_line, said, many_line, stopped_at};
+ghost use Rattle.asked_words.specs.Shown.{asked_of};
 ghost use Rattle.run_loop.specs.declared.ending.Ending.TheVariants.{Stopped};
-ghost use Rattle.run_loop.specs.Ends.{IsVerdict, TellsEnd, HasCounted, done_text};
+ghost use Rattle.run_loop.specs.Ends.{IsVerdict, IsSaid, HasCounted};
 
 use crate::going::Going;
 use crate::lines::{delay_line, end_line, made_line, many_cycles_line, stopped_line};
+use asked_words::{Asked, Source};
 use flat_run::Stop;
 use model_tree::Model;
 use quantity::{OutOfMemory, Time, Value};
 use room_edge::Room;
-use run_files::Outputs;
 use std::alloc::Global;
 use told_lines::{Status, complain, show};
 
@@ -31,19 +32,20 @@ pub(crate) enum Ending {
 pub(crate) fn tell_ending<R: Room>(
     alloc: Global,
     room: &mut R,
-    outputs: &Outputs<'_>,
+    asked: &Asked<'_>,
     model: &Model,
     going: &Going,
     ending: Ending,
 ) -> Status
     // For the cycles and the verdict of the run.
-    ensures { OfTree model.now (λ tree. (cycles : List Cycle) (v : Verdict) → IsVerdict ending v
-        → HasCounted outputs.now tree cycles going.now
-        → TellsEnd outputs.now tree cycles v (R.outside room.old) (R.outside room.new) result) }
+    ensures { OfTree model.now (λ tree. (events : List Event) (cycles : List Cycle) (v : Verdict)
+        → IsVerdict ending v → HasCounted (asked_of asked.now) tree cycles going.now
+        → IsSaid (said (asked_of asked.now) tree events cycles v)
+        (R.outside room.old) (R.outside room.new) result) }
 {
     match ending {
-        Ending::Done => show_done(alloc, room, outputs, model, going),
-        Ending::Stopped(stop) => complain_stop(alloc, room, outputs, model, stop),
+        Ending::Done => show_done(alloc, room, asked, model, going),
+        Ending::Stopped(stop) => complain_stop(alloc, room, asked, model, stop),
     }
 }
 
@@ -51,16 +53,16 @@ pub(crate) fn tell_ending<R: Room>(
 fn show_done<R: Room>(
     alloc: Global,
     room: &mut R,
-    outputs: &Outputs<'_>,
+    asked: &Asked<'_>,
     model: &Model,
     going: &Going,
 ) -> Status
     ensures { OfTree model.now (λ tree. (cycles : List Cycle)
-        → HasCounted outputs.now tree cycles going.now
-        → ShowsEnd (ended (done_text outputs.now.made outputs.now.end tree cycles)) exit.Done
+        → HasCounted (asked_of asked.now) tree cycles going.now
+        → ShowsEnd (ended (last_line (asked_of asked.now) tree cycles)) exit.Done
         (R.outside room.old) (R.outside room.new) result) }
 {
-    let Ok(line) = done_line(alloc, outputs, model, going) else {
+    let Ok(line) = done_line(alloc, asked, model, going) else {
         return Status::NoMemory;
     };
     show(alloc, room, &line)
@@ -69,16 +71,16 @@ fn show_done<R: Room>(
 /// The last line of a run that is done.
 fn done_line(
     alloc: Global,
-    outputs: &Outputs<'_>,
+    asked: &Asked<'_>,
     model: &Model,
     going: &Going,
 ) -> Result<Vec<u8>, OutOfMemory>
     ensures { IfOk result (λ line. OfTree model.now (λ tree. (cycles : List Cycle)
-        → HasCounted outputs.now tree cycles going.now
-        → line.items ≡ ended (done_text outputs.now.made outputs.now.end tree cycles))) }
+        → HasCounted (asked_of asked.now) tree cycles going.now
+        → line.items ≡ ended (last_line (asked_of asked.now) tree cycles))) }
 {
-    let Some(size) = outputs.made else {
-        return end_line(alloc, outputs.end, going.cycles);
+    let Source::Made(size) = asked.source else {
+        return end_line(alloc, asked.end, going.cycles);
     };
     // A run of a made model counts from its start on, so there is always something to tell.
     let Some(counted) = &going.counted else {
@@ -91,13 +93,14 @@ fn done_line(
 fn complain_stop<R: Room>(
     alloc: Global,
     room: &mut R,
-    outputs: &Outputs<'_>,
+    asked: &Asked<'_>,
     model: &Model,
     stop: Stop,
 ) -> Status
-    ensures { OfTree model.now (λ tree. (cycles : List Cycle) (v : Verdict)
+    ensures { OfTree model.now (λ tree. (events : List Event) (cycles : List Cycle) (v : Verdict)
         → IsVerdict (Stopped stop) v
-        → TellsEnd outputs.now tree cycles v (R.outside room.old) (R.outside room.new) result) }
+        → IsSaid (said (asked_of asked.now) tree events cycles v)
+        (R.outside room.old) (R.outside room.new) result) }
 {
     match stop {
         Stop::NoTrueRule(leaf, t) => {
@@ -115,7 +118,7 @@ fn complain_stop<R: Room>(
             complain_at(alloc, room, model, b"overflow", leaf, t, Status::Overflow)
         }
         Stop::BadDelay(leaf, t, delay) => complain_delay(alloc, room, model, leaf, t, delay),
-        Stop::TooManyCycles(t) => complain_many(alloc, room, outputs.limit, t),
+        Stop::TooManyCycles(t) => complain_many(alloc, room, asked.given.limit, t),
         Stop::Memory => Status::NoMemory,
     }
 }

@@ -13,11 +13,12 @@ ghost use Rattle.run_files.specs.Pieces.{cycle_pieces};
 ghost use Rattle.run_files.specs.Counts.{counts_after};
 ghost use Rattle.run_files.specs.Written.{Writes};
 
+use asked_words::Asked;
 use model_tree::Model;
 use quantity::Time;
 use record_text::Records;
 use room_edge::Room;
-use run_files::{Counted, Drawn, Named, Unwritten, count, write_cycle};
+use run_files::{Counted, Drawn, Unwritten, count, write_cycle};
 
 /// The frames that are drawn, what is counted for the last line, the number of cycles, and room
 /// that each cycle uses again: its records, and the piece that is written.
@@ -33,19 +34,19 @@ pub(crate) struct Going {
 /// Writes and counts the cycle whose records are held.
 pub(crate) fn write_next<R: Room>(
     room: &mut R,
-    named: &Named<'_>,
+    asked: &Asked<'_>,
     going: &mut Going,
     model: &Model,
     at: Time,
 ) -> Result<(), Unwritten>
-    requires apart { AreApart (names_of named.now) }
-    requires created { AreCreated (names_of named.now) (R.outside room.old).created }
+    requires apart { AreApart (names_of asked.now) }
+    requires created { AreCreated (names_of asked.now) (R.outside room.old).created }
     requires leaves { NamesLeaves model.now going.old.records }
     requires few { going.old.cycles + 1 < 2 ^ 64 }
     ensures texts { (c : Cycle) → Holds going.old.records c → c.time ≡ at
         → OfTree model.now (λ tree.
-        Writes (names_of named.now)
-        (cycle_pieces tree (letters_of named.now.letters) going.old.drawn c)
+        Writes (names_of asked.now)
+        (cycle_pieces tree (letters_of asked.now.given.letters) going.old.drawn c)
         (R.outside room.old) (R.outside room.new) result) }
     ensures drawn { OnOk result ((c : Cycle) → Holds going.old.records c → c.time ≡ at →
         going.new.drawn ≡ option_map (after_cycle c) going.old.drawn) }
@@ -55,7 +56,7 @@ pub(crate) fn write_next<R: Room>(
 {
     write_cycle(
         room,
-        named,
+        asked,
         &mut going.drawn,
         model,
         &going.records,

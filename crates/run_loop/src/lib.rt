@@ -10,5 +10,4 @@ mod lines;
 mod run;
 mod stage;
 
-pub use run_files::{FramesFile, Outputs};
 pub use stage::run_and_tell;

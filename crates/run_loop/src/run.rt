@@ -17,9 +17,10 @@ ghost use Rattle.run_loop.specs.Stopping.{StopsAs};
 
 use crate::ending::Ending;
 use crate::going::{Going, write_next};
+use asked_words::Asked;
 use flat_run::{Cycles, Progress, Steps, Stop};
 use room_edge::Room;
-use run_files::{Named, Unwritten, write_last};
+use run_files::{Unwritten, write_last};
 use std::sync::ledger::Ledger;
 
 /// Runs at most so many cycles, and writes each, and at the end the last frame. A cycle that is due
@@ -31,14 +32,14 @@ use std::sync::ledger::Ledger;
 /// first pieces of the cycles that were begun, in their order, and of one piece maybe a beginning.
 pub(crate) fn run_all<R: Room, C: Cycles<L>, L: Ledger>(
     room: &mut R,
-    named: &Named<'_>,
+    asked: &Asked<'_>,
     going: &mut Going,
     run: &mut C,
     most: u64,
     steps: &mut Steps<L>,
 ) -> Result<Ending, Unwritten>
-    requires apart { AreApart (names_of named.now) }
-    requires created { AreCreated (names_of named.now) (R.outside room.old).created }
+    requires apart { AreApart (names_of asked.now) }
+    requires created { AreCreated (names_of asked.now) (R.outside room.old).created }
     requires goes { (C.standing run.old).stopped ≡ None }
     requires few { going.old.cycles + most < 2 ^ 64 }
     requires values { HaveValues (tree_in (C.standing run.old)) }
@@ -46,7 +47,7 @@ pub(crate) fn run_all<R: Room, C: Cycles<L>, L: Ledger>(
         All (NamesItsParts (tree_in s)) (run_of most s).cycles }
     requires whole { EndsWithin most (C.standing run.old) }
     ensures runs { let s = C.standing run.old in
-        RunsWhole (asking (names_of named.now) (letters_of named.now.letters) s)
+        RunsWhole (asking (names_of asked.now) (letters_of asked.now.given.letters) s)
         (run_of most s) going.old going.new (R.outside room.old) (R.outside room.new)
         (spent C.is_counted steps.old steps.new) result }
     ensures keeps { Keeps (C.standing run.old) (C.standing run.new) }
@@ -54,22 +55,22 @@ pub(crate) fn run_all<R: Room, C: Cycles<L>, L: Ledger>(
     ensures visits { let s = C.standing run.old in
         OnTrue C.is_counted (steps.new ≤ steps.old + visits (tree_in s) (run_of most s)) }
 {
-    let ending = run_cycles(room, named, going, run, most, steps)?;
-    write_last(room, named, &mut going.drawn, &mut going.piece)?;
+    let ending = run_cycles(room, asked, going, run, most, steps)?;
+    write_last(room, asked, &mut going.drawn, &mut going.piece)?;
     Ok(ending)
 }
 
 /// The same without the last frame.
 fn run_cycles<R: Room, C: Cycles<L>, L: Ledger>(
     room: &mut R,
-    named: &Named<'_>,
+    asked: &Asked<'_>,
     going: &mut Going,
     run: &mut C,
     most: u64,
     steps: &mut Steps<L>,
 ) -> Result<Ending, Unwritten>
-    requires apart { AreApart (names_of named.now) }
-    requires created { AreCreated (names_of named.now) (R.outside room.old).created }
+    requires apart { AreApart (names_of asked.now) }
+    requires created { AreCreated (names_of asked.now) (R.outside room.old).created }
     requires goes { (C.standing run.old).stopped ≡ None }
     requires few { going.old.cycles + most < 2 ^ 64 }
     requires values { HaveValues (tree_in (C.standing run.old)) }
@@ -77,7 +78,7 @@ fn run_cycles<R: Room, C: Cycles<L>, L: Ledger>(
         All (NamesItsParts (tree_in s)) (run_of most s).cycles }
     requires whole { EndsWithin most (C.standing run.old) }
     ensures runs { let s = C.standing run.old in
-        RunsTo (asking (names_of named.now) (letters_of named.now.letters) s)
+        RunsTo (asking (names_of asked.now) (letters_of asked.now.given.letters) s)
         (run_of most s) going.old going.new (R.outside room.old) (R.outside room.new)
         (spent C.is_counted steps.old steps.new) result }
     ensures keeps { Keeps (C.standing run.old) (C.standing run.new) }
@@ -98,7 +99,7 @@ fn run_cycles<R: Room, C: Cycles<L>, L: Ledger>(
         if left == 0 {
             return Ok(Ending::Stopped(Stop::TooManyCycles(at)));
         }
-        write_next(room, named, going, run.model(), at)?;
+        write_next(room, asked, going, run.model(), at)?;
         left -= 1;
     }
 }

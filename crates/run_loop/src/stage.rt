@@ -1,9 +1,9 @@
 // All of the program after its inputs are read.
-ghost use Rattle.std.specs.Prelude.{◌≡◌, ◌+◌, ◌≤◌, List};
+ghost use Rattle.std.specs.Prelude.{◌≡◌, ◌+◌, ◌≤◌, None, List};
 ghost use Rattle.std.specs.Bool.{OnTrue};
 ghost use Rattle.std.specs.List.{All};
 ghost use Rattle.model_tree.specs.Tree.{Word};
-ghost use Rattle.run_model.specs.Run.{most_cycles as most};
+ghost use Rattle.run_model.specs.Run.{Event, most_cycles as most};
 ghost use Rattle.run_model.specs.Fitting.{NamesItsParts};
 ghost use Rattle.run_model.specs.Visits.{visits};
 ghost use Rattle.record_text.specs.Chosen.{letters_of};
@@ -11,32 +11,32 @@ ghost use Rattle.room_edge.specs.Faults.{WriteFaultCounted};
 ghost use Rattle.answer_model.specs.declared.status.Status.TheVariants.{WriteFault};
 ghost use Rattle.answer_model.specs.Status.{of_run, IsOf};
 ghost use Rattle.answer_model.specs.Answer.{Answer};
-ghost use Rattle.answer_model.specs.Asked.{Asked};
 ghost use Rattle.answer_model.specs.Endings.{made_after, looked_for, EndsWith};
 ghost use Rattle.answer_model.specs.FaultsAnswered.{AnswersFaults};
+ghost use Rattle.answer_model.specs.RunEnd.{said};
+ghost use Rattle.asked_words.specs.Shown.{asked_of};
 ghost use Rattle.flat_run.specs.Standing.{tree_in};
 ghost use Rattle.run_files.specs.AskedFiles.{names_of};
 ghost use Rattle.run_files.specs.Texts.{no_texts, files, AreApart, AreCreated};
 ghost use Rattle.run_files.specs.Order.{texts_of};
 ghost use Rattle.run_files.specs.Pieces.{run_pieces};
-ghost use Rattle.run_loop.specs.Asks.{AreOutputsOf, names_in};
 ghost use Rattle.run_loop.specs.Answers.{MayRun, answer_to};
 ghost use Rattle.run_files.specs.Groups.{showing_at_start};
 ghost use Rattle.run_loop.specs.Begins.{BeginsWith};
-ghost use Rattle.run_loop.specs.Ends.{said_by};
 ghost use Rattle.run_loop.specs.Left.{run_of, EndsWithin, HaveValues};
 ghost use Rattle.run_loop.specs.Ran.{asking, WritesBegun};
 ghost use Rattle.run_loop.specs.Leaves.{spent, Leaves};
 ghost use Rattle.run_loop.specs.ToBe.{IsAnswerOf};
 
-use crate::begin::{begin, most_cycles, named_of};
+use crate::begin::{begin, most_cycles};
 use crate::ending::tell_ending;
 use crate::going::Going;
 use crate::laws::runs_are_fit;
 use crate::run::run_all;
+use asked_words::{Asked, GroupAt};
 use flat_run::{Cycles, Steps};
 use room_edge::Room;
-use run_files::{Named, Outputs, create_files, tell_unwritten};
+use run_files::{create_files, tell_unwritten};
 use run_model::laws::a_run_ends;
 use std::alloc::Global;
 use std::sync::ledger::Ledger;
@@ -47,15 +47,16 @@ use told_lines::Status;
 pub fn run_and_tell<R: Room, C: Cycles<L>, L: Ledger>(
     alloc: Global,
     room: &mut R,
-    outputs: &Outputs<'_>,
+    asked: &Asked<'_>,
+    drawn: Option<GroupAt>,
     run: &mut C,
     steps: &mut Steps<L>,
 ) -> Status
-    requires { MayRun outputs.now (C.standing run.old) }
-    // For all that is asked for whose outputs these are, with the files that were looked for.
-    ensures ends { (a : Asked) (inputs : List Word) → AreOutputsOf a outputs.now →
-        EndsWith (answer_to a (C.standing run.old) inputs) (looked_for inputs) (R.outside room.old)
-        (R.outside room.new) result }
+    requires { MayRun asked.now drawn (C.standing run.old) }
+    // With the files that were looked for.
+    ensures ends { (inputs : List Word) → EndsWith
+        (answer_to (asked_of asked.now) (C.standing run.old) inputs) (looked_for inputs)
+        (R.outside room.old) (R.outside room.new) result }
     ensures known { IsOf of_run result }
     ensures write_fault { result ≡ WriteFault
         → WriteFaultCounted (R.outside room.old) (R.outside room.new) }
@@ -63,23 +64,22 @@ pub fn run_and_tell<R: Room, C: Cycles<L>, L: Ledger>(
     ensures faults { AnswersFaults (R.outside room.old) (R.outside room.new) result }
     // The files that it leaves, with pieces in their order, and the visits of the cycles begun.
     ensures leaves { let s = C.standing run.old in
-        let a = asking (names_in outputs.now (tree_in s)) (letters_of outputs.now.letters) s in
-        Leaves a (run_of (most outputs.now.end outputs.now.limit) s)
-        (showing_at_start a.tree outputs.now.frames) (R.outside room.old) (R.outside room.new)
-        (spent C.is_counted steps.old steps.new) }
+        Leaves (asking (names_of asked.now) (letters_of asked.now.given.letters) s)
+        (run_of (most asked.now.end asked.now.given.limit) s)
+        (showing_at_start (tree_in s) (asked_of asked.now).frames)
+        (R.outside room.old) (R.outside room.new) (spent C.is_counted steps.old steps.new) }
     // The visits that the reference run may cost.
-    ensures visits { let r = run_of (most outputs.now.end outputs.now.limit) (C.standing run.old) in
+    ensures visits { let r = run_of (most asked.now.end asked.now.given.limit) (C.standing run.old) in
         OnTrue C.is_counted (steps.new ≤ steps.old + visits (tree_in (C.standing run.old)) r) }
 {
     runs_are_fit();
     a_run_ends();
-    let Ok(mut going) = begin(alloc, outputs, run.model()) else {
+    let Ok(mut going) = begin(alloc, asked, drawn, run.model()) else {
         return Status::NoMemory;
     };
-    let named = named_of(outputs, going.drawn.is_some());
-    match create_files(room, &named) {
-        Ok(()) => run_created(alloc, room, outputs, &named, &mut going, run, steps),
-        Err(why) => tell_unwritten(alloc, room, &named, why),
+    match create_files(room, asked) {
+        Ok(()) => run_created(alloc, room, asked, &mut going, run, steps),
+        Err(unmade) => tell_unwritten(alloc, room, asked, unmade),
     }
 }
 
@@ -87,42 +87,43 @@ pub fn run_and_tell<R: Room, C: Cycles<L>, L: Ledger>(
 fn run_created<R: Room, C: Cycles<L>, L: Ledger>(
     alloc: Global,
     room: &mut R,
-    outputs: &Outputs<'_>,
-    named: &Named<'_>,
+    asked: &Asked<'_>,
     going: &mut Going,
     run: &mut C,
     steps: &mut Steps<L>,
 ) -> Status
-    requires run { MayRun outputs.now (C.standing run.old) }
-    requires apart { AreApart (names_of named.now) }
-    requires created { AreCreated (names_of named.now) (R.outside room.old).created }
-    requires begins { BeginsWith outputs.now (tree_in (C.standing run.old)) going.old }
+    requires goes { (C.standing run.old).stopped ≡ None }
+    requires apart { AreApart (names_of asked.now) }
+    requires created { AreCreated (names_of asked.now) (R.outside room.old).created }
+    requires begins { BeginsWith (asked_of asked.now) (tree_in (C.standing run.old)) going.old }
     requires names { let s = C.standing run.old in All (NamesItsParts (tree_in s))
-        (run_of (most outputs.now.end outputs.now.limit) s).cycles }
+        (run_of (most asked.now.end asked.now.given.limit) s).cycles }
     requires values { HaveValues (tree_in (C.standing run.old)) }
-    requires whole { EndsWithin (most outputs.now.end outputs.now.limit) (C.standing run.old) }
-    ensures ends { let r = run_of (most outputs.now.end outputs.now.limit) (C.standing run.old) in
+    requires whole { EndsWithin (most asked.now.end asked.now.given.limit) (C.standing run.old) }
+    ensures ends { let r = run_of (most asked.now.end asked.now.given.limit) (C.standing run.old) in
         let tree = tree_in (C.standing run.old) in
-        let pieces = run_pieces tree (letters_of named.now.letters) going.old.drawn r.cycles in
-        (a : Answer) (inputs : List Word) → IsAnswerOf (names_of named.now) (texts_of pieces)
-        (said_by outputs.now tree r.cycles r.verdict) a →
-        EndsWith a (made_after inputs (files (names_of named.now) no_texts)) (R.outside room.old)
+        let letters = letters_of asked.now.given.letters in
+        let pieces = run_pieces tree letters going.old.drawn r.cycles in
+        (a : Answer) (events : List Event) (inputs : List Word)
+        → IsAnswerOf (names_of asked.now) (texts_of pieces)
+        (said (asked_of asked.now) tree events r.cycles r.verdict) a →
+        EndsWith a (made_after inputs (files (names_of asked.now) no_texts)) (R.outside room.old)
         (R.outside room.new) result }
     ensures known { IsOf of_run result }
     ensures write_fault { result ≡ WriteFault
         → WriteFaultCounted (R.outside room.old) (R.outside room.new) }
     ensures faults { AnswersFaults (R.outside room.old) (R.outside room.new) result }
     ensures leaves { let s = C.standing run.old in
-        WritesBegun (asking (names_of named.now) (letters_of named.now.letters) s)
-        (run_of (most outputs.now.end outputs.now.limit) s) going.old.drawn
+        WritesBegun (asking (names_of asked.now) (letters_of asked.now.given.letters) s)
+        (run_of (most asked.now.end asked.now.given.limit) s) going.old.drawn
         (R.outside room.old) (R.outside room.new) (spent C.is_counted steps.old steps.new) }
     // The visits that the reference run may cost.
-    ensures visits { let r = run_of (most outputs.now.end outputs.now.limit) (C.standing run.old) in
+    ensures visits { let r = run_of (most asked.now.end asked.now.given.limit) (C.standing run.old) in
         OnTrue C.is_counted (steps.new ≤ steps.old + visits (tree_in (C.standing run.old)) r) }
 {
-    let most = most_cycles(outputs.end, outputs.limit);
-    match run_all(room, named, going, run, most, steps) {
-        Ok(ending) => tell_ending(alloc, room, outputs, run.model(), going, ending),
-        Err(why) => tell_unwritten(alloc, room, named, why),
+    let most = most_cycles(asked.end, asked.given.limit);
+    match run_all(room, asked, going, run, most, steps) {
+        Ok(ending) => tell_ending(alloc, room, asked, run.model(), going, ending),
+        Err(why) => tell_unwritten(alloc, room, asked, why),
     }
 }

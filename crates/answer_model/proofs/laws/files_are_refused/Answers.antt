@@ -9,12 +9,13 @@ use Rattle.model_text.specs.ModelOf.{model_of}
 use Rattle.model_text.specs.Models.{made_text}
 use Rattle.event_list.specs.Events.{events_of}
 use Rattle.run_model.specs.Run.{run, run_from, next_cycle}
-use Rattle.answer_model.specs.Asked.{asked_by, command_of}
-use Rattle.answer_model.specs.Cdpp.{run_on, answer_by}
+use Rattle.answer_model.specs.Options.{draft_by, command_by}
+use Rattle.answer_model.specs.Started.{started_by}
+use Rattle.answer_model.specs.Cdpp.{run_on}
 use Rattle.answer_model.proofs.laws.files_are_refused.Goals as goal
 
 pub returns : goal.returns
-unfolding digits clap_on_literals sections_of tokens written_rule rule_of model_of made_text events_of run run_from next_cycle asked_by command_of answer_by run_on
+unfolding digits clap_on_literals sections_of tokens written_rule rule_of model_of made_text events_of run run_from next_cycle draft_by command_by started_by run_on
 returns c =
     record {
       self_link = refl;

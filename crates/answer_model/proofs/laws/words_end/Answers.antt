@@ -1,14 +1,13 @@
 use Rattle.std.proofs.Common.{refl}
 use Rattle.std.specs.Fmt.{digits}
 use Rattle.clap.proofs.OnLiterals.{clap_on_literals}
-use Rattle.answer_model.specs.Asked.{asked_by, command_of}
-use Rattle.answer_model.specs.AskedDrawing.{asked_drawing, drawlog_app}
-use Rattle.answer_model.specs.Cdpp.{answer_by}
+use Rattle.answer_model.specs.Options.{draft_by, command_by}
+use Rattle.answer_model.specs.Started.{started_by}
 use Rattle.answer_model.specs.Drawlog.{drawing_answer}
 use Rattle.answer_model.proofs.laws.words_end.Goals as goal
 
 pub returns : goal.returns
-unfolding command_of drawlog_app digits clap_on_literals asked_by asked_drawing answer_by drawing_answer
+unfolding command_by digits clap_on_literals draft_by started_by drawing_answer
 returns c =
     record {
       options = record {

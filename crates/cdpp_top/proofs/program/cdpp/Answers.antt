@@ -1,19 +1,96 @@
+use Rattle.std.proofs.Common.{true, map, refl, ◌∙◌, arith}
+use Rattle.std.specs.String.{string_bytes}
+use Rattle.std.proofs.lemmas.Option.{IfSome_then}
+use Rattle.answer_model.specs.Started.{started}
+use Rattle.answer_model.specs.Cdpp.{answer_of}
+use Rattle.answer_model.proofs.Stages.{at_start}
+use Rattle.answer_model.proofs.Causing.{run_ends}
+use Rattle.asked_words.specs.Shown.{asked_of}
+use Rattle.run_loop.specs.Leaves.{spent}
+use Rattle.cdpp_top.specs.Starting.{classes_by, tree_on}
+use Rattle.cdpp_top.specs.Stages.{start_with}
+use Rattle.cdpp_top.proofs.Going.{if_some_all}
+use Rattle.cdpp_top.proofs.Joined.{read_then, read_ends, visited}
+use Rattle.cdpp_top.proofs.Leaving.{of_unrun, tells_made, leaves_of_start}
 use Rattle.cdpp_top.proofs.program.cdpp.Goals as goal
 
-pub returns-clause-ends : goal.returns-clause-ends
-returns-clause-ends g c = c.cdpp_over.ensures.ends
+-- ---- it was read, and run
 
-pub returns-clause-causes : goal.returns-clause-causes
-returns-clause-causes g c = c.cdpp_over.ensures.causes
+pub returns-in-Ok-clause-ends : goal.returns-in-Ok-clause-ends
+returns-in-Ok-clause-ends g c =
+    let words = map string_bytes c.args.words.now in
+    let classes = classes_by (λ m. g.M.AtomicModel.held m) c.args.boxes.items in
+    let old = g.R.Room.outside c.args.room.now in
+    let mid = g.R.Room.outside c.read.new.room in
+    let new = g.R.Room.outside c.run.new.room in
+    IfSome_then old.files c.in-Ok.ensures.reads
+    (λ files reads. read_then (λ s inputs. start_with (asked_of s.asked) (tree_on s.model s.stock) s.events inputs) c.in-Ok.start (started words files classes) old mid new c.run.result reads c.run.ensures.ends)
 
-pub returns-clause-nothing : goal.returns-clause-nothing
-returns-clause-nothing g c = c.cdpp_over.ensures.nothing
+pub returns-in-Ok-clause-causes : goal.returns-in-Ok-clause-causes
+returns-in-Ok-clause-causes g c =
+    (read_ends (map string_bytes c.args.words.now) c.in-Ok.start (g.R.Room.outside c.args.room.now) (g.R.Room.outside c.read.new.room) (g.R.Room.outside c.run.new.room) c.run.result c.in-Ok.ensures.causes c.in-Ok.ensures.only
+    (run_ends _ _ c.run.result c.run.ensures.known c.run.ensures.write_fault c.run.ensures.faults)).causes
 
-pub returns-clause-faults : goal.returns-clause-faults
-returns-clause-faults g c = c.cdpp_over.ensures.faults
+pub returns-in-Ok-clause-nothing : goal.returns-in-Ok-clause-nothing
+returns-in-Ok-clause-nothing g c =
+    (read_ends (map string_bytes c.args.words.now) c.in-Ok.start (g.R.Room.outside c.args.room.now) (g.R.Room.outside c.read.new.room) (g.R.Room.outside c.run.new.room) c.run.result c.in-Ok.ensures.causes c.in-Ok.ensures.only
+    (run_ends _ _ c.run.result c.run.ensures.known c.run.ensures.write_fault c.run.ensures.faults)).nothing
 
-pub returns-clause-visits : goal.returns-clause-visits
-returns-clause-visits g c = c.cdpp_over.ensures.visits
+pub returns-in-Ok-clause-faults : goal.returns-in-Ok-clause-faults
+returns-in-Ok-clause-faults g c =
+    (read_ends (map string_bytes c.args.words.now) c.in-Ok.start (g.R.Room.outside c.args.room.now) (g.R.Room.outside c.read.new.room) (g.R.Room.outside c.run.new.room) c.run.result c.in-Ok.ensures.causes c.in-Ok.ensures.only
+    (run_ends _ _ c.run.result c.run.ensures.known c.run.ensures.write_fault c.run.ensures.faults)).faults
 
-pub returns-clause-leaves : goal.returns-clause-leaves
-returns-clause-leaves g c = c.cdpp_over.ensures.leaves
+pub returns-in-Ok-clause-visits : goal.returns-in-Ok-clause-visits
+returns-in-Ok-clause-visits g c =
+    let words = map string_bytes c.args.words.now in
+    let classes = classes_by (λ m. g.M.AtomicModel.held m) c.args.boxes.items in
+    let s = c.in-Ok.start in
+    IfSome_then (g.R.Room.outside c.args.room.now).files c.in-Ok.ensures.reads
+    (λ files reads. visited (asked_of s.asked) (tree_on s.model s.stock) s.events reads.0 (started words files classes) c.run.new.steps c.args.steps.now reads.1 c.run.ensures.visits)
+
+pub returns-in-Ok-clause-leaves : goal.returns-in-Ok-clause-leaves
+returns-in-Ok-clause-leaves g c =
+    let words = map string_bytes c.args.words.now in
+    let classes = classes_by (λ m. g.M.AtomicModel.held m) c.args.boxes.items in
+    let s = c.in-Ok.start in
+    let old = g.R.Room.outside c.args.room.now in
+    let mid = g.R.Room.outside c.read.new.room in
+    let new = g.R.Room.outside c.run.new.room in
+    IfSome_then old.files c.in-Ok.ensures.reads
+    (λ files reads. leaves_of_start (start_with (asked_of s.asked) (tree_on s.model s.stock) s.events reads.0) (started words files classes) old mid new (spent true c.args.steps.now c.run.new.steps) c.run.result reads.1 c.in-Ok.ensures.only.made c.run.ensures.leaves)
+
+-- ---- it was not read, which a line tells
+
+pub returns-in-Err-clause-ends : goal.returns-in-Err-clause-ends
+returns-in-Err-clause-ends g c =
+    let words = map string_bytes c.args.words.now in
+    let classes = classes_by (λ m. g.M.AtomicModel.held m) c.args.boxes.items in
+    let old = g.R.Room.outside c.args.room.now in
+    let new = g.R.Room.outside c.tell_unread.new.room in
+    IfSome_then old.files c.in-Err.ensures.reads
+    (λ files reads. at_start (answer_of (started words files classes)) old new c.tell_unread.result (reads new c.tell_unread.result c.tell_unread.ensures))
+
+pub returns-in-Err-clause-causes : goal.returns-in-Err-clause-causes
+returns-in-Err-clause-causes g c = (c.in-Err.ensures.causes (g.R.Room.outside c.tell_unread.new.room) c.tell_unread.result c.tell_unread.ensures).causes
+
+pub returns-in-Err-clause-nothing : goal.returns-in-Err-clause-nothing
+returns-in-Err-clause-nothing g c = (c.in-Err.ensures.causes (g.R.Room.outside c.tell_unread.new.room) c.tell_unread.result c.tell_unread.ensures).nothing
+
+pub returns-in-Err-clause-faults : goal.returns-in-Err-clause-faults
+returns-in-Err-clause-faults g c = (c.in-Err.ensures.causes (g.R.Room.outside c.tell_unread.new.room) c.tell_unread.result c.tell_unread.ensures).faults
+
+pub returns-in-Err-clause-visits : goal.returns-in-Err-clause-visits
+returns-in-Err-clause-visits g c =
+    if_some_all (g.R.Room.outside c.args.room.now).files _ (λ files. omega arith)
+
+pub returns-in-Err-clause-leaves : goal.returns-in-Err-clause-leaves
+returns-in-Err-clause-leaves g c =
+    let words = map string_bytes c.args.words.now in
+    let classes = classes_by (λ m. g.M.AtomicModel.held m) c.args.boxes.items in
+    let old = g.R.Room.outside c.args.room.now in
+    let mid = g.R.Room.outside c.read.new.room in
+    let new = g.R.Room.outside c.tell_unread.new.room in
+    let told = tells_made c.in-Err.why mid new c.tell_unread.result c.tell_unread.ensures in
+    if_some_all old.files _ (λ files.
+    of_unrun (started words files classes) old new (spent true c.args.steps.now c.args.steps.now) c.tell_unread.result (record { made = told ∙ c.in-Err.ensures.only.made; visits = refl }))

@@ -1,7 +1,7 @@
 use Rattle.std.proofs.Common.{map, arith}
 use Rattle.std.specs.String.{string_bytes}
 use Rattle.room_edge.specs.Sure.{sure_outside}
-use Rattle.cdpp_top.proofs.Reached.{surely_answered}
+use Rattle.cdpp_top.proofs.Reading.{surely_answered}
 use Rattle.cdpp_top.proofs.sure.cdpp_surely.Goals as goal
 
 pub returns : goal.returns

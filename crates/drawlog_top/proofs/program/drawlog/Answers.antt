@@ -16,15 +16,13 @@ use Rattle.answer_model.proofs.FaultLemmas.{nothing_done, clean_answers, said_an
 use Rattle.answer_model.proofs.Stages.{at_start}
 use Rattle.asked_words.specs.Shown.{drawing_of}
 use Rattle.drawlog_top.specs.Ends.{answer_to_file}
-use Rattle.drawlog_top.proofs.AskedPictures.{asked_drawable}
 use Rattle.drawlog_top.proofs.DrawnAnswers.{if_some_all, log_known}
 use Rattle.drawlog_top.proofs.program.drawlog.Goals as goal
 
 pub draw_asked-requires : goal.draw_asked-requires
 draw_asked-requires g c =
-    let words = map string_bytes c.args.words.now in
-    let is : Some (drawing_of c.in-Ok-Some.asked) ≡ asked_drawing words = rw c.in-Ok-Some.field-0-is at c.in-Ok-Some.ensures in
-    asked_drawable words (drawing_of c.in-Ok-Some.asked) (sym is)
+    let can = rw c.in-Ok-Some.field-0-is at c.in-Ok-Some.ensures.bounds in
+    record { plane_inside = can.plane_inside; some_width = can.some; narrow = can.narrow; short = can.short }
 
 pub returns-in-Ok-Some-clause-ends : goal.returns-in-Ok-Some-clause-ends
 unfolding drawing_answer
@@ -34,14 +32,14 @@ returns-in-Ok-Some-clause-ends g c =
     let new = g.R.Room.outside c.draw_asked.new.room in
     let given = c.draw_asked.result in
     let a = drawing_of c.in-Ok-Some.asked in
-    let is : Some a ≡ asked_drawing words = rw c.in-Ok-Some.field-0-is at c.in-Ok-Some.ensures in
+    let is : Some a ≡ asked_drawing words = rw c.in-Ok-Some.field-0-is at c.in-Ok-Some.ensures.value in
     IfSome_then old.files c.draw_asked.ensures.ends
     (λ files f. subst (λ (o : Answer). Outcome o old new given) (ap (λ o. if_asked drawing_usage o (λ a. answer_to_file a (files a.log))) is) (at_start (answer_to_file a (files a.log)) old new given f))
 
 pub returns-in-Ok-Some-clause-causes : goal.returns-in-Ok-Some-clause-causes
 returns-in-Ok-Some-clause-causes g c =
     let words = map string_bytes c.args.words.now in
-    let is : Some (drawing_of c.in-Ok-Some.asked) ≡ asked_drawing words = rw c.in-Ok-Some.field-0-is at c.in-Ok-Some.ensures in
+    let is : Some (drawing_of c.in-Ok-Some.asked) ≡ asked_drawing words = rw c.in-Ok-Some.field-0-is at c.in-Ok-Some.ensures.value in
     let old = g.R.Room.outside c.args.room.now in
     let new = g.R.Room.outside c.draw_asked.new.room in
     let w = c.draw_asked.ensures.causes in
@@ -62,35 +60,35 @@ unfolding drawing_answer
 returns-in-Ok-None-clause-ends g c =
     let words = map string_bytes c.args.words.now in
     let old = g.R.Room.outside c.args.room.now in
-    let new = g.R.Room.outside c.complain.new.room in
-    let given = c.complain.result in
-    let is : None ≡ asked_drawing words = rw c.in-Ok-None.field-0-is at c.in-Ok-None.ensures in
+    let new = g.R.Room.outside c.tell_usage.new.room in
+    let given = c.tell_usage.result in
+    let is : None ≡ asked_drawing words = rw c.in-Ok-None.field-0-is at c.in-Ok-None.ensures.value in
     if_some_all old.files (λ files. Outcome (drawing_answer words files) old new given) (λ files.
     let x = if_asked drawing_usage None (λ a. answer_to_file a (files a.log)) in
     subst (λ (o : Answer). Outcome o old new given) (ap (λ o. if_asked drawing_usage o (λ a. answer_to_file a (files a.log))) is)
-    (at_start x old new given (endings_follow.said x (looked_for []) old new given refl refl c.complain.ensures)))
+    (at_start x old new given (endings_follow.said x (looked_for []) old new given refl refl c.tell_usage.ensures)))
 
 pub returns-in-Ok-None-clause-causes : goal.returns-in-Ok-None-clause-causes
 returns-in-Ok-None-clause-causes g c =
     let words = map string_bytes c.args.words.now in
     let old = g.R.Room.outside c.args.room.now in
-    let new = g.R.Room.outside c.complain.new.room in
-    let is : None ≡ asked_drawing words = rw c.in-Ok-None.field-0-is at c.in-Ok-None.ensures in
-    let says = c.complain.ensures in
+    let new = g.R.Room.outside c.tell_usage.new.room in
+    let is : None ≡ asked_drawing words = rw c.in-Ok-None.field-0-is at c.in-Ok-None.ensures.value in
+    let says = c.tell_usage.ensures in
     record {
-      known = said_among of_drawlog _ Usage old new c.complain.result refl refl refl says;
-      cause = said_caused (asked_drawing words ≡ None) _ Usage old old new c.complain.result (omega arith) (sym is) says;
-      refused = λ e. said_among of_words _ Usage old new c.complain.result refl refl refl says;
+      known = said_among of_drawlog _ Usage old new c.tell_usage.result refl refl refl says;
+      cause = said_caused (asked_drawing words ≡ None) _ Usage old old new c.tell_usage.result (omega arith) (sym is) says;
+      refused = λ e. said_among of_words _ Usage old new c.tell_usage.result refl refl refl says;
     }
 
 pub returns-in-Ok-None-clause-nothing : goal.returns-in-Ok-None-clause-nothing
 returns-in-Ok-None-clause-nothing g c =
     let old = g.R.Room.outside c.args.room.now in
-    λ e. nothing_written _ Usage old old (g.R.Room.outside c.complain.new.room) c.complain.result (nothing_read old) c.complain.ensures
+    λ e. nothing_written _ Usage old old (g.R.Room.outside c.tell_usage.new.room) c.tell_usage.result (nothing_read old) c.tell_usage.ensures
 
 pub returns-in-Ok-None-clause-faults : goal.returns-in-Ok-None-clause-faults
 returns-in-Ok-None-clause-faults g c =
-    said_answers _ Usage (g.R.Room.outside c.args.room.now) (g.R.Room.outside c.complain.new.room) c.complain.result c.complain.ensures
+    said_answers _ Usage (g.R.Room.outside c.args.room.now) (g.R.Room.outside c.tell_usage.new.room) c.tell_usage.result c.tell_usage.ensures
 
 pub returns-in-Err-clause-ends : goal.returns-in-Err-clause-ends
 returns-in-Err-clause-ends g c =

@@ -12,7 +12,7 @@ use Rattle.model_read.proofs.ends.finish.Goals as goal
 pub returns-in_err-model : goal.returns-in_err-model
 returns-in_err-model g c = λ stock built boxes.
     let ss = c.args.sections.now in
-    let d = drawing_of c.args.drawing in
+    let d = drawing_of c.args.frames in
     let old = g.R.Room.outside c.args.room.now in
     let is : c.from_residual.result ≡ Err Memory = search rules in
     subst (λ r. Reads (behind_limit ss d) d stock r old old) (sym is) (read_nothing (behind_limit ss d) d stock old)
@@ -20,7 +20,7 @@ returns-in_err-model g c = λ stock built boxes.
 pub returns-in_err-routes : goal.returns-in_err-routes
 returns-in_err-routes g c = λ stock built boxes.
     let ss = c.args.sections.now in
-    let d = drawing_of c.args.drawing in
+    let d = drawing_of c.args.frames in
     let old = g.R.Room.outside c.args.room.now in
     let w = c.in_err-routes.field-0.0 in
     let is : c.from_residual-in_err-routes.result ≡ Err w = search rules in
@@ -30,7 +30,7 @@ returns-in_err-routes g c = λ stock built boxes.
 pub returns-in_err-values : goal.returns-in_err-values
 returns-in_err-values g c = λ stock built boxes.
     let ss = c.args.sections.now in
-    let d = drawing_of c.args.drawing in
+    let d = drawing_of c.args.frames in
     let old = g.R.Room.outside c.args.room.now in
     let new = g.R.Room.outside c.initial_values.new.room in
     let w = c.in_err-values.field-0.0 in
@@ -42,7 +42,7 @@ returns-in_err-values g c = λ stock built boxes.
 pub returns-then-not-is_there : goal.returns-then-not-is_there
 returns-then-not-is_there g c = λ stock built boxes.
     let ss = c.args.sections.now in
-    let d = drawing_of c.args.drawing in
+    let d = drawing_of c.args.frames in
     let old = g.R.Room.outside c.args.room.now in
     let new = g.R.Room.outside c.initial_values.new.room in
     let few_paths = few ss d c.args.judged.top c.in_ok-model.model c.in_ok-model.ensures c.requires.built.0 c.requires.built.1 c.blanks_are_laid.ensures c.in_ok-routes.ensures.1 in
@@ -53,12 +53,12 @@ returns-then-not-is_there g c = λ stock built boxes.
 
 pub lay_values-requires-clause-blank : goal.lay_values-requires-clause-blank
 lay_values-requires-clause-blank g c =
-    blank c.args.sections.now (drawing_of c.args.drawing) c.args.judged.top c.in_ok-model.model c.in_ok-model.ensures c.requires.built.0 c.requires.built.1 c.blanks_are_laid.ensures
+    blank c.args.sections.now (drawing_of c.args.frames) c.args.judged.top c.in_ok-model.model c.in_ok-model.ensures c.requires.built.0 c.requires.built.1 c.blanks_are_laid.ensures
 
 pub returns : goal.returns
 returns g c = λ stock built boxes.
     let ss = c.args.sections.now in
-    let d = drawing_of c.args.drawing in
+    let d = drawing_of c.args.frames in
     let top = c.args.judged.top in
     let m = c.in_ok-model.model in
     let of = c.in_ok-model.ensures in
@@ -79,4 +79,4 @@ returns g c = λ stock built boxes.
     finished ss d top m of laws classes passed c.in_ok-values.values.items c.in_ok-values.ensures.sizes c.lay_values.new.model c.lay_values.ensures few_paths stock built
     (Vec Initial Global) c.in_ok-values.values c.in_ok-routes.routes c.in_ok-routes.ensures.0 boxes old new c.in_ok-values.ensures.read c.in_ok-values.ensures.values
     (allowed ss d top m of classes passed c.groups_are_met.ensures c.args.judged.groups.items c.requires.groups
-    (sym (c.can_draw-is_there.ensures ∙ ap (can_draw d) c.deref.ensures.value) ∙ c.if-not-is_there.false))
+    (sym (c.can_draw-is_there.ensures ∙ ap (can_draw d) c.deref.ensures.value) ∙ c.if-not-is_there.false)) c.drawn_in-drawn.result c.drawn_in-drawn.ensures

@@ -6,4 +6,4 @@ use Rattle.model_read.proofs.ends.has_plane.Given as goal
 -- the first of the name is among those that are left
 abbrev pub invariant-loop-group : goal.invariant-loop-group
 invariant-loop-group l =
-    find (λ g. bytes_eq g.section.now.name l.drawing.group) (drop l.group-index l.groups) ≡ find (λ g. bytes_eq g.section.now.name l.drawing.group) l.groups
+    find (λ g. bytes_eq g.section.now.name l.frames.group) (drop l.group-index l.groups) ≡ find (λ g. bytes_eq g.section.now.name l.frames.group) l.groups

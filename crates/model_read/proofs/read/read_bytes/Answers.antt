@@ -14,7 +14,7 @@ pub returns-in-Ok : goal.returns-in-Ok
 returns-in-Ok g c =
     let bytes = c.args.bytes.now in
     let classes = classes_of c.args.stock.now in
-    let d = drawing_of c.args.drawing in
+    let d = drawing_of c.args.frames in
     reads_by (λ files. model_in c.in-Ok.sections files classes d) (λ files. model_of bytes files classes d) d c.read_sections.new.stock c.read_sections.result
     (g.R.Room.outside c.args.room.now) (g.R.Room.outside c.read_sections.new.room)
     (λ files. ap (λ r. after_lines r files classes d) (c.in-Ok.ensures (λ e. cc)) ∙ sym (of_lines bytes files classes d c.requires.short))
@@ -24,7 +24,7 @@ pub returns-in-Err : goal.returns-in-Err
 returns-in-Err g c =
     let bytes = c.args.bytes.now in
     let classes = classes_of c.args.stock.now in
-    let d = drawing_of c.args.drawing in
+    let d = drawing_of c.args.frames in
     let old = g.R.Room.outside c.args.room.now in
     subst (λ r. Reads (λ files. model_of bytes files classes d) d c.args.stock.now (Err r) old old) (sym c.line_refusal.ensures)
     (line_stops bytes classes d c.args.stock.now old c.requires.short c.in-Err.why c.in-Err.ensures)

@@ -9,7 +9,7 @@ use Rattle.model_read.proofs.read.read_named.Goals as goal
 pub returns-in_err-bytes : goal.returns-in_err-bytes
 returns-in_err-bytes g c =
     let classes = classes_of c.args.stock.now in
-    let d = drawing_of c.args.drawing in
+    let d = drawing_of c.args.frames in
     let old = g.R.Room.outside c.args.room.now in
     let new = g.R.Room.outside c.read_file.new.room in
     let w = c.in_err-bytes.field-0.0 in
@@ -20,7 +20,7 @@ returns-in_err-bytes g c =
 pub returns : goal.returns
 returns g c =
     let classes = classes_of c.args.stock.now in
-    let d = drawing_of c.args.drawing in
+    let d = drawing_of c.args.frames in
     let old = g.R.Room.outside c.args.room.now in
     let mid = g.R.Room.outside c.read_file.new.room in
     let new = g.R.Room.outside c.read_bytes.new.room in

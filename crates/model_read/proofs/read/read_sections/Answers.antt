@@ -12,7 +12,7 @@ pub returns-in-Ok : goal.returns-in-Ok
 returns-in-Ok g c =
     let ss = c.args.sections.now in
     let classes = classes_of c.args.stock.now in
-    let d = drawing_of c.args.drawing in
+    let d = drawing_of c.args.frames in
     let stock = c.judge.new.stock in
     reads_by (behind_limit ss d) (λ files. model_in ss files classes d) d stock c.finish.result (g.R.Room.outside c.args.room.now) (g.R.Room.outside c.finish.new.room)
     (λ files. sym (passes c.first_phase_decides.ensures classes ss c.in-Ok.ensures.passed files d))
@@ -22,7 +22,7 @@ pub returns-in-Err : goal.returns-in-Err
 returns-in-Err g c =
     let ss = c.args.sections.now in
     let classes = classes_of c.args.stock.now in
-    let d = drawing_of c.args.drawing in
+    let d = drawing_of c.args.frames in
     let stock = c.judge.new.stock in
     let old = g.R.Room.outside c.args.room.now in
     subst (λ r. Reads (λ files. model_in ss files classes d) d stock (Err r) old old) (sym c.from.ensures)

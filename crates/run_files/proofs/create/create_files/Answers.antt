@@ -8,7 +8,7 @@ use Rattle.run_files.proofs.create.create_files.Goals as goal
 
 pub returns-in_err-create : goal.returns-in_err-create
 returns-in_err-create g c =
-    let n = names_of c.args.named.now in
+    let n = names_of c.args.asked.now in
     let old = g.R.Room.outside c.args.room.now in
     let new = g.R.Room.outside c.create.new.room in
     let why = c.in_err-create.field-0.0 in
@@ -18,7 +18,7 @@ returns-in_err-create g c =
 
 pub returns-in_err-create-2 : goal.returns-in_err-create-2
 returns-in_err-create-2 g c =
-    let n = names_of c.args.named.now in
+    let n = names_of c.args.asked.now in
     let old = g.R.Room.outside c.args.room.now in
     let mid = g.R.Room.outside c.create.new.room in
     let new = g.R.Room.outside c.create-2.new.room in
@@ -29,5 +29,5 @@ returns-in_err-create-2 g c =
 
 pub returns : goal.returns
 returns g c =
-    frames_made (names_of c.args.named.now) (g.R.Room.outside c.args.room.now) (g.R.Room.outside c.create.new.room) (g.R.Room.outside c.create-2.new.room) (g.R.Room.outside c.create-3.new.room) c.create-3.result
+    frames_made (names_of c.args.asked.now) (g.R.Room.outside c.args.room.now) (g.R.Room.outside c.create.new.room) (g.R.Room.outside c.create-2.new.room) (g.R.Room.outside c.create-3.new.room) c.create-3.result
     c.in_ok-create.ensures c.in_ok-create-2.ensures c.create-3.ensures

@@ -14,7 +14,7 @@ returns-then-has_begun_before g c =
     let old = g.R.Room.outside c.args.room.now in
     let new = g.R.Room.outside c.write_last.new.room in
     record {
-      texts = subst (λ text. Writes (names_of c.args.named.now) (one_piece Frames text) old new c.write_last.result) (frame_over c.args.at c.args.drawn.now begun) c.write_last.ensures.texts;
+      texts = subst (λ text. Writes (names_of c.args.asked.now) (one_piece Frames text) old new c.write_last.result) (frame_over c.args.at c.args.drawn.now begun) c.write_last.ensures.texts;
       drawn = on_ok_weaker c.write_last.result (λ is. is ∙ is_over c.args.at c.args.drawn.now begun) c.write_last.ensures.drawn;
     }
 
@@ -23,6 +23,6 @@ returns-else-has_begun_before g c =
     let none = sym c.has_begun_before.ensures ∙ c.if-has_begun_before.false in
     let now = g.R.Room.outside c.args.room.now in
     record {
-      texts = subst (λ text. AddsAll (names_of c.args.named.now) (one_piece Frames text) now now) (no_frame c.args.at c.args.drawn.now none) (no_frame_added (names_of c.args.named.now) now);
+      texts = subst (λ text. AddsAll (names_of c.args.asked.now) (one_piece Frames text) now now) (no_frame c.args.at c.args.drawn.now none) (no_frame_added (names_of c.args.asked.now) now);
       drawn = none_over c.args.at c.args.drawn.now none;
     }

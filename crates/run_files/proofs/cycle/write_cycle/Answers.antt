@@ -14,8 +14,8 @@ use Rattle.run_files.proofs.cycle.write_cycle.Goals as goal
 
 pub returns-in_err-write_before-clause-texts : goal.returns-in_err-write_before-clause-texts
 returns-in_err-write_before-clause-texts g c = λ cycle h time settings.
-    let n = names_of c.args.named.now in
-    let letters = letters_of c.args.named.now.letters in
+    let n = names_of c.args.asked.now in
+    let letters = letters_of c.args.asked.now.given.letters in
     let tree = tree_of c.args.model.now settings in
     let old = g.R.Room.outside c.args.room.now in
     let new = g.R.Room.outside c.write_before.new.room in
@@ -29,12 +29,12 @@ take-requires g c = subst (BeginsAt c.args.at) (sym c.in_ok-write_before.ensures
 
 pub write_lines-requires-clause-created : goal.write_lines-requires-clause-created
 write_lines-requires-clause-created g c =
-    subst (AreCreated (names_of c.args.named.now)) (sym c.in_ok-write_before.ensures.texts.adds.created) c.requires.created
+    subst (AreCreated (names_of c.args.asked.now)) (sym c.in_ok-write_before.ensures.texts.adds.created) c.requires.created
 
 pub returns-in_err-write_lines-clause-texts : goal.returns-in_err-write_lines-clause-texts
 returns-in_err-write_lines-clause-texts g c = λ cycle h time settings.
-    let n = names_of c.args.named.now in
-    let letters = letters_of c.args.named.now.letters in
+    let n = names_of c.args.asked.now in
+    let letters = letters_of c.args.asked.now.given.letters in
     let tree = tree_of c.args.model.now settings in
     let old = g.R.Room.outside c.args.room.now in
     let first = g.R.Room.outside c.write_before.new.room in
@@ -46,7 +46,7 @@ returns-in_err-write_lines-clause-texts g c = λ cycle h time settings.
 
 pub returns-clause-texts : goal.returns-clause-texts
 returns-clause-texts g c = λ cycle h time settings.
-    cycle_written (names_of c.args.named.now) (tree_of c.args.model.now settings) (letters_of c.args.named.now.letters) c.args.drawn.now cycle c.args.at time c.write_lines-2.result
+    cycle_written (names_of c.args.asked.now) (tree_of c.args.model.now settings) (letters_of c.args.asked.now.given.letters) c.args.drawn.now cycle c.args.at time c.write_lines-2.result
     (g.R.Room.outside c.args.room.now) (g.R.Room.outside c.write_before.new.room) (g.R.Room.outside c.write_lines.new.room) (g.R.Room.outside c.write_lines-2.new.room)
     c.in_ok-write_before.ensures.texts (c.in_ok-write_lines.ensures.texts cycle h settings) (c.write_lines-2.ensures.texts cycle h settings)
 

@@ -10,13 +10,13 @@ use Rattle.run_files.proofs.cycle.write_lines.Goals as goal
 
 pub returns-then-is_none-clause-texts : goal.returns-then-is_none-clause-texts
 returns-then-is_none-clause-texts g c = λ cycle h settings.
-    none_added (names_of c.args.named.now) c.args.file (lines_of (tree_of c.args.model.now settings) (letters_of c.args.named.now.letters) cycle c.args.file) (g.R.Room.outside c.args.room.now)
-    (sym c.name.ensures ∙ no_name c.name.result c.if-is_none.ensures)
+    none_added (names_of c.args.asked.now) c.args.file (lines_of (tree_of c.args.model.now settings) (letters_of c.args.asked.now.given.letters) cycle c.args.file) (g.R.Room.outside c.args.room.now)
+    (sym c.name_of.ensures ∙ no_name c.name_of.result c.if-is_none.ensures)
 
 pub returns : goal.returns
 returns g c = record {
   texts = λ cycle h settings.
-      let lines = lines_of (tree_of c.args.model.now settings) (letters_of c.args.named.now.letters) cycle c.args.file in
+      let lines = lines_of (tree_of c.args.model.now settings) (letters_of c.args.asked.now.given.letters) cycle c.args.file in
       c.write_piece.ensures.texts lines (on_ok_weaker c.put_lines-filled.result (λ ok. c.deref.ensures.value ∙ ok cycle h settings ∙ ap (λ xs. xs ++ lines) c.clear.ensures.items) c.put_lines-filled.ensures);
   created = c.write_piece.ensures.created;
 }

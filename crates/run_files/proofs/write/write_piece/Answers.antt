@@ -14,10 +14,10 @@ returns-in-Ok g c =
     record {
       texts = λ bytes h.
           let is = subst (λ r. OnOk r (c.args.piece.now ≡ bytes)) c.in-Ok.is h in
-          subst (λ text. Writes (names_of c.args.named.now) (one_piece c.args.file text) old new c.write_to.result) is c.write_to.ensures;
+          subst (λ text. Writes (names_of c.args.asked.now) (one_piece c.args.file text) old new c.write_to.result) is c.write_to.ensures;
       filled = on_ok_so c.write_to.result (subst IsOk (sym c.in-Ok.is) refl);
-      created = writes_created (names_of c.args.named.now) (one_piece c.args.file c.args.piece.now) old new c.write_to.result c.write_to.ensures;
+      created = writes_created (names_of c.args.asked.now) (one_piece c.args.file c.args.piece.now) old new c.write_to.result c.write_to.ensures;
     }
 
 pub returns-in-Err-clause-texts : goal.returns-in-Err-clause-texts
-returns-in-Err-clause-texts g c = λ bytes h. fell_at_once (names_of c.args.named.now) (piece_of c.args.file bytes) [] (g.R.Room.outside c.args.room.now)
+returns-in-Err-clause-texts g c = λ bytes h. fell_at_once (names_of c.args.asked.now) (piece_of c.args.file bytes) [] (g.R.Room.outside c.args.room.now)

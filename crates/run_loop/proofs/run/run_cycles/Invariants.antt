@@ -6,7 +6,7 @@ use Rattle.run_loop.proofs.run.run_cycles.Given as goal
 
 abbrev pub invariant-cycles : goal.invariant-cycles
 invariant-cycles g l =
-    Stands (names_of l.named) (letters_of l.named.letters) l.most l.left (g.C.Cycles.standing l.fn.run) (g.C.Cycles.standing l.run) l.fn.going l.going.drawn l.going.counted l.going.cycles (g.R.Room.outside l.fn.room) (g.R.Room.outside l.room)
+    Stands (names_of l.asked) (letters_of l.asked.given.letters) l.most l.left (g.C.Cycles.standing l.fn.run) (g.C.Cycles.standing l.run) l.fn.going l.going.drawn l.going.counted l.going.cycles (g.R.Room.outside l.fn.room) (g.R.Room.outside l.room)
     (spent g.C.Cycles.is_counted l.fn.steps l.steps)
 
 abbrev pub decreases-cycles : goal.decreases-cycles

@@ -1,0 +1,160 @@
+use Rattle.std.proofs.Common.{◌≡◌, ◌≤◌, Ok, Err, List, [], length, refl, sym, ap, ◌∙◌, subst, rules}
+use Rattle.std.specs.Prelude.{IsTrue, IfSome, not}
+use Rattle.std.specs.List.{list_all}
+use Rattle.std.proofs.lemmas.Option.{IfSome_then}
+use Rattle.quantity.specs.Bytes.{Bytes}
+use Rattle.sparse_cycle.specs.Feed.{AreAtInputs}
+use Rattle.atomic_face.specs.StockView.{Stocked}
+use Rattle.atomic_face.specs.declared.class.Class.{Class}
+use Rattle.model_stock.specs.Settled.{classes_of}
+use Rattle.model_tree.specs.declared.component.Coupled.{Coupled}
+use Rattle.model_read.specs.declared.found.ReadModel.{ReadModel}
+use Rattle.answer_model.specs.Started.{inputs_read}
+use Rattle.answer_model.specs.Status.{of_reading}
+use Rattle.answer_model.specs.Cdpp.{answer_of}
+use Rattle.answer_model.proofs.Causing.{nothing_read, later_ends}
+use Rattle.asked_words.specs.Shown.{text_of_name, asked_of}
+use Rattle.cdpp_top.specs.declared.unread.Unread.TheVariants as why
+use Rattle.cdpp_top.specs.Unread.{unread_model}
+use Rattle.cdpp_top.specs.Starting.{classes_by, tree_on}
+use Rattle.cdpp_top.specs.Stages.{start_with, ReadsEvents, ReadCauses, ReadsStart}
+use Rattle.cdpp_top.proofs.Boxes.{none_taken, classes_are}
+use Rattle.cdpp_top.proofs.Causing.{nothing_told, model_told, only_then, misses_then}
+use Rattle.cdpp_top.proofs.Going.{if_some_all}
+use Rattle.cdpp_top.proofs.Groups.{sound_is}
+use Rattle.cdpp_top.proofs.Reading.{ReadsAsked, starts, stops_at_model, stops_at_events}
+use Rattle.cdpp_top.proofs.Stops.{no_memory, no_line}
+use Rattle.cdpp_top.proofs.read.read_inputs.Goals as goal
+
+pub read_source-requires-clause-free : goal.read_source-requires-clause-free
+read_source-requires-clause-free g c =
+    subst (λ stock. IsTrue (list_all (λ (s : Stocked). not s.taken) stock)) (sym c.in_ok-stock.ensures) (none_taken (λ m. g.M.AtomicModel.held m) c.args.boxes.items)
+
+-- ---- no memory for the stock
+
+pub returns-in_err-stock-clause-reads : goal.returns-in_err-stock-clause-reads
+returns-in_err-stock-clause-reads g c =
+    let x = c.args.asked in
+    let classes = classes_by (λ m. g.M.AtomicModel.held m) c.args.boxes.items in
+    let old = g.R.Room.outside c.args.room.now in
+    let is : c.from_residual.result ≡ Err why.Memory = search rules in
+    if_some_all old.files _ (λ files.
+    let y = answer_of (inputs_read (asked_of x) files classes) in
+    subst (λ r. ReadsStart (λ s inputs. start_with (asked_of s.asked) (tree_on s.model s.stock) s.events inputs) (inputs_read (asked_of x) files classes) old old r) (sym is)
+    (λ after s tells. no_line y [] old old after s (no_memory y [] old) tells))
+
+pub returns-in_err-stock-clause-causes : goal.returns-in_err-stock-clause-causes
+returns-in_err-stock-clause-causes g c =
+    let old = g.R.Room.outside c.args.room.now in
+    let is : c.from_residual.result ≡ Err why.Memory = search rules in
+    subst (λ r. ReadCauses old old r) (sym is) (λ after s tells. nothing_told old old after s (nothing_read old) refl tells)
+
+pub returns-in_err-stock-clause-only : goal.returns-in_err-stock-clause-only
+returns-in_err-stock-clause-only g c = nothing_read (g.R.Room.outside c.args.room.now)
+
+-- ---- no model
+
+pub returns-in_err-read-clause-reads : goal.returns-in_err-read-clause-reads
+returns-in_err-read-clause-reads g c =
+    let x = c.args.asked in
+    let classes = classes_by (λ m. g.M.AtomicModel.held m) c.args.boxes.items in
+    let old = g.R.Room.outside c.args.room.now in
+    let mid = g.R.Room.outside c.read_source.new.room in
+    let w = c.in_err-read.field-0.0 in
+    let is : c.from_residual-in_err-read.result ≡ Err (unread_model w) = search rules in
+    let are = ap classes_of c.in_ok-stock.ensures ∙ classes_are (λ m. g.M.AtomicModel.held m) c.args.boxes.items in
+    let reads = subst (λ (cs : List Class). ReadsAsked x cs c.read_source.new.stock (Err w) old mid) are c.in_err-read.ensures.reads in
+    IfSome_then old.files (stops_at_model x classes c.read_source.new.stock w old mid reads) (λ files stops.
+    subst (λ r. ReadsStart (λ s inputs. start_with (asked_of s.asked) (tree_on s.model s.stock) s.events inputs) (inputs_read (asked_of x) files classes) old mid r) (sym is) stops)
+
+pub returns-in_err-read-clause-causes : goal.returns-in_err-read-clause-causes
+returns-in_err-read-clause-causes g c =
+    let old = g.R.Room.outside c.args.room.now in
+    let mid = g.R.Room.outside c.read_source.new.room in
+    let w = c.in_err-read.field-0.0 in
+    let is : c.from_residual-in_err-read.result ≡ Err (unread_model w) = search rules in
+    let e = c.in_err-read.ensures.reads in
+    subst (λ r. ReadCauses old mid r) (sym is) (λ after s tells. model_told ReadModel w old mid after s e.counted e.only tells)
+
+pub returns-in_err-read-clause-only : goal.returns-in_err-read-clause-only
+returns-in_err-read-clause-only g c = c.in_err-read.ensures.reads.only
+
+-- ---- no events
+
+pub read_events-requires : goal.read_events-requires
+read_events-requires g c =
+    let ports = c.deref.ensures.value ∙ ap (λ (top : Coupled). top.ins.items) c.top.ensures in
+    record { few = subst (λ (names : List Bytes). length names ≤ 65536) (sym ports) (sound_is (tree_on c.in_ok-read.read.model c.read_source.new.stock) c.in_ok-read.ensures.reads.ready.sound).ins }
+
+pub returns-in_err-events-clause-reads : goal.returns-in_err-events-clause-reads
+returns-in_err-events-clause-reads g c =
+    let x = c.args.asked in
+    let classes = classes_by (λ m. g.M.AtomicModel.held m) c.args.boxes.items in
+    let old = g.R.Room.outside c.args.room.now in
+    let mid = g.R.Room.outside c.read_source.new.room in
+    let new = g.R.Room.outside c.read_events.new.room in
+    let m = c.in_ok-read.read.model in
+    let stock = c.read_source.new.stock in
+    let w = c.in_err-events.field-0.0 in
+    let is : c.from_residual-in_err-events.result ≡ Err w = search rules in
+    let ports = c.deref.ensures.value ∙ ap (λ (top : Coupled). top.ins.items) c.top.ensures in
+    let are = ap classes_of c.in_ok-stock.ensures ∙ classes_are (λ m. g.M.AtomicModel.held m) c.args.boxes.items in
+    let reads = subst (λ (cs : List Class). ReadsAsked x cs stock (Ok (record { model = m; routes = c.in_ok-read.read.routes; drawn = c.in_ok-read.read.drawn })) old mid) are c.in_ok-read.ensures.reads in
+    let later = subst (λ (names : List Bytes). IfSome mid.files (λ files. ReadsEvents (text_of_name x.given.events) names files mid new (Err w))) ports c.in_err-events.ensures.reads in
+    IfSome_then old.files (stops_at_events x classes stock m c.in_ok-read.read.routes c.in_ok-read.read.drawn w old mid new reads later) (λ files stops.
+    subst (λ r. ReadsStart (λ s inputs. start_with (asked_of s.asked) (tree_on s.model s.stock) s.events inputs) (inputs_read (asked_of x) files classes) old new r) (sym is) stops)
+
+pub returns-in_err-events-clause-causes : goal.returns-in_err-events-clause-causes
+returns-in_err-events-clause-causes g c =
+    let old = g.R.Room.outside c.args.room.now in
+    let mid = g.R.Room.outside c.read_source.new.room in
+    let new = g.R.Room.outside c.read_events.new.room in
+    let w = c.in_err-events.field-0.0 in
+    let is : c.from_residual-in_err-events.result ≡ Err w = search rules in
+    let e = c.in_ok-read.ensures.reads in
+    subst (λ r. ReadCauses old new r) (sym is) (λ after s tells. later_ends of_reading old mid after s e.only e.misses e.counted.1 (c.in_err-events.ensures.causes after s tells))
+
+pub returns-in_err-events-clause-only : goal.returns-in_err-events-clause-only
+returns-in_err-events-clause-only g c =
+    only_then (g.R.Room.outside c.args.room.now) (g.R.Room.outside c.read_source.new.room) (g.R.Room.outside c.read_events.new.room) c.in_ok-read.ensures.reads.only c.in_err-events.ensures.only
+
+-- ---- all is read
+
+pub returns-clause-reads : goal.returns-clause-reads
+returns-clause-reads g c =
+    let x = c.args.asked in
+    let classes = classes_by (λ m. g.M.AtomicModel.held m) c.args.boxes.items in
+    let old = g.R.Room.outside c.args.room.now in
+    let mid = g.R.Room.outside c.read_source.new.room in
+    let new = g.R.Room.outside c.read_events.new.room in
+    let m = c.in_ok-read.read.model in
+    let stock = c.read_source.new.stock in
+    let events = c.in_ok-events.events in
+    let ports = c.deref.ensures.value ∙ ap (λ (top : Coupled). top.ins.items) c.top.ensures in
+    let are = ap classes_of c.in_ok-stock.ensures ∙ classes_are (λ m. g.M.AtomicModel.held m) c.args.boxes.items in
+    let reads = subst (λ (cs : List Class). ReadsAsked x cs stock (Ok (record { model = m; routes = c.in_ok-read.read.routes; drawn = c.in_ok-read.read.drawn })) old mid) are c.in_ok-read.ensures.reads in
+    let later = subst (λ (names : List Bytes). IfSome mid.files (λ files. ReadsEvents (text_of_name x.given.events) names files mid new (Ok events))) ports c.in_ok-events.ensures.reads in
+    starts x classes stock m c.in_ok-read.read.routes c.in_ok-read.read.drawn events old mid new reads later
+
+pub returns-clause-causes : goal.returns-clause-causes
+returns-clause-causes g c =
+    let old = g.R.Room.outside c.args.room.now in
+    let mid = g.R.Room.outside c.read_source.new.room in
+    let new = g.R.Room.outside c.read_events.new.room in
+    let e = c.in_ok-read.ensures.reads in
+    let f = c.in_ok-events.ensures.causes in
+    (misses_then old mid new e.misses f.0, f.1 ∙ e.counted.1)
+
+pub returns-clause-only : goal.returns-clause-only
+returns-clause-only g c =
+    only_then (g.R.Room.outside c.args.room.now) (g.R.Room.outside c.read_source.new.room) (g.R.Room.outside c.read_events.new.room) c.in_ok-read.ensures.reads.only c.in_ok-events.ensures.only
+
+pub returns-clause-may_start : goal.returns-clause-may_start
+returns-clause-may_start g c =
+    let e = c.in_ok-read.ensures in
+    record { bounds = c.requires.bounds; ready = e.reads.ready; drawn = e.drawn; found = e.reads.group }
+
+pub returns-clause-at_inputs : goal.returns-clause-at_inputs
+returns-clause-at_inputs g c =
+    let ports = c.deref.ensures.value ∙ ap (λ (top : Coupled). top.ins.items) c.top.ensures in
+    subst (λ names. AreAtInputs names c.in_ok-events.events) ports c.in_ok-events.ensures.at_inputs

@@ -1,0 +1,138 @@
+// All that is read before a run: words, a model, its events.
+ghost use Rattle.std.specs.Prelude.{◌≡◌, ◌<◌, ◌≤◌, ◌^◌, None, IfSome, IfOk, IsTrue, length, map, not};
+ghost use Rattle.std.specs.List.{list_all};
+ghost use Rattle.std.specs.String.{string_bytes};
+ghost use Rattle.model_tree.specs.Tree.{ins_of};
+ghost use Rattle.sparse_cycle.specs.Feed.{AreAtInputs};
+ghost use Rattle.room_edge.specs.Outside.{OnlyInput};
+ghost use Rattle.model_stock.specs.Settled.{classes_of};
+ghost use Rattle.model_text.specs.Drawings.{drawing_refused};
+ghost use Rattle.model_read.specs.Read as reading;
+ghost use Rattle.model_read.specs.Read.{Reads};
+ghost use Rattle.answer_model.specs.Asked.{made};
+ghost use Rattle.answer_model.specs.Started.{drawing_of, inputs_read, started};
+ghost use Rattle.asked_words.specs.Shown.{asked_of, source_of, IsInBounds, IsOfSize};
+ghost use Rattle.cdpp_top.specs.Starting.{classes_by, tree_on, MayStart};
+ghost use Rattle.cdpp_top.specs.Stages.{model_in, start_with, ReadCauses, ReadsStart, StartCauses};
+
+use crate::events::read_events;
+use crate::start::Start;
+use crate::unread::Unread;
+use asked_words::{Asked, FramesFile, Source, read_words};
+use atomic_face::{AtomicModel, Stock};
+use made_model::made_text;
+use model_read::{ModelRefusal, ReadModel, read_model, read_model_bytes};
+use room_edge::Room;
+use std::alloc::Global;
+
+/// Reads what the words ask for: the words themselves, the model with these boxes, and its events.
+pub(crate) fn read<'a, R: Room, M: AtomicModel>(
+    alloc: Global,
+    words: &'a [String],
+    boxes: Vec<M>,
+    room: &mut R,
+) -> Result<Start<'a, M>, Unread>
+    requires few { length boxes.items < 2 ^ 32 }
+    ensures reads { IfSome (R.outside room.old).files (λ files. ReadsStart
+        (λ s inputs. start_with (asked_of s.asked) (tree_on s.model s.stock) s.events inputs)
+        (started (map string_bytes words.entry.now) files (classes_by (λ m. M.held m) boxes.items))
+        (R.outside room.old) (R.outside room.new) result) }
+    ensures causes { StartCauses (map string_bytes words.entry.now)
+        (R.outside room.old) (R.outside room.new) result }
+    ensures only { OnlyInput (R.outside room.old) (R.outside room.new) }
+    ensures may_start { IfOk result (λ s. MayStart s.asked s.stock s.model s.routes s.drawn) }
+    ensures at_inputs { IfOk result (λ s. AreAtInputs (ins_of (tree_on s.model s.stock)) s.events) }
+{
+    match read_words(alloc, words) {
+        Ok(Some(asked)) => read_inputs(alloc, asked, boxes, room),
+        Ok(None) => Err(Unread::Usage),
+        Err(_) => Err(Unread::Memory),
+    }
+}
+
+/// Reads the model that is asked for, with these boxes, and its events.
+fn read_inputs<'a, R: Room, M: AtomicModel>(
+    alloc: Global,
+    asked: Asked<'a>,
+    boxes: Vec<M>,
+    room: &mut R,
+) -> Result<Start<'a, M>, Unread>
+    requires few { length boxes.items < 2 ^ 32 }
+    requires bounds { IsInBounds asked }
+    ensures reads { IfSome (R.outside room.old).files (λ files. ReadsStart
+        (λ s inputs. start_with (asked_of s.asked) (tree_on s.model s.stock) s.events inputs)
+        (inputs_read (asked_of asked.entry) files (classes_by (λ m. M.held m) boxes.items))
+        (R.outside room.old) (R.outside room.new) result) }
+    ensures causes { ReadCauses (R.outside room.old) (R.outside room.new) result }
+    ensures only { OnlyInput (R.outside room.old) (R.outside room.new) }
+    ensures may_start { IfOk result (λ s. MayStart s.asked s.stock s.model s.routes s.drawn) }
+    ensures at_inputs { IfOk result (λ s. AreAtInputs (ins_of (tree_on s.model s.stock)) s.events) }
+{
+    let mut stock = Stock::new(alloc, boxes)?;
+    let read = read_source(alloc, room, &asked, &mut stock)?;
+    let events = read_events(alloc, room, asked.given.events, &read.model.top().ins)?;
+    Ok(Start {
+        asked,
+        model: read.model,
+        routes: read.routes,
+        drawn: read.drawn,
+        stock,
+        events,
+    })
+}
+
+/// The model that is asked for: of a file, or made.
+fn read_source<R: Room, M: AtomicModel>(
+    alloc: Global,
+    room: &mut R,
+    asked: &Asked<'_>,
+    stock: &mut Stock<M>,
+) -> Result<ReadModel, ModelRefusal>
+    requires size { IsOfSize asked.now.source }
+    requires free { IsTrue (list_all (λ s. not s.taken) stock.old) }
+    ensures reads { Reads
+        (model_in (source_of asked.now.source) (classes_of stock.old)
+        (drawing_of (asked_of asked.now).frames))
+        (drawing_of (asked_of asked.now).frames)
+        stock.new result (R.outside room.old) (R.outside room.new) }
+    ensures drawn { IfOk result (λ read. drawing_refused (drawing_of (asked_of asked.now).frames)
+        (tree_on read.model stock.new) ≡ None) }
+{
+    let frames = frames_in(asked);
+    match asked.source {
+        Source::File(name) => read_model(alloc, room, name, stock, frames),
+        Source::Made(size) => read_made(alloc, room, size, stock, frames),
+    }
+}
+
+/// The model that is made with so many rows and columns.
+fn read_made<R: Room, M: AtomicModel>(
+    alloc: Global,
+    room: &mut R,
+    size: u32,
+    stock: &mut Stock<M>,
+    frames: Option<&FramesFile<'_>>,
+) -> Result<ReadModel, ModelRefusal>
+    requires least { 5 ≤ size }
+    requires most { size ≤ 1000 }
+    requires free { IsTrue (list_all (λ s. not s.taken) stock.old) }
+    ensures reads { Reads
+        (model_in (made size) (classes_of stock.old) (reading.drawing_of frames.entry))
+        (reading.drawing_of frames.entry) stock.new result (R.outside room.old) (R.outside room.new) }
+    ensures drawn { IfOk result (λ read. drawing_refused (reading.drawing_of frames.entry)
+        (tree_on read.model stock.new) ≡ None) }
+{
+    let mut text: Vec<u8> = Vec::new(alloc);
+    made_text(size, &mut text)?;
+    read_model_bytes(alloc, room, &text, stock, frames)
+}
+
+/// The file of frames, if there is to be one.
+fn frames_in<'a, 'w>(asked: &'a Asked<'w>) -> Option<&'a FramesFile<'w>>
+    ensures { reading.drawing_of result ≡ drawing_of (asked_of asked.entry.now).frames }
+{
+    match &asked.frames {
+        None => None,
+        Some(frames) => Some(frames),
+    }
+}

@@ -1,0 +1,49 @@
+// Why nothing is read that a run could start from.
+use event_list::EventRefusal;
+use model_read::ModelRefusal;
+use model_text::Kind;
+use quantity::{OutOfMemory, Text};
+
+/// Why there is nothing to start a run from.
+#[derive(Drop)]
+pub(crate) enum Unread {
+    /// The words are refused.
+    Usage,
+    /// There is no file of this name.
+    Missing(Text),
+    /// The file of this name can't be read.
+    ReadFault(Text),
+    /// A line of the model, 0 for the whole file, and why it is refused.
+    Model { line: u32, kind: Kind },
+    /// The events are refused.
+    Events(EventRefusal),
+    /// There is no memory.
+    Memory,
+}
+
+impl From<OutOfMemory> for Unread {
+    ghost use Rattle.std.specs.Prelude.{◌≡◌};
+    ghost use Rattle.cdpp_top.specs.declared.unread.Unread.TheVariants.{Memory};
+
+    ghost from_gives = { λ _ why. why ≡ Memory };
+
+    fn from(_error: OutOfMemory) -> Unread {
+        Unread::Memory
+    }
+}
+
+impl From<ModelRefusal> for Unread {
+    ghost use Rattle.std.specs.Prelude.{◌≡◌};
+    ghost use Rattle.cdpp_top.specs.Unread.{unread_model};
+
+    ghost from_gives = { λ refusal why. why ≡ unread_model refusal };
+
+    fn from(refusal: ModelRefusal) -> Unread {
+        match refusal {
+            ModelRefusal::Missing(name) => Unread::Missing(name),
+            ModelRefusal::ReadFault(name) => Unread::ReadFault(name),
+            ModelRefusal::Refused { line, kind } => Unread::Model { line, kind },
+            ModelRefusal::Memory => Unread::Memory,
+        }
+    }
+}

@@ -1,0 +1,6 @@
+mod Matched
+mod Taken
+mod Tables
+mod Fewer
+mod Drafted
+mod Lowered
