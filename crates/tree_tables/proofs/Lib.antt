@@ -1,0 +1,4 @@
+pub mod Listed
+pub mod Found
+pub mod Rowed
+pub mod Put

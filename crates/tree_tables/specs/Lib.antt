@@ -1,0 +1,5 @@
+pub mod Stations
+pub mod Children
+pub mod Begins
+pub mod Incoming
+pub mod Walk

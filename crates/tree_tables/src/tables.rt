@@ -1,0 +1,152 @@
+// The tables of a model: one walk over its components.
+ghost use Rattle.std.specs.Prelude.{◌≡◌, ◌+◌, ℕ, ℤ, List, [], map, length, OnOk, IfOk};
+ghost use Rattle.model_tree.specs.declared.component.Component.TheVariants as in_tree;
+ghost use Rattle.model_tree.specs.Tree.{leaf_count};
+ghost use Rattle.model_tree.specs.Causes.{OfComponent};
+ghost use Rattle.model_tree.specs.Leaves.{OfTree};
+ghost use Rattle.tree_tables.specs.Stations.{row_of, entry_of, stations};
+ghost use Rattle.tree_tables.specs.Children.{leaves_of};
+ghost use Rattle.tree_tables.specs.Begins.{coupled_begin};
+ghost use Rattle.tree_tables.specs.Incoming.{AreLinks};
+ghost use Rattle.tree_tables.specs.Walk.{PutsBehind, Takes, TakeAll, cell_stations};
+
+use crate::begins::Inside;
+use crate::entry::{Entry, Ref};
+use crate::growing::Growing;
+use crate::incoming::Links;
+use crate::sizes::{behind, counted, numbers, numbers_from, size_of_coupled};
+use model_tree::{CellGroup, Component, Coupled, Model};
+use port_net::{At, Children};
+use quantity::{Name, OutOfMemory};
+use std::alloc::Global;
+
+/// The processors of a model, by their numbers. It goes through the components once.
+pub fn tables_of(alloc: Global, model: &Model) -> Result<Vec<Entry>, OutOfMemory>
+    ensures { IfOk result (λ es. OfTree model.now (λ t. map entry_of es.items ≡ stations t)) }
+{
+    let top = model.top();
+    let root = size_of_coupled(top)?;
+    let mut table = Growing::new(alloc, root)?;
+    put_coupled(alloc, top, root, Vec::new(alloc), &mut table)?;
+    Ok(table.entries)
+}
+
+/// The processors of a component, behind the others, with these rows at its input ports.
+#[cycle(put)]
+fn put(
+    alloc: Global,
+    component: &Component,
+    parent: u32,
+    ins: Vec<Vec<Ref>>,
+    table: &mut Growing,
+) -> Result<(), OutOfMemory>
+    ensures takes { OnOk result (Takes
+        component.now parent (map row_of ins.items) table.old table.new) }
+    ensures leaves { OnOk result (OfComponent component.now
+        (λ t. table.new.leaves ≡ table.old.leaves + leaf_count t)) }
+{
+    match component {
+        Component::Coupled(c) => put_coupled(alloc, c, parent, ins, table),
+        Component::Cells(g) => put_group(alloc, g, parent, ins, table),
+        Component::Atomic(_) => table.leaf(alloc, parent, ins),
+    }
+}
+
+/// Those of a coupled component.
+#[cycle(put)]
+fn put_coupled(
+    alloc: Global,
+    coupled: &Coupled,
+    parent: u32,
+    ins: Vec<Vec<Ref>>,
+    table: &mut Growing,
+) -> Result<(), OutOfMemory>
+    ensures takes { OnOk result (Takes
+        (in_tree.Coupled coupled.now) parent (map row_of ins.items) table.old table.new) }
+    ensures leaves { OnOk result (OfComponent (in_tree.Coupled coupled.now)
+        (λ t. table.new.leaves ≡ table.old.leaves + leaf_count t)) }
+{
+    let number = table.number()?;
+    let below = behind(number, 1)?;
+    let children = numbers(alloc, &coupled.children, below)?;
+    let links = links_of_coupled(alloc, coupled, &children)?;
+    let outs = links.outs(alloc, &coupled.outs)?;
+    table.component(parent, children, outs, ins)?;
+    put_all(alloc, &coupled.children, number, &links, table)
+}
+
+/// Those of some children.
+#[cycle(put)]
+fn put_all(
+    alloc: Global,
+    children: &[Component],
+    parent: u32,
+    links: &Links,
+    table: &mut Growing,
+) -> Result<(), OutOfMemory>
+    ensures takes { OnOk result (TakeAll children.now parent links.now table.old table.new) }
+    ensures leaves { OnOk result ((settings : ℕ → List ℤ)
+        → table.new.leaves ≡ table.old.leaves + leaves_of children.now settings) }
+{
+    for child in children {
+        let ins = links.ins_of(alloc, child)?;
+        put(alloc, child, parent, ins, table)?;
+    }
+    Ok(())
+}
+
+/// The links of a coupled component, whose children have these numbers.
+fn links_of_coupled(alloc: Global, coupled: &Coupled, numbers: &[u32]) -> Result<Links, OutOfMemory>
+    ensures { IfOk result (λ ls. (settings : ℕ → List ℤ) → AreLinks ls
+        (coupled_begin coupled.now.children.items settings numbers.now [])
+        (coupled_begin coupled.now.children.items settings numbers.now coupled.now.ins.items)
+        coupled.now.links.items) }
+{
+    let children = Children::new(alloc, &coupled.children)?;
+    let inside = Inside::Children(&children);
+    Links::new(alloc, &coupled.links, &coupled.ins, &inside, numbers)
+}
+
+/// The processors of a group.
+fn put_group(
+    alloc: Global,
+    group: &CellGroup,
+    parent: u32,
+    ins: Vec<Vec<Ref>>,
+    table: &mut Growing,
+) -> Result<(), OutOfMemory>
+    ensures takes { OnOk result (Takes
+        (in_tree.Cells group.now) parent (map row_of ins.items) table.old table.new) }
+    ensures leaves { OnOk result (OfComponent (in_tree.Cells group.now)
+        (λ t. table.new.leaves ≡ table.old.leaves + leaf_count t)) }
+{
+    let number = table.number()?;
+    let below = behind(number, 1)?;
+    let cells = numbers_from(alloc, below, group.grid.cells())?;
+    let links = Links::new(alloc, &group.links, &group.ins, &Inside::Cells, &cells)?;
+    let outs = links.outs(alloc, &group.outs)?;
+    let names = group.ports_of_cells(alloc)?;
+    table.component(parent, cells, outs, ins)?;
+    put_cells(alloc, &links, &names, number, table)
+}
+
+/// The cells of a group, whose ports have these names.
+fn put_cells(
+    alloc: Global,
+    links: &Links,
+    names: &[Vec<Name>],
+    parent: u32,
+    table: &mut Growing,
+) -> Result<(), OutOfMemory>
+    ensures cells { let all = map (λ v. v.items) names.now in
+        OnOk result (PutsBehind table.old table.new
+        (cell_stations links.now parent table.old.leaves all)) }
+    ensures leaves { OnOk result (table.new.leaves ≡ table.old.leaves + length names.now) }
+{
+    for (i, ports) in names.iter().enumerate() {
+        let cell = counted(i)?;
+        let ins = links.ins(alloc, &At::Cell(cell), ports)?;
+        table.leaf(alloc, parent, ins)?;
+    }
+    Ok(())
+}
