@@ -1,6 +1,6 @@
 -- The answer to a run, from what is asked for.
 use Rattle.std.proofs.Common.{◌≡◌, ℕ, zero, suc, ◌+◌, ◌==◌, Bool, true, false, Option, Some, None, List, [], ◌∷◌, ◌++◌, length, map, refl, sym, ap, ◌∙◌, subst, arith}
-use Rattle.std.specs.Prelude.{◌&&◌, ◌||◌, not, nat_le, nat_lt, IsTrue, if◌then◌else◌}
+use Rattle.std.specs.Prelude.{◌&&◌, ◌||◌, not, nat_le, nat_lt, IsTrue}
 use Rattle.std.specs.Option.{option_map}
 use Rattle.std.specs.List.{All, list_all, range_with_len}
 use Rattle.std.specs.Str.{bytes_eq}

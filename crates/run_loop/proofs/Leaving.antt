@@ -1,10 +1,10 @@
 -- The files that a run leaves: pieces that were written, and a line that changes no file.
-use Rattle.std.proofs.Common.{◌≡◌, ℕ, Option, List, [], inl, inr, refl, sym, ap, ◌∙◌, subst}
+use Rattle.std.proofs.Common.{◌≡◌, Option, List, [], inl, inr, refl, sym, ap, ◌∙◌, subst}
 use Rattle.std.specs.Prelude.{Ok}
 use Rattle.std.proofs.lemmas.List.{append-nil}
 use Rattle.quantity.specs.Bytes.{Bytes}
-use Rattle.model_tree.specs.Tree.{Word, Tree}
-use Rattle.run_model.specs.Run.{Cycle, Run}
+use Rattle.model_tree.specs.Tree.{Word}
+use Rattle.run_model.specs.Run.{Run}
 use Rattle.room_edge.specs.Outside.{Outside}
 use Rattle.answer_model.specs.declared.status.Status.{Status}
 use Rattle.answer_model.specs.declared.status.Status.TheVariants as exit

@@ -5,4 +5,5 @@ pub mod Stands
 pub mod Ended
 pub mod Answered
 pub mod Leaving
+pub mod Told
 pub mod Numbers

@@ -8,3 +8,4 @@ pub mod DoneIn
 pub mod Stopping
 pub mod Begins
 pub mod ToBe
+pub mod Told

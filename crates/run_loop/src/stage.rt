@@ -1,42 +1,36 @@
 // All of the program after its inputs are read.
-ghost use Rattle.std.specs.Prelude.{◌≡◌, ◌+◌, ◌≤◌, None, List};
+ghost use Rattle.std.specs.Prelude.{◌≡◌, ◌+◌, ◌≤◌, List};
 ghost use Rattle.std.specs.Bool.{OnTrue};
-ghost use Rattle.std.specs.List.{All};
 ghost use Rattle.model_tree.specs.Tree.{Word};
-ghost use Rattle.run_model.specs.Run.{Event, most_cycles as most};
-ghost use Rattle.run_model.specs.Fitting.{NamesItsParts};
+ghost use Rattle.model_tree.specs.Leaves.{OfTree};
+ghost use Rattle.run_model.specs.Run.{most_cycles as most};
 ghost use Rattle.run_model.specs.Visits.{visits};
 ghost use Rattle.record_text.specs.Chosen.{letters_of};
 ghost use Rattle.room_edge.specs.Faults.{WriteFaultCounted};
 ghost use Rattle.answer_model.specs.declared.status.Status.TheVariants.{WriteFault};
 ghost use Rattle.answer_model.specs.Status.{of_run, IsOf};
-ghost use Rattle.answer_model.specs.Answer.{Answer};
-ghost use Rattle.answer_model.specs.Endings.{made_after, looked_for, EndsWith};
+ghost use Rattle.answer_model.specs.Endings.{looked_for, EndsWith};
 ghost use Rattle.answer_model.specs.FaultsAnswered.{AnswersFaults};
-ghost use Rattle.answer_model.specs.RunEnd.{said};
 ghost use Rattle.asked_words.specs.Shown.{asked_of};
 ghost use Rattle.flat_run.specs.Standing.{tree_in};
 ghost use Rattle.run_files.specs.AskedFiles.{names_of};
-ghost use Rattle.run_files.specs.Texts.{no_texts, files, AreApart, AreCreated};
-ghost use Rattle.run_files.specs.Order.{texts_of};
-ghost use Rattle.run_files.specs.Pieces.{run_pieces};
-ghost use Rattle.run_loop.specs.Answers.{MayRun, answer_to};
 ghost use Rattle.run_files.specs.Groups.{showing_at_start};
-ghost use Rattle.run_loop.specs.Begins.{BeginsWith};
-ghost use Rattle.run_loop.specs.Left.{run_of, EndsWithin, HaveValues};
-ghost use Rattle.run_loop.specs.Ran.{asking, WritesBegun};
+ghost use Rattle.run_loop.specs.Answers.{MayRun, answer_to};
+ghost use Rattle.run_loop.specs.Left.{run_of};
+ghost use Rattle.run_loop.specs.Ran.{asking};
 ghost use Rattle.run_loop.specs.Leaves.{spent, Leaves};
-ghost use Rattle.run_loop.specs.ToBe.{IsAnswerOf};
+ghost use Rattle.run_loop.specs.Told.{CanTell, TellsRan};
 
 use crate::begin::{begin, most_cycles};
-use crate::ending::tell_ending;
+use crate::ending::{Ending, tell_ending};
 use crate::going::Going;
 use crate::laws::runs_are_fit;
 use crate::run::run_all;
 use asked_words::{Asked, GroupAt};
 use flat_run::{Cycles, Steps};
+use model_tree::Model;
 use room_edge::Room;
-use run_files::{create_files, tell_unwritten};
+use run_files::{Unwritten, create_files, tell_unwritten};
 use run_model::laws::a_run_ends;
 use std::alloc::Global;
 use std::sync::ledger::Ledger;
@@ -78,52 +72,30 @@ pub fn run_and_tell<R: Room, C: Cycles<L>, L: Ledger>(
         return Status::NoMemory;
     };
     match create_files(room, asked) {
-        Ok(()) => run_created(alloc, room, asked, &mut going, run, steps),
+        Ok(()) => {
+            let most = most_cycles(asked.end, asked.given.limit);
+            let ran = run_all(room, asked, &mut going, run, most, steps);
+            tell_ran(alloc, room, asked, run.model(), &going, ran)
+        }
         Err(unmade) => tell_unwritten(alloc, room, asked, unmade),
     }
 }
 
-/// Runs a model, whose files are made, and tells how that went.
-fn run_created<R: Room, C: Cycles<L>, L: Ledger>(
+/// Tells how a run went: how it ended, or which file could not be written.
+fn tell_ran<R: Room>(
     alloc: Global,
     room: &mut R,
     asked: &Asked<'_>,
-    going: &mut Going,
-    run: &mut C,
-    steps: &mut Steps<L>,
+    model: &Model,
+    going: &Going,
+    ran: Result<Ending, Unwritten>,
 ) -> Status
-    requires goes { (C.standing run.old).stopped ≡ None }
-    requires apart { AreApart (names_of asked.now) }
-    requires created { AreCreated (names_of asked.now) (R.outside room.old).created }
-    requires begins { BeginsWith (asked_of asked.now) (tree_in (C.standing run.old)) going.old }
-    requires names { let s = C.standing run.old in All (NamesItsParts (tree_in s))
-        (run_of (most asked.now.end asked.now.given.limit) s).cycles }
-    requires values { HaveValues (tree_in (C.standing run.old)) }
-    requires whole { EndsWithin (most asked.now.end asked.now.given.limit) (C.standing run.old) }
-    ensures ends { let r = run_of (most asked.now.end asked.now.given.limit) (C.standing run.old) in
-        let tree = tree_in (C.standing run.old) in
-        let letters = letters_of asked.now.given.letters in
-        let pieces = run_pieces tree letters going.old.drawn r.cycles in
-        (a : Answer) (events : List Event) (inputs : List Word)
-        → IsAnswerOf (names_of asked.now) (texts_of pieces)
-        (said (asked_of asked.now) tree events r.cycles r.verdict) a →
-        EndsWith a (made_after inputs (files (names_of asked.now) no_texts)) (R.outside room.old)
-        (R.outside room.new) result }
-    ensures known { IsOf of_run result }
-    ensures write_fault { result ≡ WriteFault
-        → WriteFaultCounted (R.outside room.old) (R.outside room.new) }
-    ensures faults { AnswersFaults (R.outside room.old) (R.outside room.new) result }
-    ensures leaves { let s = C.standing run.old in
-        WritesBegun (asking (names_of asked.now) (letters_of asked.now.given.letters) s)
-        (run_of (most asked.now.end asked.now.given.limit) s) going.old.drawn
-        (R.outside room.old) (R.outside room.new) (spent C.is_counted steps.old steps.new) }
-    // The visits that the reference run may cost.
-    ensures visits { let r = run_of (most asked.now.end asked.now.given.limit) (C.standing run.old) in
-        OnTrue C.is_counted (steps.new ≤ steps.old + visits (tree_in (C.standing run.old)) r) }
+    requires { CanTell (names_of asked.now) ran }
+    ensures { OfTree model.now (λ tree. TellsRan (asked_of asked.now) (names_of asked.now) tree
+        going.now ran (R.outside room.old) (R.outside room.new) result) }
 {
-    let most = most_cycles(asked.end, asked.given.limit);
-    match run_all(room, asked, going, run, most, steps) {
-        Ok(ending) => tell_ending(alloc, room, asked, run.model(), going, ending),
+    match ran {
+        Ok(ending) => tell_ending(alloc, room, asked, model, going, ending),
         Err(why) => tell_unwritten(alloc, room, asked, why),
     }
 }

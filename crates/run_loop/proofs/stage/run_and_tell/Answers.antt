@@ -1,11 +1,16 @@
-use Rattle.std.proofs.Common.{[], refl, sym, subst}
+use Rattle.std.proofs.Common.{ℕ, ◌+◌, ◌≤◌, [], refl, sym, subst, ◌∙◌, arith}
+use Rattle.std.specs.Bool.{OnTrue}
+use Rattle.std.specs.List.{All}
 use Rattle.record_text.specs.Chosen.{letters_of}
 use Rattle.model_tree.specs.declared.table.Model.{Model}
 use Rattle.model_tree.specs.Models.{tree_of}
+use Rattle.run_model.specs.Fitting.{NamesItsParts}
 use Rattle.run_model.specs.Run.{most_cycles}
+use Rattle.run_model.specs.Visits.{visits}
 use Rattle.answer_model.specs.Answer.{only_complains}
 use Rattle.answer_model.specs.declared.status.Status.TheVariants.{NoMemory}
 use Rattle.answer_model.specs.Status.{of_run}
+use Rattle.answer_model.specs.RunEnd.{said}
 use Rattle.answer_model.specs.Endings.{looked_for, made_after}
 use Rattle.answer_model.proofs.Endings.{endings_follow, rose_later}
 use Rattle.answer_model.proofs.FaultLemmas.{clean_answers, then_answers}
@@ -16,18 +21,23 @@ use Rattle.run_leaves.specs.Seated.{settings_at}
 use Rattle.flat_run.specs.Standing.{tree_in}
 use Rattle.run_files.specs.Texts.{no_texts, files}
 use Rattle.run_files.specs.AskedFiles.{names_of}
+use Rattle.run_files.specs.Order.{texts_of}
+use Rattle.run_files.specs.Pieces.{run_pieces}
 use Rattle.run_files.specs.declared.outputs.Output.TheVariants.{Log}
 use Rattle.run_files.specs.Groups.{IsFoundIn, CanShowIn, showing_at_start}
 use Rattle.run_files.proofs.Adding.{no_fewer}
 use Rattle.run_files.proofs.Making.{all_created, unmade_ends, making_blames, making_answers, clean_makes, tells_among, tells_rose}
 use Rattle.run_loop.specs.Answers.{answer_to}
 use Rattle.run_loop.specs.Begins.{BeginsWith}
-use Rattle.run_loop.specs.Left.{run_of}
-use Rattle.run_loop.specs.Ran.{asking}
+use Rattle.run_loop.specs.Left.{run_of, EndsWithin}
+use Rattle.run_loop.specs.Ran.{asking, WritesBegun}
 use Rattle.run_loop.specs.Leaves.{spent, some_made}
+use Rattle.run_loop.specs.ToBe.{IsAnswerOf}
+use Rattle.run_loop.specs.Told.{TellsRan}
 use Rattle.run_loop.proofs.Costs.{ends_whole}
 use Rattle.run_loop.proofs.Answered.{names_apart, answer_as, run_fit, have_values}
 use Rattle.run_loop.proofs.Leaving.{tells_made, created_leaves, unmade_leaves, leaves_as}
+use Rattle.run_loop.proofs.Told.{can_tell, Went, went_ends, went_known, went_rose, went_answers, went_begun}
 use Rattle.run_loop.proofs.stage.run_and_tell.Goals as goal
 
 pub begin-requires-clause-found : goal.begin-requires-clause-found
@@ -46,44 +56,96 @@ returns-in_default-clause-ends g c = λ inputs.
 pub returns-in_default-clause-known : goal.returns-in_default-clause-known
 returns-in_default-clause-known g c = refl
 
-pub run_created-requires-clause-apart : goal.run_created-requires-clause-apart
-run_created-requires-clause-apart g c = names_apart c.args.asked.now c.requires.names
+pub run_all-ran-requires-clause-apart : goal.run_all-ran-requires-clause-apart
+run_all-ran-requires-clause-apart g c = names_apart c.args.asked.now c.requires.names
 
-pub run_created-requires-clause-created : goal.run_created-requires-clause-created
-run_created-requires-clause-created g c = all_created (names_of c.args.asked.now) (g.R.Room.outside c.args.room.now) (g.R.Room.outside c.create_files.new.room) c.in-Ok-create_files.ensures
+pub run_all-ran-requires-clause-created : goal.run_all-ran-requires-clause-created
+run_all-ran-requires-clause-created g c = all_created (names_of c.args.asked.now) (g.R.Room.outside c.args.room.now) (g.R.Room.outside c.create_files.new.room) c.in-Ok-create_files.ensures
 
-pub run_created-requires-clause-begins : goal.run_created-requires-clause-begins
-run_created-requires-clause-begins g c =
+pub run_all-ran-requires-clause-goes : goal.run_all-ran-requires-clause-goes
+run_all-ran-requires-clause-goes g c = c.requires.goes
+
+pub run_all-ran-requires-clause-few : goal.run_all-ran-requires-clause-few
+run_all-ran-requires-clause-few g c =
     let s = g.C.Cycles.standing c.args.run.now in
-    subst (λ (m : Model). BeginsWith (asked_of c.args.asked.now) (tree_of m (settings_at s.settings)) c.in-Ok.going) c.model.ensures (c.in-Ok.ensures (settings_at s.settings))
+    let begins = subst (λ (m : Model). BeginsWith (asked_of c.args.asked.now) (tree_of m (settings_at s.settings)) c.in-Ok.going) c.model.ensures (c.in-Ok.ensures (settings_at s.settings)) in
+    omega (arith, begins.cycles, c.most_cycles-most.ensures.bounded)
 
-pub run_created-requires-clause-names : goal.run_created-requires-clause-names
-run_created-requires-clause-names g c = run_fit c.args.asked.now c.args.drawn (g.C.Cycles.standing c.args.run.now) c.requires c.runs_are_fit.ensures
+pub run_all-ran-requires-clause-values : goal.run_all-ran-requires-clause-values
+run_all-ran-requires-clause-values g c = have_values (tree_in (g.C.Cycles.standing c.args.run.now)) c.requires.sound
 
-pub run_created-requires-clause-values : goal.run_created-requires-clause-values
-run_created-requires-clause-values g c = have_values (tree_in (g.C.Cycles.standing c.args.run.now)) c.requires.sound
+pub run_all-ran-requires-clause-names : goal.run_all-ran-requires-clause-names
+run_all-ran-requires-clause-names g c =
+    let s = g.C.Cycles.standing c.args.run.now in
+    subst (λ (k : ℕ). All (NamesItsParts (tree_in s)) (run_of k s).cycles) (sym c.most_cycles-most.ensures.value)
+    (run_fit c.args.asked.now c.args.drawn s c.requires c.runs_are_fit.ensures)
 
-pub run_created-requires-clause-whole : goal.run_created-requires-clause-whole
-run_created-requires-clause-whole g c = ends_whole c.args.asked.now c.args.drawn (g.C.Cycles.standing c.args.run.now) c.requires c.a_run_ends.ensures.whole
+pub run_all-ran-requires-clause-whole : goal.run_all-ran-requires-clause-whole
+run_all-ran-requires-clause-whole g c =
+    let s = g.C.Cycles.standing c.args.run.now in
+    subst (λ (k : ℕ). EndsWithin k s) (sym c.most_cycles-most.ensures.value)
+    (ends_whole c.args.asked.now c.args.drawn s c.requires c.a_run_ends.ensures.whole)
+
+pub tell_ran-requires : goal.tell_ran-requires
+tell_ran-requires g c =
+    let s = g.C.Cycles.standing c.args.run.now in
+    let asked = c.args.asked.now in
+    can_tell (names_of asked) (letters_of asked.given.letters) s (run_of c.most_cycles-most.result s) c.in-Ok.going c.run_all-ran.new.going _ _ _ c.run_all-ran.result c.run_all-ran.ensures.runs
 
 pub returns-in-Ok-create_files-clause-ends : goal.returns-in-Ok-create_files-clause-ends
 returns-in-Ok-create_files-clause-ends g c = λ inputs.
     let s = g.C.Cycles.standing c.args.run.now in
     let asked = c.args.asked.now in
+    let n = names_of asked in
+    let letters = letters_of asked.given.letters in
     let old = g.R.Room.outside c.args.room.now in
-    let mid = g.R.Room.outside c.create_files.new.room in
-    let new = g.R.Room.outside c.run_created.new.room in
+    let made = g.R.Room.outside c.create_files.new.room in
+    let mid = g.R.Room.outside c.run_all-ran.new.room in
+    let new = g.R.Room.outside c.tell_ran.new.room in
     let begins = subst (λ (m : Model). BeginsWith (asked_of asked) (tree_of m (settings_at s.settings)) c.in-Ok.going) c.model.ensures (c.in-Ok.ensures (settings_at s.settings)) in
+    let r = run_of c.most_cycles-most.result s in
+    let visited = spent g.C.Cycles.is_counted c.args.steps.now c.run_all-ran.new.steps in
+    let tells = subst (λ (m : Model). TellsRan (asked_of asked) n (tree_of m (settings_at s.settings)) c.run_all-ran.new.going c.run_all-ran.result mid new c.tell_ran.result) (c.model-in-Ok-create_files.ensures ∙ c.run_all-ran.ensures.keeps.model) (c.tell_ran.ensures (settings_at s.settings)) in
+    let w : Went n letters (asked_of asked) s r c.in-Ok.going c.run_all-ran.new.going made mid new visited c.run_all-ran.result c.tell_ran.result = record { begins = begins; runs = c.run_all-ran.ensures.runs; tells = tells } in
     let x = answer_to (asked_of asked) s inputs in
-    then_ends x (looked_for inputs) (made_after inputs (files (names_of asked) no_texts)) old mid new c.run_created.result (c.in-Ok-create_files.ensures.leads x inputs)
-    (c.run_created.ensures.ends x s.state.events inputs (answer_as asked c.args.drawn s inputs c.in-Ok.going.drawn c.requires c.runs_are_fit.ensures begins.drawn))
+    let is = answer_as asked c.args.drawn s inputs c.in-Ok.going.drawn c.requires c.runs_are_fit.ensures begins.drawn in
+    let to = subst (λ (k : ℕ). IsAnswerOf n (texts_of (run_pieces (tree_in s) letters c.in-Ok.going.drawn (run_of k s).cycles)) (said (asked_of asked) (tree_in s) s.state.events (run_of k s).cycles (run_of k s).verdict) x) (sym c.most_cycles-most.ensures.value) is in
+    then_ends x (looked_for inputs) (made_after inputs (files n no_texts)) old made new c.tell_ran.result (c.in-Ok-create_files.ensures.leads x inputs)
+    (went_ends n letters (asked_of asked) s r c.in-Ok.going c.run_all-ran.new.going made mid new visited c.run_all-ran.result c.tell_ran.result (names_apart asked c.requires.names) w x s.state.events inputs to)
+
+pub returns-in-Ok-create_files-clause-known : goal.returns-in-Ok-create_files-clause-known
+returns-in-Ok-create_files-clause-known g c =
+    let s = g.C.Cycles.standing c.args.run.now in
+    let asked = c.args.asked.now in
+    let n = names_of asked in
+    let letters = letters_of asked.given.letters in
+    let old = g.R.Room.outside c.args.room.now in
+    let made = g.R.Room.outside c.create_files.new.room in
+    let mid = g.R.Room.outside c.run_all-ran.new.room in
+    let new = g.R.Room.outside c.tell_ran.new.room in
+    let begins = subst (λ (m : Model). BeginsWith (asked_of asked) (tree_of m (settings_at s.settings)) c.in-Ok.going) c.model.ensures (c.in-Ok.ensures (settings_at s.settings)) in
+    let r = run_of c.most_cycles-most.result s in
+    let visited = spent g.C.Cycles.is_counted c.args.steps.now c.run_all-ran.new.steps in
+    let tells = subst (λ (m : Model). TellsRan (asked_of asked) n (tree_of m (settings_at s.settings)) c.run_all-ran.new.going c.run_all-ran.result mid new c.tell_ran.result) (c.model-in-Ok-create_files.ensures ∙ c.run_all-ran.ensures.keeps.model) (c.tell_ran.ensures (settings_at s.settings)) in
+    let w : Went n letters (asked_of asked) s r c.in-Ok.going c.run_all-ran.new.going made mid new visited c.run_all-ran.result c.tell_ran.result = record { begins = begins; runs = c.run_all-ran.ensures.runs; tells = tells } in
+    went_known n letters (asked_of asked) s r c.in-Ok.going c.run_all-ran.new.going made mid new visited c.run_all-ran.result c.tell_ran.result w
 
 pub returns-in-Ok-create_files-clause-write_fault : goal.returns-in-Ok-create_files-clause-write_fault
 returns-in-Ok-create_files-clause-write_fault g c = λ five.
+    let s = g.C.Cycles.standing c.args.run.now in
+    let asked = c.args.asked.now in
+    let n = names_of asked in
+    let letters = letters_of asked.given.letters in
     let old = g.R.Room.outside c.args.room.now in
-    let mid = g.R.Room.outside c.create_files.new.room in
-    let new = g.R.Room.outside c.run_created.new.room in
-    rose_later old.write_faults mid.write_faults new.write_faults (no_fewer old mid c.in-Ok-create_files.ensures.sure) (c.run_created.ensures.write_fault five)
+    let made = g.R.Room.outside c.create_files.new.room in
+    let mid = g.R.Room.outside c.run_all-ran.new.room in
+    let new = g.R.Room.outside c.tell_ran.new.room in
+    let begins = subst (λ (m : Model). BeginsWith (asked_of asked) (tree_of m (settings_at s.settings)) c.in-Ok.going) c.model.ensures (c.in-Ok.ensures (settings_at s.settings)) in
+    let r = run_of c.most_cycles-most.result s in
+    let visited = spent g.C.Cycles.is_counted c.args.steps.now c.run_all-ran.new.steps in
+    let tells = subst (λ (m : Model). TellsRan (asked_of asked) n (tree_of m (settings_at s.settings)) c.run_all-ran.new.going c.run_all-ran.result mid new c.tell_ran.result) (c.model-in-Ok-create_files.ensures ∙ c.run_all-ran.ensures.keeps.model) (c.tell_ran.ensures (settings_at s.settings)) in
+    let w : Went n letters (asked_of asked) s r c.in-Ok.going c.run_all-ran.new.going made mid new visited c.run_all-ran.result c.tell_ran.result = record { begins = begins; runs = c.run_all-ran.ensures.runs; tells = tells } in
+    rose_later old.write_faults made.write_faults new.write_faults (no_fewer old made c.in-Ok-create_files.ensures.sure) (went_rose n letters (asked_of asked) s r c.in-Ok.going c.run_all-ran.new.going made mid new visited c.run_all-ran.result c.tell_ran.result w five)
 
 pub tell_unwritten-requires : goal.tell_unwritten-requires
 tell_unwritten-requires g c = making_blames (names_of c.args.asked.now) c.in-Err.unmade _ _ c.in-Err.ensures
@@ -117,15 +179,27 @@ pub returns-in-Ok-create_files-clause-leaves : goal.returns-in-Ok-create_files-c
 returns-in-Ok-create_files-clause-leaves g c =
     let s = g.C.Cycles.standing c.args.run.now in
     let asked = c.args.asked.now in
-    let a = asking (names_of asked) (letters_of asked.given.letters) s in
+    let n = names_of asked in
+    let letters = letters_of asked.given.letters in
     let old = g.R.Room.outside c.args.room.now in
-    let mid = g.R.Room.outside c.create_files.new.room in
-    let new = g.R.Room.outside c.run_created.new.room in
+    let made = g.R.Room.outside c.create_files.new.room in
+    let mid = g.R.Room.outside c.run_all-ran.new.room in
+    let new = g.R.Room.outside c.tell_ran.new.room in
     let begins = subst (λ (m : Model). BeginsWith (asked_of asked) (tree_of m (settings_at s.settings)) c.in-Ok.going) c.model.ensures (c.in-Ok.ensures (settings_at s.settings)) in
-    let r = run_of (most_cycles asked.end asked.given.limit) s in
-    let visited = spent g.C.Cycles.is_counted c.args.steps.now c.run_created.new.steps in
-    leaves_as a r c.in-Ok.going.drawn (showing_at_start (tree_in s) (asked_of asked).frames) old new visited begins.drawn
-    (created_leaves (only_complains NoMemory [] []) a r c.in-Ok.going.drawn old mid new visited c.in-Ok-create_files.ensures c.run_created.ensures.leaves)
+    let r = run_of c.most_cycles-most.result s in
+    let visited = spent g.C.Cycles.is_counted c.args.steps.now c.run_all-ran.new.steps in
+    let tells = subst (λ (m : Model). TellsRan (asked_of asked) n (tree_of m (settings_at s.settings)) c.run_all-ran.new.going c.run_all-ran.result mid new c.tell_ran.result) (c.model-in-Ok-create_files.ensures ∙ c.run_all-ran.ensures.keeps.model) (c.tell_ran.ensures (settings_at s.settings)) in
+    let w : Went n letters (asked_of asked) s r c.in-Ok.going c.run_all-ran.new.going made mid new visited c.run_all-ran.result c.tell_ran.result = record { begins = begins; runs = c.run_all-ran.ensures.runs; tells = tells } in
+    let a = asking n letters s in
+    let begun = subst (λ (k : ℕ). WritesBegun a (run_of k s) c.in-Ok.going.drawn made new visited) c.most_cycles-most.ensures.value (went_begun n letters (asked_of asked) s r c.in-Ok.going c.run_all-ran.new.going made mid new visited c.run_all-ran.result c.tell_ran.result w) in
+    let all = run_of (most_cycles asked.end asked.given.limit) s in
+    leaves_as a all c.in-Ok.going.drawn (showing_at_start (tree_in s) (asked_of asked).frames) old new visited begins.drawn
+    (created_leaves (only_complains NoMemory [] []) a all c.in-Ok.going.drawn old made new visited c.in-Ok-create_files.ensures begun)
+
+pub returns-in-Ok-create_files-clause-visits : goal.returns-in-Ok-create_files-clause-visits
+returns-in-Ok-create_files-clause-visits g c =
+    let s = g.C.Cycles.standing c.args.run.now in
+    subst (λ (k : ℕ). OnTrue g.C.Cycles.is_counted (c.run_all-ran.new.steps ≤ c.args.steps.now + visits (tree_in s) (run_of k s))) c.most_cycles-most.ensures.value c.run_all-ran.ensures.visits
 
 pub returns-clause-leaves : goal.returns-clause-leaves
 returns-clause-leaves g c =
@@ -148,10 +222,20 @@ returns-in_default-clause-faults g c =
 
 pub returns-in-Ok-create_files-clause-faults : goal.returns-in-Ok-create_files-clause-faults
 returns-in-Ok-create_files-clause-faults g c =
+    let s = g.C.Cycles.standing c.args.run.now in
+    let asked = c.args.asked.now in
+    let n = names_of asked in
+    let letters = letters_of asked.given.letters in
     let old = g.R.Room.outside c.args.room.now in
-    let mid = g.R.Room.outside c.create_files.new.room in
-    let new = g.R.Room.outside c.run_created.new.room in
-    then_answers old mid new c.run_created.result (clean_makes (names_of c.args.asked.now) old mid c.in-Ok-create_files.ensures) c.run_created.ensures.faults
+    let made = g.R.Room.outside c.create_files.new.room in
+    let mid = g.R.Room.outside c.run_all-ran.new.room in
+    let new = g.R.Room.outside c.tell_ran.new.room in
+    let begins = subst (λ (m : Model). BeginsWith (asked_of asked) (tree_of m (settings_at s.settings)) c.in-Ok.going) c.model.ensures (c.in-Ok.ensures (settings_at s.settings)) in
+    let r = run_of c.most_cycles-most.result s in
+    let visited = spent g.C.Cycles.is_counted c.args.steps.now c.run_all-ran.new.steps in
+    let tells = subst (λ (m : Model). TellsRan (asked_of asked) n (tree_of m (settings_at s.settings)) c.run_all-ran.new.going c.run_all-ran.result mid new c.tell_ran.result) (c.model-in-Ok-create_files.ensures ∙ c.run_all-ran.ensures.keeps.model) (c.tell_ran.ensures (settings_at s.settings)) in
+    let w : Went n letters (asked_of asked) s r c.in-Ok.going c.run_all-ran.new.going made mid new visited c.run_all-ran.result c.tell_ran.result = record { begins = begins; runs = c.run_all-ran.ensures.runs; tells = tells } in
+    then_answers old made new c.tell_ran.result (clean_makes n old made c.in-Ok-create_files.ensures) (went_answers n letters (asked_of asked) s r c.in-Ok.going c.run_all-ran.new.going made mid new visited c.run_all-ran.result c.tell_ran.result w)
 
 pub returns-clause-faults : goal.returns-clause-faults
 returns-clause-faults g c =
