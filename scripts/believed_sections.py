@@ -13,8 +13,8 @@ $lines lines, without comments, blanks and imports.
 ## How to read
 
 - **Begin with section 1**, the meaning of a run; at its heart are its last files, `CellStep.antt`, `Cycle.antt`, `Run.antt`. \
-Section 2 is what the programs make of it, and stands on sections 3 to 5 for texts, atomic models and files. Section 6 may be \
-skipped today. The six sections have $sizes lines. In each the files stand in the order in which one leads to the next.
+Section 2 is what the programs make of it, and stands on sections 3 to 6 for texts, atomic models, files and saved states. \
+Section 7 may be skipped today. The seven sections have $sizes lines. In each the files stand in the order in which one leads to the next.
 - **Definitions compute.** Each is a function of plain values (numbers, lists, texts as lists of bytes), a type, or, in section \
 2, a statement. It changes nothing and doesn't know how the code goes about it. The comment above it says in words what it \
 means: hold one against the other.
@@ -122,11 +122,18 @@ SECTIONS = [
         """,
     ),
     (
-        "Options that no program takes yet",
-        "Saved states (`-S`, `-R`) and an order of service (`-T`). The definitions of the answer speak of them already. Today's "
-        "programs take no such option (`built_rows` in `Options.antt`), so nothing that they do hangs on this section.",
+        "Saved states",
+        "What `-S` writes and `-R` reads: the text of a state, which texts are one, and by which line any other is refused. That "
+        "a run which is saved and gone on with is one run need not be believed: it is proved (`saved_runs`).",
         """
         atomic_face/BoxStates text_forms/LeafStates text_forms/StateText text_forms/StateOf
+        """,
+    ),
+    (
+        "An option that no program takes yet",
+        "An order of service (`-T`). The definitions of the answer speak of it already. Today's programs take no such option "
+        "(`built_rows` in `Options.antt`), so nothing that they do hangs on this section.",
+        """
         served_tree/Processors served_tree/Service served_tree/Order
         """,
     ),

@@ -13,7 +13,7 @@ use Rattle.answer_model.specs.AskedRows.{words, plain}
 use Rattle.answer_model.specs.Answer.{MadeFiles, Answer}
 use Rattle.answer_model.specs.Started.{started_by}
 use Rattle.answer_model.specs.Cdpp.{answer, run_on}
-use Rattle.answer_model.specs.WholeFiles.{folder, boxes, model, just_model, shows}
+use Rattle.answer_model.specs.WholeFiles.{folder, boxes, model, just_model, shows, complains}
 use Rattle.model_text.specs.Models.{line_model}
 use Rattle.model_text.specs.ModelOf.{model_of}
 use Rattle.ma_lines.specs.Sections.{sections_of}
@@ -23,8 +23,8 @@ use Rattle.rule_syntax.specs.RuleOf.{rule_of}
 use Rattle.answer_model.specs.Outcome.{Outcome, a_file, the_output, of_answer, as_answered, reading_failed, writing_failed, complaining_failed}
 use Rattle.answer_model.specs.Programs.{CdppEnds, CdppCauses}
 use Rattle.answer_model.specs.declared.status.Status.{Status}
-use Rattle.answer_model.specs.declared.status.Status.TheVariants.{Done, Usage, ReadFault, WriteFault}
-use Rattle.answer_model.specs.OutcomeRows.{before, with_log, cut, not_made, not_shown, no_complaint, whole, unread, asks, asks_no_time}
+use Rattle.answer_model.specs.declared.status.Status.TheVariants.{Done, Usage, ReadFault, WriteFault, StateRefused}
+use Rattle.answer_model.specs.OutcomeRows.{before, with_log, cut, not_made, not_shown, no_complaint, whole, unread, files_with_state, before_state, no_run, asks, asks_no_time, asks_from_state}
 
 abbrev answered : Answer
 answered = shows (codes "end 00:00:00:100 cycles 2") ((codes "log.txt", line_log) ∷ []) just_model
@@ -191,4 +191,41 @@ cut_causes =
       known = refl;
       cause = omega arith;
       refused = λ e. absurd (not_none (asked (words asks)) plain_model is_asked e);
+    }
+
+-- ---- a state that is refused
+
+abbrev refused_state : Answer
+refused_state = complains StateRefused (codes "state refused: line 1: 1 BadStateLine") [] (codes "m.ma" ∷ codes "s.txt" ∷ [])
+
+is_no_run : answer (words asks_from_state) (folder files_with_state) boxes ≡ refused_state
+unfolding sections_of tokens written_rule rule_of model_of command_by digits clap_on_literals draft_by started_by
+is_no_run = refl
+
+no_run_by : Outcome refused_state before_state no_run StateRefused
+unfolding streams
+no_run_by =
+    record {
+      did = record { tried = codes "m.ma" ∷ codes "s.txt" ∷ []; made = []; shown = []; complained = codes "state refused: line 1: 1 BadStateLine\n" };
+      more = record { made = refl; created = refl; shown = refl; complained = refl; tried = refl };
+      inputs = ([], refl);
+      ending = as_answered refl refl refl;
+    }
+
+pub no_state : CdppEnds (words asks_from_state) boxes before_state no_run StateRefused
+no_state = subst (λ a. Outcome a before_state no_run StateRefused) (sym is_no_run) no_run_by
+
+abbrev from_state : Asked
+from_state = record plain_model { log = None; state = Some (codes "s.txt") }
+
+is_asked_from : asked (words asks_from_state) ≡ Some from_state
+unfolding command_by clap_on_literals draft_by
+is_asked_from = refl
+
+pub no_state_causes : CdppCauses (words asks_from_state) before_state no_run StateRefused
+no_state_causes =
+    record {
+      known = refl;
+      cause = tt;
+      refused = λ e. absurd (not_none (asked (words asks_from_state)) from_state is_asked_from e);
     }

@@ -29,6 +29,6 @@ pub record EndsNotSo : Type 0 where
   pub other_file : ¬ CdppEnds (words asks) boxes before other_blamed WriteFault
   pub no_fault : ¬ CdppEnds (words asks) boxes before other_line NoMemory
   pub of_a_log : ¬ CdppCauses (words asks) before whole LogRefused
-  pub of_a_state : ¬ CdppCauses (words asks) before whole StateRefused
+  pub of_a_state : ¬ DrawlogCauses (words asks) before whole StateRefused
   pub of_a_model : ¬ DrawlogCauses (words asks) before whole ModelRefused
   pub words_first : ¬ CdppCauses (words asks_no_time) before missed Missing

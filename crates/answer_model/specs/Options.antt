@@ -142,9 +142,9 @@ look_rows =
     (field (number 0 1048575) (λ n d. record d { plane = n }))
     ∷ []
 
--- the options that the simulator takes
-abbrev pub built_rows : List OptionRow
-built_rows =
+-- what is asked of a run
+abbrev pub run_rows : List OptionRow
+run_rows =
     row (codes "m") (codes " (-m MODEL") true (word (λ w d. record d { model = Some w }))
     ∷ row (codes "G") (codes " | -G N)") false
     (field (number 5 1000) (λ n d. record d { size = Some n }))
@@ -160,17 +160,26 @@ built_rows =
     (field (number 1 1000000) (λ n d. record d { limit = n }))
     ∷ look_rows
 
--- those that are still to come
+-- where the state at the end is saved, and the state that a run goes on from
+abbrev pub state_rows : List OptionRow
+state_rows =
+    row (codes "S") (codes " [-S SAVE]") true (word (λ w d. record d { save = Some w }))
+    ∷ row (codes "R") (codes " [-R STATE]") true (word (λ w d. record d { state = Some w }))
+    ∷ []
+
+-- the options that the simulator takes
+abbrev pub built_rows : List OptionRow
+built_rows = run_rows ++ state_rows
+
+-- the one that is still to come: the order of service
 abbrev pub later_rows : List OptionRow
 later_rows =
     row (codes "T") (codes " [-T SEED]") false
     (field (number_between 10 0 2147483647) (λ n d. record d { seed = Some n }))
-    ∷ row (codes "S") (codes " [-S SAVE]") true (word (λ w d. record d { save = Some w }))
-    ∷ row (codes "R") (codes " [-R STATE]") true (word (λ w d. record d { state = Some w }))
     ∷ []
 
 abbrev pub all_rows : List OptionRow
-all_rows = built_rows ++ later_rows
+all_rows = run_rows ++ later_rows ++ state_rows
 
 -- the options of the drawing program
 abbrev pub drawing_rows : List OptionRow

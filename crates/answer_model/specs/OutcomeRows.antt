@@ -1,6 +1,6 @@
 -- Rooms in which a run of three cells was whole, was cut at each of its appends, was not created,
--- not shown and not read; and in which a complaint failed.
-use Rattle.std.specs.Prelude.{ℕ, Some, None, [], ◌∷◌, take, codes, true}
+-- not shown and not read; in which a complaint failed; and in which a saved state was refused.
+use Rattle.std.specs.Prelude.{ℕ, Some, None, [], ◌∷◌, ◌++◌, take, codes, true}
 use Rattle.quantity.specs.Bytes.{Bytes}
 use Rattle.room_edge.specs.Outside.{Outside}
 use Rattle.text_forms.specs.Rows.{line_log}
@@ -11,7 +11,7 @@ use Rattle.model_text.specs.Models.{line_model}
 use Rattle.answer_model.specs.Headline.{puts_all}
 use Rattle.answer_model.specs.FaultsAnswered.{AnswersFaults}
 use Rattle.answer_model.specs.Programs.{CdppEnds, CdppCauses}
-use Rattle.answer_model.specs.declared.status.Status.TheVariants.{Done, ReadFault, WriteFault, NoMemory}
+use Rattle.answer_model.specs.declared.status.Status.TheVariants.{Done, ReadFault, WriteFault, NoMemory, StateRefused}
 
 abbrev pub before : Outside
 before =
@@ -69,6 +69,24 @@ unread = record (with_log [] [] (codes "read fault: m.ma\n")) { read_faults = 1 
 abbrev pub no_complaint : Outside
 no_complaint = record before { write_faults = 1; complain_faults = 1 }
 
+-- beside the model there is an empty state
+abbrev pub files_with_state : MadeFiles
+files_with_state = model line_model ++ (codes "s.txt", []) ∷ []
+
+abbrev pub before_state : Outside
+before_state = record before { files = Some (folder files_with_state) }
+
+-- the state is refused
+abbrev pub no_run : Outside
+no_run =
+    record before_state {
+      complained = Some (codes "state refused: line 1: 1 BadStateLine\n");
+      tried = codes "m.ma" ∷ codes "s.txt" ∷ [];
+    }
+
+abbrev pub asks_from_state : Bytes
+asks_from_state = codes "cdpp -m m.ma -t 00:00:00:100 -R s.txt"
+
 abbrev pub asks_no_time : Bytes
 asks_no_time = codes "cdpp -m m.ma"
 
@@ -87,6 +105,8 @@ pub record EndsAsSaid : Type 0 where
   pub nothing_complained : CdppEnds (words asks_no_time) boxes before no_complaint WriteFault
   pub complete : CdppEnds (words asks) boxes before whole Done
   pub not_read : CdppEnds (words asks) boxes before unread ReadFault
+  pub no_state : CdppEnds (words asks_from_state) boxes before_state no_run StateRefused
+  pub no_state_causes : CdppCauses (words asks_from_state) before_state no_run StateRefused
   -- faults show in the status: no other one answers a read or a complaint that failed, or an append
   -- that failed and was tried again
   pub read_answered : AnswersFaults before unread ReadFault

@@ -67,16 +67,16 @@ frames_if tree from cycles (Some f) = frames_file tree from cycles f
 
 -- ---- all files, in their order
 
--- a state is saved of a run that is done, and else nothing
-abbrev pub saved_text : Asked → Tree → Run → Bytes
-saved_text a tree r = elim r.verdict [ done ↦ text_of_state tree a.end r.left.leaf_states | _ ↦ [] ]
+-- a state is saved of a run that is done at its end, and else nothing
+abbrev pub saved_text : ℕ → Tree → Run → Bytes
+saved_text end tree r = elim r.verdict [ done ↦ text_of_state tree end r.left.leaf_states | _ ↦ [] ]
 
 -- the files that a run makes: log, output, frames, state
 abbrev pub made_files : Asked → Tree → Option Saved → Run → MadeFiles
 made_files a tree from r =
     file_if a.log (log_bytes tree a.letters r.cycles) ++ file_if a.out (out_bytes tree r.cycles)
     ++ frames_if tree from r.cycles a.frames
-    ++ file_if a.save (saved_text a tree r)
+    ++ file_if a.save (saved_text a.end tree r)
 
 -- what a run answers, from the start or from a saved state
 abbrev pub answer_of_run : Asked → Tree → List Event → Option Saved → List Word → Run → Answer

@@ -15,7 +15,7 @@ with_state ls bytes = model ls ++ (codes "s.txt", bytes) ∷ []
 
 abbrev pub resumed : Bytes → Bytes → Answer
 resumed end state =
-    to_all (codes "cdpp -m m.ma -t " ++ end ++ codes " -R s.txt -l log2.txt")
+    to (codes "cdpp -m m.ma -t " ++ end ++ codes " -R s.txt -l log2.txt")
     (with_state line_model state)
 
 abbrev pub state_refused : Bytes → Answer
@@ -40,9 +40,9 @@ second_of (f ∷ fs) = first_of fs
 
 abbrev pub joined : MadeFiles → Bytes → Bytes → Bytes
 joined files first next =
-    let made = (to_all first files).made
+    let made = (to first files).made
     in first_of made
-    ++ first_of (to_all next (files ++ (codes "s.txt", second_of made) ∷ [])).made
+    ++ first_of (to next (files ++ (codes "s.txt", second_of made) ∷ [])).made
 
 abbrev pub whole : MadeFiles → Bytes → Bytes
 whole files text = first_of (to text files).made
@@ -115,7 +115,7 @@ pub record RunsAreServed : Type 0 where
   pub queue_of_other_seed : (served_by (codes "2147483647") both_files queue).made ≡ queue_files
 
 pub record RunsAreSaved : Type 0 where
-  pub saves : to_all (codes "cdpp -m m.ma -t 00:00:00:100 -S s.txt") (model line_model)
+  pub saves : to (codes "cdpp -m m.ma -t 00:00:00:100 -S s.txt") (model line_model)
       ≡ shows (codes "end 00:00:00:100 cycles 2") ((codes "s.txt", line_saved) ∷ []) just_model
   pub resumes : resumed (codes "00:00:00:200") line_saved
       ≡ shows (codes "end 00:00:00:200 cycles 1") (holding (codes "log2.txt") later_log ∷ [])
@@ -130,7 +130,10 @@ pub record RunsAreSaved : Type 0 where
   pub not_after : resumed (codes "00:00:00:200")
       (saved (codes "cell line(0,1) 1.00000 0.00000 1 100 0.00000") (codes "end\n"))
       ≡ state_refused (codes "4: 1 BadStateLine")
-  pub no_state : to_all (codes "cdpp -m m.ma -t 00:00:00:200 -R s.txt") (model line_model)
+  -- a run that stops saves nothing
+  pub stopped : to (until_late ++ codes " -S s.txt") three_events
+      ≡ record too_late { made = too_late.made ++ (codes "s.txt", []) ∷ [] }
+  pub no_state : to (codes "cdpp -m m.ma -t 00:00:00:200 -R s.txt") (model line_model)
       ≡ complains Missing (codes "missing: s.txt") [] (codes "m.ma" ∷ codes "s.txt" ∷ [])
   pub queue_joins : joined queue (codes "cdpp -m m.ma -t 00:00:00:000 -l log.txt -L YXS -S s.txt")
       (codes "cdpp -m m.ma -t 00:00:02:000 -l log.txt -L YXS -R s.txt") ≡ queue_log

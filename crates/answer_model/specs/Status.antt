@@ -108,6 +108,7 @@ abbrev pub of_reading : Part → Bool
 of_reading at_files = true
 of_reading at_reads = true
 of_reading at_inputs = true
+of_reading at_state = true
 of_reading part = of_run part
 
 -- the program

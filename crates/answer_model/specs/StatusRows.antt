@@ -36,8 +36,10 @@ pub record StatusesAreNumbered : Type 0 where
   pub refusals : numbers of_refusals ≡ 2 ∷ 3 ∷ 6 ∷ 7 ∷ 13 ∷ 14 ∷ []
   pub words : numbers of_words ≡ 2 ∷ 5 ∷ 12 ∷ []
   pub run : numbers of_run ≡ 0 ∷ 5 ∷ 8 ∷ 9 ∷ 10 ∷ 11 ∷ 12 ∷ []
-  pub reading : numbers of_reading ≡ 0 ∷ 3 ∷ 4 ∷ 5 ∷ 6 ∷ 7 ∷ 8 ∷ 9 ∷ 10 ∷ 11 ∷ 12 ∷ []
-  pub cdpp : numbers of_cdpp ≡ 0 ∷ 2 ∷ 3 ∷ 4 ∷ 5 ∷ 6 ∷ 7 ∷ 8 ∷ 9 ∷ 10 ∷ 11 ∷ 12 ∷ []
+  pub reading : numbers of_reading
+      ≡ 0 ∷ 3 ∷ 4 ∷ 5 ∷ 6 ∷ 7 ∷ 8 ∷ 9 ∷ 10 ∷ 11 ∷ 12 ∷ 14 ∷ []
+  pub cdpp : numbers of_cdpp
+      ≡ 0 ∷ 2 ∷ 3 ∷ 4 ∷ 5 ∷ 6 ∷ 7 ∷ 8 ∷ 9 ∷ 10 ∷ 11 ∷ 12 ∷ 14 ∷ []
   pub drawing : numbers of_drawing ≡ 0 ∷ 5 ∷ 12 ∷ 13 ∷ []
   pub log : numbers of_log ≡ 0 ∷ 3 ∷ 4 ∷ 5 ∷ 12 ∷ 13 ∷ []
   pub drawlog : numbers of_drawlog ≡ 0 ∷ 2 ∷ 3 ∷ 4 ∷ 5 ∷ 12 ∷ 13 ∷ []

@@ -1,8 +1,8 @@
 -- The visits of leaves that the run which words ask for may cost: they follow from what is started.
-use Rattle.std.specs.Prelude.{ℕ, List, Result}
+use Rattle.std.specs.Prelude.{ℕ, ◌+◌, Option, Some, None, List, Result}
 use Rattle.room_edge.specs.Outside.{Files}
 use Rattle.atomic_face.specs.declared.class.Class.{Class}
-use Rattle.model_tree.specs.Tree.{Word}
+use Rattle.model_tree.specs.Tree.{Word, Tree, leaf_count}
 use Rattle.run_model.specs.Visits.{visits}
 use Rattle.answer_model.specs.Started.{Started, Stopped, by, started}
 use Rattle.answer_model.specs.Cdpp.{run_of}
@@ -11,9 +11,15 @@ use Rattle.answer_model.specs.Cdpp.{run_of}
 abbrev pub no_visits : Stopped → ℕ
 no_visits e = 0
 
--- those of the reference run
+-- each leaf once for a file of a state, where there is to be one: read, or saved
+abbrev pub state_visits : Option Word → Tree → ℕ
+state_visits None tree = 0
+state_visits (Some name) tree = leaf_count tree
+
+-- those of the reference run, with those of the states before it and after it
 abbrev pub start_visits : Started → ℕ
-start_visits s = visits s.tree (run_of s)
+start_visits s =
+    state_visits s.asked.state s.tree + visits s.tree (run_of s) + state_visits s.asked.save s.tree
 
 abbrev pub visits_of : Result Started Stopped → ℕ
 visits_of r = by no_visits r start_visits

@@ -30,7 +30,7 @@ boxes = Queue ∷ Queue ∷ Generator ∷ Generator ∷ Cpu ∷ Cpu ∷ Counter 
 abbrev pub to : Bytes → MadeFiles → Answer
 to text files = answer (words text) (folder files) boxes
 
--- what it answers with all options, also those that are still to come
+-- what it answers with all options, also the one that is still to come
 abbrev pub to_all : Bytes → MadeFiles → Answer
 to_all text files = answer_by all_rows (words text) (folder files) boxes
 

@@ -72,11 +72,13 @@ pub record OptionsEndAsSaid : Type 0 where
   pub six_decimals : asks (codes " -d f -g line -p 6") ≡ None
   pub last_plane : asks (codes " -d f -g line -f 1048575") ≡ Some (drawn 3 0 1048575)
   pub no_plane : asks (codes " -d f -g line -f 1048576") ≡ None
-  pub all_names : asks (codes " -e e -l l -o o -d f -g line")
+  pub all_names : asks (codes " -e e -l l -o o -d f -g line -S s -R r")
       ≡ Some (record (drawn 3 0 0) {
         events = Some (codes "e");
         log = Some (codes "l");
         out = Some (codes "o");
+        save = Some (codes "s");
+        state = Some (codes "r");
       })
 
 -- two files that are one
@@ -91,6 +93,17 @@ pub record FilesDiffer : Type 0 where
   pub log_and_out : asks (codes " -l a -o a") ≡ None
   pub log_and_frames : asks (codes " -l a -d a -g line") ≡ None
   pub out_and_frames : asks (codes " -o a -d a -g line") ≡ None
+  pub model_and_save : asks (codes " -S row1.ma") ≡ None
+  pub model_and_state : asks (codes " -R row1.ma") ≡ None
+  pub events_and_save : asks (codes " -e a -S a") ≡ None
+  pub events_and_state : asks (codes " -e a -R a") ≡ None
+  pub log_and_save : asks (codes " -l a -S a") ≡ None
+  pub log_and_state : asks (codes " -l a -R a") ≡ None
+  pub out_and_save : asks (codes " -o a -S a") ≡ None
+  pub out_and_state : asks (codes " -o a -R a") ≡ None
+  pub frames_and_save : asks (codes " -d a -g line -S a") ≡ None
+  pub frames_and_state : asks (codes " -d a -g line -R a") ≡ None
+  pub save_and_state : asks (codes " -S a -R a") ≡ None
 
 -- ---- drawlog
 

@@ -29,6 +29,6 @@ pub enum Status {
     NoMemory,
     /// A log is refused.
     LogRefused,
-    /// A saved state is refused. No program reads one by now.
+    /// A saved state is refused.
     StateRefused,
 }

@@ -1,6 +1,5 @@
 -- What is asked of a drawing, one option after another.
-use Rattle.std.proofs.Common.{◌≡◌, ℕ, Option, Some, None, List, [], ◌∷◌, refl, sym, ap, ◌∙◌, map, length, get_or, arith}
-use Rattle.std.specs.Prelude.{codes}
+use Rattle.std.proofs.Common.{◌≡◌, ℕ, Option, Some, None, List, [], ◌∷◌, refl, ap, ◌∙◌, map, length, get_or, arith}
 use Rattle.std.specs.Borrow.{Bor}
 use Rattle.cell_grid.specs.Space.{Space}
 use Rattle.cell_grid.specs.declared.grid.Border.TheVariants.{NoWrapped}

@@ -61,7 +61,7 @@ pub record CanBeShown (f : FramesFile) : Type 0 where
 abbrev pub made_names : Asked → List Word
 made_names a =
     given_names (text_of_name a.given.log) (text_of_name a.given.out)
-    (option_map (λ (f : FramesFile). f.name.now) a.frames)
+    (option_map (λ (f : FramesFile). f.name.now) a.frames) (text_of_name a.given.save)
 
 -- the end is a time, and no two made files have one name
 pub record IsInBounds (a : Asked) : Type 0 where

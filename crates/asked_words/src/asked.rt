@@ -95,6 +95,13 @@ fn frames_in<'a>(
     }
 }
 
+/// Whether no state is saved or read of a model that is made.
+fn may_save(draft: &Draft<'_>) -> bool
+    ensures { result ≡ A.may_save (draft_of draft.now) }
+{
+    (draft.save.is_none() & draft.state.is_none()) | draft.size.is_none()
+}
+
 /// What a draft asks for, where it has a model and an end.
 fn asked_of<'a>(alloc: Global, draft: &Draft<'a>) -> Result<Option<Asked<'a>>, OutOfMemory>
     requires bounds { IsBounded draft.now }
@@ -111,6 +118,9 @@ fn asked_of<'a>(alloc: Global, draft: &Draft<'a>) -> Result<Option<Asked<'a>>, O
     let Some(frames) = frames_in(alloc, draft)? else {
         return Ok(None);
     };
+    if !may_save(draft) {
+        return Ok(None);
+    }
     Ok(Some(Asked {
         source,
         end,

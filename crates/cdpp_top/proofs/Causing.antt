@@ -5,6 +5,8 @@ use Rattle.room_edge.specs.Faults.{KeepsMisses}
 use Rattle.room_edge.specs.Outside.{Outside, OnlyInput}
 use Rattle.event_list.specs.declared.refusal.EventRefusal.{EventRefusal}
 use Rattle.event_list.specs.declared.refusal.EventRefusal.TheVariants as E
+use Rattle.text_forms.specs.declared.refusal.StateRefusal.{StateRefusal}
+use Rattle.text_forms.specs.declared.refusal.StateRefusal.TheVariants as S
 use Rattle.model_tree.specs.Tree.{Word}
 use Rattle.model_files.specs.declared.refusal.ModelRefusal.{ModelRefusal}
 use Rattle.model_files.specs.declared.refusal.ModelRefusal.TheVariants as M
@@ -19,7 +21,7 @@ use Rattle.answer_model.specs.FaultsAnswered.{NoReadFault}
 use Rattle.answer_model.proofs.FaultLemmas.{nothing_done, clean_read, clean_answers, said_answers}
 use Rattle.answer_model.proofs.Said.{said_among}
 use Rattle.answer_model.proofs.Causing.{read_known, cause_for, said_caused, memory_ends, nothing_read, nothing_written, said_ends, unread_ends}
-use Rattle.cdpp_top.specs.Unread.{unread_model, TellsStop, TellsNothing, TellsEvents, TellsUnread}
+use Rattle.cdpp_top.specs.Unread.{unread_model, TellsStop, TellsNothing, TellsEvents, TellsState, TellsUnread}
 use Rattle.cdpp_top.specs.Stages.{EndsOverAll}
 
 -- ---- of a stage
@@ -40,6 +42,12 @@ events_told (E.BadEventLine line) old mid new s only sure says = said_ends of_re
 events_told (E.UnknownPort line) old mid new s only sure says = said_ends of_reading _ exit.EventsRefused old mid new s refl refl tt only sure says
 events_told (E.TooLarge line) old mid new s only sure says = said_ends of_reading _ exit.EventsRefused old mid new s refl refl tt only sure says
 events_told E.Memory old mid new s only sure tells = nothing_told old mid new s only sure tells
+
+pub state_told : (reason : StateRefusal) (old mid new : Outside) (s : Status) → OnlyInput old mid → NoReadFault old mid → TellsState reason mid new s → EndsBy of_reading old new s
+state_told (S.BadStateLine line) old mid new s only sure says = said_ends of_reading _ exit.StateRefused old mid new s refl refl tt only sure says
+state_told (S.EndBefore line) old mid new s only sure says = said_ends of_reading _ exit.StateRefused old mid new s refl refl tt only sure says
+state_told (S.TooLarge line) old mid new s only sure says = said_ends of_reading _ exit.StateRefused old mid new s refl refl tt only sure says
+state_told S.Memory old mid new s only sure tells = nothing_told old mid new s only sure tells
 
 -- ---- of the program
 

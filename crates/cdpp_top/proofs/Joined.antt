@@ -1,8 +1,7 @@
 -- The clauses of the program from those of its stages.
 use Rattle.std.proofs.Common.{◌≡◌, ℕ, ◌+◌, ◌≤◌, List, [], Some, Result, Ok, Err, sym, subst}
 use Rattle.room_edge.specs.Outside.{Outside, OnlyInput}
-use Rattle.model_tree.specs.Tree.{Word, Tree}
-use Rattle.run_model.specs.Run.{Event}
+use Rattle.model_tree.specs.Tree.{Word}
 use Rattle.answer_model.specs.declared.status.Status.{Status}
 use Rattle.answer_model.specs.Status.{of_reading}
 use Rattle.answer_model.specs.Asked.{Asked, asked}
@@ -13,29 +12,30 @@ use Rattle.answer_model.specs.Endings.{looked_for, EndsWith}
 use Rattle.answer_model.specs.Outcome.{EndsBy, Outcome}
 use Rattle.answer_model.proofs.Causing.{later_ends}
 use Rattle.answer_model.proofs.Stages.{at_start, then_ends}
-use Rattle.cdpp_top.specs.Stages.{start_with, ReadCauses, ReadsStart, EndsOverAll, StartCauses}
+use Rattle.cdpp_top.specs.Stages.{ReadCauses, ReadsStart, EndsOverAll, StartCauses}
 use Rattle.cdpp_top.specs.declared.unread.Unread.{Unread}
 use Rattle.cdpp_top.proofs.Causing.{taken_ends, are_taken}
 
 -- what is read of words is what is read of what they ask for
-pub read_as : {A : Type 0} (view : A → List Word → Started) (r q : Result Started Stopped) (old new : Outside) (result : Result A Unread) → q ≡ r → ReadsStart view r old new result → ReadsStart view q old new result
-read_as view r q old new result e reads = subst (λ (z : Result Started Stopped). ReadsStart view z old new result) (sym e) reads
+pub read_as : {A : Type 0} (stands : A → Started → Type 0) (r q : Result Started Stopped) (old new : Outside) (result : Result A Unread) → q ≡ r → ReadsStart stands r old new result → ReadsStart stands q old new result
+read_as stands r q old new result e reads = subst (λ (z : Result Started Stopped). ReadsStart stands z old new result) (sym e) reads
 
 pub start_causes : {A : Type 0} (words : List Word) (a : Asked) (old new : Outside) (result : Result A Unread) → Some a ≡ asked words → ReadCauses old new result → StartCauses words old new result
 start_causes words a old new (Ok x) is causes = (are_taken words a is, causes.0, causes.1)
 start_causes words a old new (Err why) is causes = λ after s tells. taken_ends words old after s (are_taken words a is) (causes after s tells)
 
 -- it was read, and the rest ended
-pub read_then : {A : Type 0} (view : A → List Word → Started) (x : A) (r : Result Started Stopped) (old mid new : Outside) (s : Status) → ReadsStart view r old mid (Ok x) → ((i : List Word) → EndsWith (start_answer (view x i)) (looked_for i) mid new s) → Outcome (answer_of r) old new s
-read_then view x r old mid new s reads later =
-    let inputs = reads.0 in
-    at_start (answer_of r) old new s (then_ends (answer_of r) (looked_for []) (looked_for inputs) old mid new s reads.2
-    (subst (λ (q : Result Started Stopped). EndsWith (answer_of q) (looked_for inputs) mid new s) (sym reads.1) (later inputs)))
+pub read_then : {A : Type 0} (stands : A → Started → Type 0) (x : A) (r : Result Started Stopped) (old mid new : Outside) (status : Status) → ReadsStart stands r old mid (Ok x) → ((s : Started) → stands x s → EndsWith (start_answer s) (looked_for s.inputs) mid new status)
+    → Outcome (answer_of r) old new status
+read_then stands x r old mid new status reads later =
+    let s = reads.0 in
+    at_start (answer_of r) old new status (then_ends (answer_of r) (looked_for []) (looked_for s.inputs) old mid new status reads.3
+    (subst (λ (q : Result Started Stopped). EndsWith (answer_of q) (looked_for s.inputs) mid new status) (sym reads.1) (later s reads.2)))
 
 -- how the rest ends is how the program does
 pub read_ends : {A : Type 0} (words : List Word) (x : A) (old mid new : Outside) (s : Status) → StartCauses words old mid (Ok x) → OnlyInput old mid → EndsBy of_reading mid new s → EndsOverAll words old new s
 read_ends words x old mid new s read only run = taken_ends words old new s read.0 (later_ends of_reading old mid new s only read.1 read.2 run)
 
 -- its visits are those of what is started
-pub visited : (a : Asked) (tree : Tree) (events : List Event) (inputs : List Word) (r : Result Started Stopped) (n m : ℕ) → r ≡ Ok (start_with a tree events inputs) → n ≤ m + start_visits (start_with a tree events []) → n ≤ m + visits_of r
-visited a tree events inputs r n m is le = subst (λ (q : Result Started Stopped). n ≤ m + visits_of q) (sym is) le
+pub visited : (s : Started) (r : Result Started Stopped) (n m : ℕ) → r ≡ Ok s → n ≤ m + start_visits s → n ≤ m + visits_of r
+visited s r n m is le = subst (λ (q : Result Started Stopped). n ≤ m + visits_of q) (sym is) le

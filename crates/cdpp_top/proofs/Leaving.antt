@@ -1,24 +1,23 @@
 -- What a run leaves, after what is read before it.
-use Rattle.std.proofs.Common.{◌≡◌, inl, inr, ℕ, Option, None, List, Result, Ok, Err, sym, ap, ◌∙◌, subst}
-use Rattle.atomic_face.specs.StockView.{Stocked}
+use Rattle.std.proofs.Common.{◌≡◌, inl, inr, Option, Result, Ok, Err, sym, ap, ◌∙◌, subst}
 use Rattle.room_edge.specs.Outside.{Outside}
-use Rattle.model_tree.specs.declared.table.Model.{Model}
 use Rattle.model_tree.specs.Tree.{Tree}
-use Rattle.run_model.specs.Run.{Event, Run, run, most_cycles}
-use Rattle.record_text.specs.Chosen.{letters_of}
+use Rattle.run_model.specs.Run.{Run, most_cycles}
 use Rattle.event_list.specs.declared.refusal.EventRefusal.{EventRefusal}
 use Rattle.event_list.specs.declared.refusal.EventRefusal.TheVariants as E
+use Rattle.text_forms.specs.declared.refusal.StateRefusal.{StateRefusal}
+use Rattle.text_forms.specs.declared.refusal.StateRefusal.TheVariants as S
 use Rattle.asked_words.specs.declared.asked.Asked as code
 use Rattle.asked_words.specs.declared.group.GroupAt.{GroupAt}
 use Rattle.asked_words.specs.Shown.{asked_of}
 use Rattle.answer_model.proofs.Said.{said_only}
+use Rattle.answer_model.specs.Asked.{Asked}
 use Rattle.answer_model.specs.Started.{Started, Stopped, started}
 use Rattle.answer_model.specs.Cdpp as answered
 use Rattle.answer_model.specs.Headline.{puts_all}
 use Rattle.answer_model.specs.declared.status.Status.{Status}
 use Rattle.answer_model.specs.Status.{IsOf, of_run}
 use Rattle.flat_run.specs.Standing.{Standing, tree_in}
-use Rattle.run_files.specs.AskedFiles.{names_of}
 use Rattle.run_files.specs.Texts.{files, made_before}
 use Rattle.run_files.specs.Groups.{showing_at_start}
 use Rattle.run_files.specs.Showing.{Showing}
@@ -26,13 +25,12 @@ use Rattle.run_loop.specs.Answers.{MayRun}
 use Rattle.run_loop.specs.Left.{run_of}
 use Rattle.run_loop.specs.Ran.{asking}
 use Rattle.run_loop.specs.Leaves.{Asking, Spent, Leaves, some_made, all_made}
-use Rattle.run_loop.proofs.Answered.{run_is_run}
 use Rattle.cdpp_top.specs.declared.unread.Unread.{Unread}
 use Rattle.cdpp_top.specs.declared.unread.Unread.TheVariants as why
-use Rattle.cdpp_top.specs.Starting.{tree_on}
-use Rattle.cdpp_top.specs.Unread.{TellsEvents, TellsUnread}
+use Rattle.cdpp_top.specs.Unread.{TellsEvents, TellsState, TellsUnread}
+use Rattle.cdpp_top.specs.Stages.{StandsAt}
 use Rattle.cdpp_top.specs.Leaving.{IsUnrun, asking_for, RunLeaves, LeavesOf, OnlyRunsLeave}
-use Rattle.cdpp_top.proofs.Started.{IsMadeOf, tree_made, events_made, run_as}
+use Rattle.cdpp_top.proofs.Started.{same_run}
 
 -- ---- no run
 
@@ -48,12 +46,19 @@ events_tell_made (E.UnknownPort line) old new s says = (said_only _ _ old new s 
 events_tell_made (E.TooLarge line) old new s says = (said_only _ _ old new s says).made
 events_tell_made E.Memory old new s (own, same) = ap (λ (o : Outside). o.made) same
 
+state_tell_made : (reason : StateRefusal) (old new : Outside) (s : Status) → TellsState reason old new s → new.made ≡ old.made
+state_tell_made (S.BadStateLine line) old new s says = (said_only _ _ old new s says).made
+state_tell_made (S.EndBefore line) old new s says = (said_only _ _ old new s says).made
+state_tell_made (S.TooLarge line) old new s says = (said_only _ _ old new s says).made
+state_tell_made S.Memory old new s (own, same) = ap (λ (o : Outside). o.made) same
+
 pub tells_made : (reason : Unread) (old new : Outside) (s : Status) → TellsUnread reason old new s → new.made ≡ old.made
 tells_made why.Usage old new s says = (said_only _ _ old new s says).made
 tells_made (why.Missing name) old new s says = (said_only _ _ old new s says).made
 tells_made (why.ReadFault name) old new s says = (said_only _ _ old new s says).made
 tells_made (why.Model line kind) old new s says = (said_only _ _ old new s says).made
 tells_made (why.Events refusal) old new s tells = events_tell_made refusal old new s tells
+tells_made (why.State refusal) old new s tells = state_tell_made refusal old new s tells
 tells_made why.Memory old new s (own, same) = ap (λ (o : Outside). o.made) same
 
 -- ---- after something was read
@@ -69,7 +74,7 @@ later_leaves a r w old mid new spent same (all_made begun behind part cycles ord
 later_run : (x : Started) (old mid new : Outside) (spent : Spent) (s : Status) → mid.made ≡ old.made → RunLeaves x mid new spent s → RunLeaves x old new spent s
 later_run x old mid new spent s same (inl u) = inl (later_unrun old mid new spent same u)
 later_run x old mid new spent s same (inr (known, l)) =
-    inr (known, later_leaves (asking_for x.asked x.tree) (answered.run_of x) (showing_at_start x.tree x.asked.frames) old mid new spent same l)
+    inr (known, later_leaves (asking_for x.asked x.tree) (answered.run_of x) (showing_at_start x.tree x.from x.asked.frames) old mid new spent same l)
 
 -- the run of what is started, after the reading
 pub leaves_of_start : (x : Started) (r : Result Started Stopped) (old mid new : Outside) (spent : Spent) (s : Status) → r ≡ Ok x → mid.made ≡ old.made → RunLeaves x mid new spent s → LeavesOf r old new spent s
@@ -78,18 +83,15 @@ leaves_of_start x r old mid new spent s is same leaves =
 
 -- ---- the run
 
--- by what the run was made of
-pub leaves_made : (a : code.Asked) (group : Option GroupAt) (s : Standing) (m : Model) (stock : List Stocked) (events : List Event) (old new : Outside) (spent : Spent) → MayRun a group s → IsMadeOf s m stock events a.end a.given.limit
-    → Leaves (asking (names_of a) (letters_of a.given.letters) s) (run_of (most_cycles a.end a.given.limit) s) (showing_at_start (tree_in s) (asked_of a).frames) old new spent
-    → Leaves (asking_for (asked_of a) (tree_on m stock)) (answered.run_on (tree_on m stock) events a.end a.given.limit None) (showing_at_start (tree_on m stock) (asked_of a).frames) old new spent
-leaves_made a group s m stock events old new spent may made leaves =
-    let Left : Tree → Run → Type 0 = λ t r. Leaves (asking_for (asked_of a) t) r (showing_at_start t (asked_of a).frames) old new spent in
-    let at_run = subst (λ (r : Run). Left (tree_in s) r) (sym (run_is_run a group s may)) leaves in
-    let at_limit = subst (λ (l : ℕ). Left (tree_in s) (run (tree_in s) s.state.events s.end l)) made.limit_is at_run in
-    let at_end = subst (λ (e : ℕ). Left (tree_in s) (run (tree_in s) s.state.events e a.given.limit)) made.end_is at_limit in
-    let at_events = subst (λ (es : List Event). Left (tree_in s) (run (tree_in s) es a.end a.given.limit)) (events_made s m stock events a.end a.given.limit made) at_end in
-    let at_tree = subst (λ (t : Tree). Left t (run t events a.end a.given.limit)) (tree_made s m stock events a.end a.given.limit made) at_events in
-    subst (λ (r : Run). Left (tree_on m stock) r) (run_as (tree_on m stock) events a.end a.given.limit) at_tree
+-- that of what is started
+pub leaves_started : (a : code.Asked) (group : Option GroupAt) (r : Standing) (x : Started) (old new : Outside) (spent : Spent) → MayRun a group r → StandsAt a r x
+    → Leaves (asking a r) (run_of (most_cycles a.end a.given.limit) r) (showing_at_start (tree_in r) x.from (asked_of a).frames) old new spent
+    → Leaves (asking_for x.asked x.tree) (answered.run_of x) (showing_at_start x.tree x.from x.asked.frames) old new spent
+leaves_started a group r x old new spent may at_start leaves =
+    let Left : Asked → Tree → Run → Type 0 = λ asked tree run. Leaves (asking_for asked tree) run (showing_at_start tree x.from asked.frames) old new spent in
+    let at_run = subst (Left (asked_of a) (tree_in r)) (same_run a group r x may at_start) leaves in
+    let at_tree = subst (λ (t : Tree). Left (asked_of a) t (answered.run_of x)) at_start.tree_is at_run in
+    subst (λ (y : Asked). Left y x.tree (answered.run_of x)) at_start.asked_is at_tree
 
 -- ---- statuses
 

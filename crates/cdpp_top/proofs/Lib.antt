@@ -3,7 +3,9 @@ pub mod Causing
 pub mod Stops
 pub mod Tried
 pub mod Models
+pub mod NamedFiles
 pub mod EventFiles
+pub mod StateFiles
 pub mod Words
 pub mod Reading
 pub mod Joined

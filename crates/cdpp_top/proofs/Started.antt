@@ -1,6 +1,7 @@
 -- A run before its first cycle, from what is asked for and what was read.
-use Rattle.std.proofs.Common.{◌≡◌, ℕ, true, Option, None, List, [], map, refl, sym, ap, ◌∙◌, subst}
+use Rattle.std.proofs.Common.{◌≡◌, ℕ, ◌+◌, true, Option, Some, None, List, [], map, refl, sym, ap, ◌∙◌, subst}
 use Rattle.std.specs.Prelude.{IsTrue, unwrap_or, replicate}
+use Rattle.std.specs.Option.{is_some}
 use Rattle.std.proofs.lemmas.Option.{slice_get-map, unwrap_or-slice_get}
 use Rattle.atomic_face.specs.StockView.{Stocked}
 use Rattle.model_tree.specs.declared.table.Model.{Model}
@@ -10,23 +11,31 @@ use Rattle.model_tree.specs.Sound.{is_sound_model}
 use Rattle.started_boxes.specs.Boxes.{settings_in}
 use Rattle.run_leaves.specs.Seated as S
 use Rattle.run_leaves.specs.Seated.{settings_at}
-use Rattle.run_model.specs.Run.{Event, RunState, start, run, most_cycles}
-use Rattle.run_model.specs.Visits.{visits}
+use Rattle.run_model.specs.Fitting.{FitsTree, StartFits}
+use Rattle.run_model.specs.Instants.{StartStands, ResumedStands}
+use Rattle.run_model.specs.Run.{Event, RunState, start, resumed, run_from, most_cycles}
+use Rattle.run_model.specs.Waiting.{StandsFrom}
+use Rattle.text_forms.specs.StateOf.{Saved}
 use Rattle.route_flat.specs.declared.routes.Routes.{Routes}
 use Rattle.sparse_cycle.specs.Feed.{AreAtInputs}
 use Rattle.flat_run.specs.Changes.{tree_with, StartsFrom}
 use Rattle.flat_run.specs.Standing.{Standing, tree_in}
+use Rattle.state_file.specs.ReadStates.{ReadStatesFit}
+use Rattle.saved_runs.specs.Accepted.{IsRead}
 use Rattle.asked_words.specs.declared.asked.Asked.{Asked}
 use Rattle.asked_words.specs.declared.group.GroupAt.{GroupAt}
-use Rattle.asked_words.specs.Shown.{asked_of}
-use Rattle.answer_model.specs.Cdpp.{run_on, start_answer}
-use Rattle.answer_model.specs.Visits.{start_visits}
+use Rattle.asked_words.specs.Shown.{text_of_name, asked_of}
+use Rattle.answer_model.specs.Cdpp as answered
+use Rattle.answer_model.specs.Cdpp.{begins, run_on, answer_from, start_answer}
+use Rattle.answer_model.specs.Resume.{StatesMayBegin}
+use Rattle.answer_model.specs.Started.{Started}
+use Rattle.answer_model.specs.Visits.{state_visits, start_visits}
+use Rattle.run_model.specs.Visits.{visits}
 use Rattle.run_files.specs.Groups.{IsFoundIn, CanShow}
-use Rattle.run_loop.specs.Answers.{MayRun, answer_to}
+use Rattle.run_loop.specs.Answers.{MayRun, BeginsFrom, answer_to}
 use Rattle.run_loop.specs.Left.{run_of}
-use Rattle.run_loop.proofs.Answered.{run_is_run}
-use Rattle.cdpp_top.specs.Starting.{tree_on, MayStart}
-use Rattle.cdpp_top.specs.Stages.{start_with}
+use Rattle.cdpp_top.specs.Starting.{tree_on, MayStart, IsMadeOf, MayGoOn, going_from, IsResumed, RunsMayRun}
+use Rattle.cdpp_top.specs.Stages.{StandsAt}
 use Rattle.cdpp_top.proofs.Shown.{bounded, can_show}
 
 -- ---- settings, as a function and as a list
@@ -53,53 +62,100 @@ starts_from a stock m routes group events leaves waiting may at counted waits =
       at_inputs = subst (λ (t : Tree). AreAtInputs (ins_of t) events) same at;
     }
 
--- ---- the run
+-- ---- a run at its start
 
--- where a run stands that was made of these
-pub record IsMadeOf (s : Standing) (m : Model) (stock : List Stocked) (events : List Event) (end limit : ℕ) : Type 0 where
-  pub model : s.model ≡ m
-  pub settings : s.settings ≡ S.settings_in stock
-  pub state : s.state ≡ start (tree_in s) events
-  pub end_is : s.end ≡ end
-  pub limit_is : s.limit ≡ limit
-  pub goes : s.stopped ≡ None
+module _ (s : Standing) (m : Model) (stock : List Stocked) (events : List Event) (end limit : ℕ) (made : IsMadeOf s m stock events end limit) where
+  pub tree_made : tree_in s ≡ tree_on m stock
+  tree_made = (λ i. tree_of (made.model i) (settings_at (made.settings i))) ∙ same_tree m stock
 
-pub tree_made : (s : Standing) (m : Model) (stock : List Stocked) (events : List Event) (end limit : ℕ) → IsMadeOf s m stock events end limit → tree_in s ≡ tree_on m stock
-tree_made s m stock events end limit made = (λ i. tree_of (made.model i) (settings_at (made.settings i))) ∙ same_tree m stock
+  events_made : s.state.events ≡ events
+  events_made = ap (λ (r : RunState). r.events) made.state
 
-pub events_made : (s : Standing) (m : Model) (stock : List Stocked) (events : List Event) (end limit : ℕ) → IsMadeOf s m stock events end limit → s.state.events ≡ events
-events_made s m stock events end limit made = ap (λ (r : RunState). r.events) made.state
+  pub may_go_on : (a : Asked) (routes : Routes) (group : Option GroupAt) → MayStart a stock m routes group → StartFits → MayGoOn s
+  may_go_on a routes group may fits =
+      record {
+        fresh = (ap (λ (r : RunState). r.last) made.state, made.goes, ap (λ (r : RunState). r.count) made.state);
+        fits = subst (λ (r : RunState). FitsTree (tree_in s) r.leaf_states) (sym made.state) (fits (tree_in s) events);
+        sound = subst (λ (t : Tree). is_sound_model t ≡ true) (sym tree_made) may.ready.sound;
+      }
 
-pub may_run : (a : Asked) (s : Standing) (m : Model) (stock : List Stocked) (routes : Routes) (group : Option GroupAt) (events : List Event) → MayStart a stock m routes group → IsMadeOf s m stock events a.end a.given.limit → MayRun a group s
-may_run a s m stock routes group events may made =
-    let tree = tree_made s m stock events a.end a.given.limit made in
+  -- where it goes on from a state, or from its start, it stands
+  pub begun : (from : Option Saved) → (going_from s from).state ≡ begins (tree_in (going_from s from)) events from
+  begun None = made.state
+  begun (Some saved) = ap (resumed saved.time saved.states) events_made
+
+  same_tree_on : (from : Option Saved) → tree_in (going_from s from) ≡ tree_in s
+  same_tree_on None = refl
+  same_tree_on (Some saved) = refl
+
+  pub stands_on : (a : Asked) (from : Option Saved) (inputs : List Word) → is_some (text_of_name a.given.state) ≡ is_some from
+      → StandsAt a (going_from s from) (record { asked = asked_of a; tree = tree_on m stock; events = events; from = from; inputs = inputs })
+  stands_on a from inputs named =
+      record {
+        asked_is = refl;
+        tree_is = same_tree_on from ∙ tree_made;
+        begins = record { state = begun from; asked = named };
+      }
+
+pub stands_at : (a : Asked) (s r : Standing) (m : Model) (stock : List Stocked) (events : List Event) (from : Option Saved) (inputs : List Word) → IsMadeOf s m stock events a.end a.given.limit → is_some (text_of_name a.given.state) ≡ is_some from → r ≡ going_from s from
+    → StandsAt a r (record { asked = asked_of a; tree = tree_on m stock; events = events; from = from; inputs = inputs })
+stands_at a s r m stock events from inputs made named goes =
+    subst (λ (x : Standing). StandsAt a x (record { asked = asked_of a; tree = tree_on m stock; events = events; from = from; inputs = inputs })) (sym goes)
+    (stands_on s m stock events a.end a.given.limit made a from inputs named)
+
+-- ---- it may be run
+
+-- where its states stand and fit the model
+may_run_at : (a : Asked) (s : Standing) (m : Model) (stock : List Stocked) (routes : Routes) (group : Option GroupAt) (low : ℕ) → MayStart a stock m routes group → tree_in s ≡ tree_on m stock → s.model ≡ m → s.end ≡ a.end → s.limit ≡ a.given.limit → s.stopped ≡ None
+    → StandsFrom s.limit low s.state → FitsTree (tree_in s) s.state.leaf_states → MayRun a group s
+may_run_at a s m stock routes group low may tree model end limit goes stands fits =
     record {
-      starts = made.state ∙ ap (start (tree_in s)) (sym (events_made s m stock events a.end a.given.limit made));
-      goes = made.goes;
-      end = made.end_is;
-      limit = made.limit_is;
+      low = low;
+      stands = stands;
+      fits = fits;
+      goes = goes;
+      end = end;
+      limit = limit;
       sound = subst (λ (t : Tree). is_sound_model t ≡ true) (sym tree) may.ready.sound;
-      found = subst (λ (x : Model). IsFoundIn x (asked_of a).frames group) (sym made.model) may.found;
+      found = subst (λ (x : Model). IsFoundIn x (asked_of a).frames group) (sym model) may.found;
       shows = subst (λ (t : Tree). CanShow t (asked_of a).frames) (sym tree) (can_show (tree_on m stock) (asked_of a).frames may.ready.sound (bounded a.frames may.bounds.frames) may.drawn);
       names = may.bounds.names;
     }
 
--- what is answered to the run is what is answered to what is started
-pub same_answer : (a : Asked) (s : Standing) (m : Model) (stock : List Stocked) (events : List Event) (inputs : List Word) → IsMadeOf s m stock events a.end a.given.limit
-    → answer_to (asked_of a) s inputs ≡ start_answer (start_with (asked_of a) (tree_on m stock) events inputs)
-same_answer a s m stock events inputs made =
-    λ i. start_answer (start_with (asked_of a) (tree_made s m stock events a.end a.given.limit made i) (events_made s m stock events a.end a.given.limit made i) inputs)
+module _ (start_stands : StartStands) (resumed_stands : ResumedStands) (may_begin : StatesMayBegin) (start_fits : StartFits) (read_fit : ReadStatesFit) where
+  going_runs : (a : Asked) (stock : List Stocked) (m : Model) (routes : Routes) (group : Option GroupAt) (events : List Event) (s : Standing) (from : Option Saved) → MayStart a stock m routes group → IsMadeOf s m stock events a.end a.given.limit → IsRead (tree_in s) a.end from
+      → MayRun a group (going_from s from)
+  going_runs a stock m routes group events s None may made read =
+      let tree = tree_made s m stock events a.end a.given.limit made in
+      may_run_at a s m stock routes group 0 may tree made.model made.end_is made.limit_is made.goes (subst (StandsFrom s.limit 0) (sym made.state) (start_stands (tree_in s) events s.limit))
+      (may_go_on s m stock events a.end a.given.limit made a routes group may start_fits).fits
+  going_runs a stock m routes group events s (Some saved) may made (bytes, is) =
+      let tree = tree_made s m stock events a.end a.given.limit made in
+      let sound = (may_go_on s m stock events a.end a.given.limit made a routes group may start_fits).sound in
+      may_run_at a (going_from s (Some saved)) m stock routes group (saved.time + 1) may tree made.model made.end_is made.limit_is made.goes
+      (resumed_stands saved.time s.limit saved.states s.state.events (may_begin bytes (tree_in s) a.end saved is).1) (read_fit bytes (tree_in s) a.end saved sound is)
 
--- the run from the start
-pub run_as : (tree : Tree) (events : List Event) (end limit : ℕ) → run tree events end limit ≡ run_on tree events end limit None
-unfolding run run_on
-run_as tree events end limit = refl
+  pub runs_may_run : RunsMayRun
+  runs_may_run a stock m routes group events s r may made goes =
+      subst (λ (x : Standing). MayRun a group x) (sym goes.goes) (going_runs a stock m routes group events s goes.from may made goes.read)
 
--- what the run may cost
-pub run_visits : (a : Asked) (group : Option GroupAt) (s : Standing) (m : Model) (stock : List Stocked) (events : List Event) (inputs : List Word) → MayRun a group s → IsMadeOf s m stock events a.end a.given.limit
-    → visits (tree_in s) (run_of (most_cycles a.end a.given.limit) s) ≡ start_visits (start_with (asked_of a) (tree_on m stock) events inputs)
-run_visits a group s m stock events inputs may made =
-    let tree = tree_made s m stock events a.end a.given.limit made in
-    ap (visits (tree_in s)) (sym (run_is_run a group s may))
-    ∙ (λ i. visits (tree i) (run (tree i) (events_made s m stock events a.end a.given.limit made i) (made.end_is i) (made.limit_is i)))
-    ∙ ap (visits (tree_on m stock)) (run_as (tree_on m stock) events a.end a.given.limit)
+-- ---- the run is that of what is started
+
+module _ (a : Asked) (group : Option GroupAt) (r : Standing) (s : Started) (may : MayRun a group r) (at_start : StandsAt a r s) where
+  pub begins_asked : BeginsFrom (asked_of a) s.events s.from r
+  begins_asked = subst (λ x. BeginsFrom x s.events s.from r) (sym at_start.asked_is) at_start.begins
+
+  -- what is answered to the run
+  pub same_answer : answer_to (asked_of a) s.events s.from r s.inputs ≡ start_answer s
+  same_answer = λ i. answer_from (at_start.asked_is i) (at_start.tree_is i) s.events s.inputs s.from
+
+  pub same_run : run_of (most_cycles a.end a.given.limit) r ≡ answered.run_of s
+  unfolding run_on
+  same_run =
+      (λ i. run_from (most_cycles a.end a.given.limit) (tree_in r) (may.end i) (may.limit i) (at_start.begins.state i))
+      ∙ (λ i. run_on (at_start.tree_is i) s.events (at_start.asked_is i).end (at_start.asked_is i).limit s.from)
+
+  -- what it may cost, with its states
+  pub same_visits : (let x = asked_of a in state_visits x.state (tree_in r) + visits (tree_in r) (run_of (most_cycles a.end a.given.limit) r) + state_visits x.save (tree_in r)) ≡ start_visits s
+  same_visits =
+      λ i. state_visits (at_start.asked_is i).state (at_start.tree_is i) + visits (at_start.tree_is i) (same_run i) + state_visits (at_start.asked_is i).save (at_start.tree_is i)

@@ -20,7 +20,14 @@ pub record IsUnrun (old new : Outside) (spent : Spent) : Type 0 where
 
 -- what is asked of the files of a run of this model
 abbrev pub asking_for : Asked → Tree → Asking
-asking_for a tree = record { names = names_asked a; tree = tree; letters = a.letters }
+asking_for a tree =
+    record {
+      names = names_asked a;
+      tree = tree;
+      letters = a.letters;
+      end = a.end;
+      state = a.state;
+    }
 
 -- the run that is started was not begun; or the files are those that are asked for, with pieces of
 -- the cycles that were begun, and it ends as a run does
@@ -28,7 +35,7 @@ abbrev pub RunLeaves : Started → Outside → Outside → Spent → Status → 
 RunLeaves s old new spent status =
     IsUnrun old new spent
     ⊎ (IsOf of_run status × Leaves (asking_for s.asked s.tree) (run_of s)
-    (showing_at_start s.tree s.asked.frames) old new spent)
+    (showing_at_start s.tree s.from s.asked.frames) old new spent)
 
 -- where the reading stops there is no run
 abbrev pub LeavesOf : Result Started Stopped → Outside → Outside → Spent → Status → Type 0

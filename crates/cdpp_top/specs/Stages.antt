@@ -1,5 +1,6 @@
 -- The stages of the program: what each comes to, on the way to the answer.
-use Rattle.std.specs.Prelude.{◌≡◌, ◌≢◌, Option, None, List, [], Result, Ok, Err}
+use Rattle.std.specs.Prelude.{◌≡◌, ◌≢◌, ℕ, Option, Some, None, List, [], ◌∷◌, ◌++◌, Result, Ok, Err}
+use Rattle.std.specs.Option.{is_some}
 use Rattle.quantity.specs.Bytes.{Bytes}
 use Rattle.source_text.specs.Lines.{Files}
 use Rattle.atomic_face.specs.declared.class.Class.{Class}
@@ -8,6 +9,11 @@ use Rattle.room_edge.specs.Outside.{Outside}
 use Rattle.model_tree.specs.Tree.{Word, Tree}
 use Rattle.run_model.specs.Run.{Event}
 use Rattle.event_list.specs.Events.{events_of}
+use Rattle.text_forms.specs.StateOf.{Saved, state_of}
+use Rattle.flat_run.specs.Standing.{Standing, tree_in}
+use Rattle.asked_words.specs.declared.asked.Asked as code
+use Rattle.asked_words.specs.Shown.{asked_of}
+use Rattle.run_loop.specs.Answers.{BeginsFrom}
 use Rattle.model_text.specs.Drawings.{Drawing}
 use Rattle.model_text.specs.Models.{made_text}
 use Rattle.model_text.specs.ModelOf.{ModelRead, model_of}
@@ -17,15 +23,18 @@ use Rattle.answer_model.specs.declared.status.Status.TheVariants.{ReadFault}
 use Rattle.answer_model.specs.Status.{of_reading}
 use Rattle.answer_model.specs.Answer.{Answer}
 use Rattle.answer_model.specs.Asked.{Asked, Source, file, made, asked}
-use Rattle.answer_model.specs.Started.{Started, Stopped, bad_events, by, if_named}
+use Rattle.answer_model.specs.Started.{Started, Stopped, bad_events, bad_state, by, if_named, there}
 use Rattle.answer_model.specs.Cdpp.{stop_answer, answer_of}
 use Rattle.answer_model.specs.Endings.{looked_for, LeadsTo, EndsWith}
 use Rattle.answer_model.specs.FaultsAnswered.{NoReadFault, AnswersFaults}
 use Rattle.answer_model.specs.Headline.{Begins, WritesNothing}
 use Rattle.answer_model.specs.Outcome.{EndsBy}
 use Rattle.answer_model.specs.Programs.{CdppCauses}
+use Rattle.state_file.specs.Loads.{resumed_from, IsRefusalOf}
 use Rattle.cdpp_top.specs.declared.unread.Unread.{Unread}
+use Rattle.cdpp_top.specs.declared.unread.Unread.TheVariants as unread
 use Rattle.cdpp_top.specs.Unread.{TellsUnread}
+use Rattle.cdpp_top.specs.Starting.{going_from}
 
 -- ---- the model
 
@@ -33,6 +42,25 @@ use Rattle.cdpp_top.specs.Unread.{TellsUnread}
 abbrev pub model_in : Source → List Class → Option Drawing → Files → ModelRead
 model_in (file name) classes drawing files = of_name name classes drawing files
 model_in (made size) classes drawing files = model_of (made_text size) files classes drawing
+
+-- ---- a file that may be named
+
+-- what goes on has looked for the names that were looked for before it
+abbrev pub GoesOn : {A : Type 0} → (A × List Word → Answer) → Type 0
+GoesOn {A} go = (p : A × List Word) → Begins p.1 (go p).inputs
+
+-- where these files were looked for, these are now
+abbrev pub LooksFor : List Word → List Word → Outside → Outside → Type 0
+LooksFor inputs more old new =
+    (a : Answer) → Begins more a.inputs → LeadsTo a (looked_for inputs) (looked_for more) old new
+
+-- once it is told why there is nothing, the end of what goes on with what a reading gives
+abbrev pub EndsUnread : {A : Type 0} → (List Word → Result (A × List Word) Stopped) → Unread
+    → Outside → Outside → Type 0
+EndsUnread {A} gives why old new =
+    (inputs : List Word) (go : A × List Word → Answer) → GoesOn go
+    → (after : Outside) (status : Status) → TellsUnread why new after status
+    → EndsWith (by stop_answer (gives inputs) go) (looked_for inputs) old after status
 
 -- ---- the events
 
@@ -42,23 +70,54 @@ abbrev pub events_in : List Bytes → Files → List Word → Option Word
 events_in ports files inputs name =
     if_named [] (λ bytes. events_of bytes ports) bad_events files inputs name
 
--- what goes on has looked for the names that were looked for before it
-abbrev pub GoesOn : (List Event × List Word → Answer) → Type 0
-GoesOn go = (p : List Event × List Word) → Begins p.1 (go p).inputs
-
 -- there are events, and their file was looked for; or, once it is told why there are none, the end
 abbrev pub ReadsEvents : Option Word → List Bytes → Files → Outside → Outside
     → Result (List Event) Unread → Type 0
 ReadsEvents name ports files old new (Ok events) =
     (inputs : List Word)
     → (more : List Word) × (events_in ports files inputs name ≡ Ok (events, more))
-    × ((a : Answer) → Begins more a.inputs
-    → LeadsTo a (looked_for inputs) (looked_for more) old new)
+    × LooksFor inputs more old new
 ReadsEvents name ports files old new (Err why) =
-    (inputs : List Word) (go : List Event × List Word → Answer) → GoesOn go
-    → (after : Outside) (status : Status) → TellsUnread why new after status
-    → EndsWith (by stop_answer (events_in ports files inputs name) go) (looked_for inputs) old
-    after status
+    EndsUnread (λ inputs. events_in ports files inputs name) why old new
+
+-- ---- the state
+
+-- that of a file, where one is named
+abbrev pub state_in : Tree → ℕ → Files → List Word → Option Word
+    → Result (Option Saved × List Word) Stopped
+state_in tree end files inputs name =
+    if_named None (λ bytes. there (state_of bytes tree end)) bad_state files inputs name
+
+-- the state was read that the run goes on from, and its file was looked for; or, once it is told
+-- why there is none, the end
+abbrev pub ReadsState : Option Word → Standing → ℕ → Files → Outside → Outside
+    → Result Standing Unread → Type 0
+ReadsState name s end files old new (Ok r) =
+    (inputs : List Word) → (from : Option Saved) × (more : List Word)
+    × (state_in (tree_in s) end files inputs name ≡ Ok (from, more))
+    × (is_some name ≡ is_some from) × (r ≡ going_from s from) × LooksFor inputs more old new
+ReadsState name s end files old new (Err why) =
+    EndsUnread (λ inputs. state_in (tree_in s) end files inputs name) why old new
+
+-- the bytes of a file of this name, which was looked for
+abbrev pub HasText : Word → Files → Outside → Outside → Bytes → Type 0
+HasText name files old new bytes =
+    (files name ≡ Some bytes) × (new.tried ≡ old.tried ++ name ∷ [])
+
+-- there are none: once it is told why, the end, for each model and end
+abbrev pub HasNoText : Word → Files → Outside → Outside → Unread → Type 0
+HasNoText name files old new why =
+    (tree : Tree) (end : ℕ) → EndsUnread (λ inputs. state_in tree end files inputs (Some name)) why
+    old new
+
+-- a run goes on from the state that bytes give, or they are refused
+abbrev pub GoesOnBy : Bytes → Standing → ℕ → Result Standing Unread → Type 0
+GoesOnBy bytes s end (Ok r) =
+    (saved : Saved) × (state_of bytes (tree_in s) end ≡ Ok saved) × (r ≡ resumed_from s saved)
+GoesOnBy bytes s end (Err (unread.State why)) = IsRefusalOf (state_of bytes (tree_in s) end) why
+GoesOnBy bytes s end (Err why) = ⊥
+
+-- ---- causes
 
 -- no miss is forgotten, and no fault was counted; or, once it is told why there is nothing, the
 -- causes of the end
@@ -70,18 +129,20 @@ ReadCauses old new (Err why) =
 
 -- ---- all that is read
 
--- a start, with the files that were looked for
-abbrev pub start_with : Asked → Tree → List Event → List Word → Started
-start_with a tree events inputs =
-    record { asked = a; tree = tree; events = events; from = None; inputs = inputs }
+-- a run, with what is asked for, is one that is started
+pub record StandsAt (a : code.Asked) (r : Standing) (s : Started) : Type 0 where
+  pub asked_is : asked_of a ≡ s.asked
+  pub tree_is : tree_in r ≡ s.tree
+  pub begins : BeginsFrom s.asked s.events s.from r
 
--- the start and what was looked for; or, once it is told why there is none, the end
-abbrev pub ReadsStart : {A : Type 0} → (A → List Word → Started) → Result Started Stopped → Outside
+-- something that is started was read, and its files were looked for; or, once it is told why there
+-- is nothing, the end
+abbrev pub ReadsStart : {A : Type 0} → (A → Started → Type 0) → Result Started Stopped → Outside
     → Outside → Result A Unread → Type 0
-ReadsStart view started old new (Ok x) =
-    (inputs : List Word) × (started ≡ Ok (view x inputs))
-    × LeadsTo (answer_of started) (looked_for []) (looked_for inputs) old new
-ReadsStart view started old new (Err why) =
+ReadsStart stands started old new (Ok x) =
+    (s : Started) × (started ≡ Ok s) × stands x s
+    × LeadsTo (answer_of started) (looked_for []) (looked_for s.inputs) old new
+ReadsStart stands started old new (Err why) =
     (after : Outside) (status : Status) → TellsUnread why new after status
     → EndsWith (answer_of started) (looked_for []) old after status
 

@@ -1,20 +1,30 @@
 -- The boxes that are handed in, and what a run starts from once the model is read.
-use Rattle.std.specs.Prelude.{◌≡◌, Option, None, List, map}
+use Rattle.std.specs.Prelude.{◌≡◌, ℕ, Option, Some, None, List, map, IsTrue}
+use Rattle.std.specs.Option.{is_some}
 use Rattle.atomic_face.specs.declared.class.Class.{Class}
 use Rattle.atomic_face.specs.Held.{Held}
 use Rattle.atomic_face.specs.StockView.{Stocked}
 use Rattle.model_tree.specs.declared.table.Model.{Model}
-use Rattle.model_tree.specs.Tree.{Tree}
+use Rattle.model_tree.specs.Tree.{Word, Tree}
 use Rattle.model_tree.specs.Models.{tree_of}
+use Rattle.model_tree.specs.Sound.{is_sound_model}
 use Rattle.started_boxes.specs.Boxes.{settings_in}
 use Rattle.route_flat.specs.declared.routes.Routes.{Routes}
 use Rattle.model_text.specs.Drawings.{drawing_refused}
 use Rattle.model_read.specs.Read.{IsReady}
+use Rattle.run_model.specs.Fitting.{FitsTree}
+use Rattle.run_model.specs.Run.{Event, start}
+use Rattle.run_leaves.specs.Seated as seated
+use Rattle.text_forms.specs.StateOf.{Saved}
+use Rattle.flat_run.specs.Standing.{Standing, tree_in}
+use Rattle.state_file.specs.Loads.{resumed_from}
+use Rattle.saved_runs.specs.Accepted.{IsRead}
 use Rattle.answer_model.specs.Started.{drawing_of}
 use Rattle.asked_words.specs.declared.asked.Asked.{Asked}
 use Rattle.asked_words.specs.declared.group.GroupAt.{GroupAt}
-use Rattle.asked_words.specs.Shown.{asked_of, IsInBounds}
+use Rattle.asked_words.specs.Shown.{text_of_name, asked_of, IsInBounds}
 use Rattle.run_files.specs.Groups.{IsFoundIn}
+use Rattle.run_loop.specs.Answers.{MayRun}
 
 -- the classes of boxes, by what each of them means
 abbrev pub classes_by : {X : Type 0} → (X → Held) → List X → List Class
@@ -32,3 +42,41 @@ pub record MayStart (a : Asked) (stock : List Stocked) (m : Model) (routes : Rou
   pub ready : IsReady stock m routes
   pub drawn : drawing_refused (drawing_of (asked_of a).frames) (tree_on m stock) ≡ None
   pub found : IsFoundIn m (asked_of a).frames group
+
+-- ---- the run
+
+-- a run stands at the start of a model whose boxes are those of a stock, with these events
+pub record IsMadeOf (s : Standing) (m : Model) (stock : List Stocked) (events : List Event)
+    (end limit : ℕ) : Type 0 where
+  pub model : s.model ≡ m
+  pub settings : s.settings ≡ seated.settings_in stock
+  pub state : s.state ≡ start (tree_in s) events
+  pub end_is : s.end ≡ end
+  pub limit_is : s.limit ≡ limit
+  pub goes : s.stopped ≡ None
+
+-- no cycle of it was made, and its states are those of a sound model: it may go on from another state
+pub record MayGoOn (s : Standing) : Type 0 where
+  pub fresh : (s.state.last ≡ None) × (s.stopped ≡ None) × (s.state.count ≡ 0)
+  pub fits : FitsTree (tree_in s) s.state.leaf_states
+  pub sound : IsTrue (is_sound_model (tree_in s))
+
+-- a run at its start goes on from a state, if there is one
+abbrev pub going_from : Standing → Option Saved → Standing
+going_from s None = s
+going_from s (Some saved) = resumed_from s saved
+
+-- the run goes on from what a file of this name gives, if one is named, as some text is read
+pub record IsResumed (name : Option Word) (s : Standing) (end : ℕ) (r : Standing) : Type 0 where
+  pub from : Option Saved
+  pub named : is_some name ≡ is_some from
+  pub read : IsRead (tree_in s) end from
+  pub goes : r ≡ going_from s from
+
+-- each run of what may be started, from its start or from a state that is read, may be run
+abbrev pub RunsMayRun : Type 0
+RunsMayRun =
+    (a : Asked) (stock : List Stocked) (m : Model) (routes : Routes) (group : Option GroupAt)
+    (events : List Event) (s r : Standing) → MayStart a stock m routes group
+    → IsMadeOf s m stock events a.end a.given.limit
+    → IsResumed (text_of_name a.given.state) s a.end r → MayRun a group r

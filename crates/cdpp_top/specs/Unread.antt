@@ -3,6 +3,8 @@ use Rattle.std.specs.Prelude.{◌≡◌}
 use Rattle.room_edge.specs.Outside.{Outside}
 use Rattle.event_list.specs.declared.refusal.EventRefusal.{EventRefusal}
 use Rattle.event_list.specs.declared.refusal.EventRefusal.TheVariants as E
+use Rattle.text_forms.specs.declared.refusal.StateRefusal.{StateRefusal}
+use Rattle.text_forms.specs.declared.refusal.StateRefusal.TheVariants as S
 use Rattle.text_forms.specs.Lines.{ended}
 use Rattle.model_text.specs.Refusals.{refusal}
 use Rattle.model_files.specs.declared.refusal.ModelRefusal.{ModelRefusal}
@@ -11,7 +13,8 @@ use Rattle.answer_model.specs.declared.status.Status.{Status}
 use Rattle.answer_model.specs.declared.status.Status.TheVariants as exit
 use Rattle.answer_model.specs.Answer.{read_fault_line}
 use Rattle.answer_model.specs.Asked.{usage}
-use Rattle.answer_model.specs.Started.{Stop, bad_words, no_file, bad_model, bad_events, line_of, status_of}
+use Rattle.answer_model.specs.Started.{Stop, bad_words, no_file, bad_model, bad_events, bad_state}
+use Rattle.answer_model.specs.Started.{line_of, status_of}
 use Rattle.answer_model.specs.Endings.{Says}
 use Rattle.cdpp_top.specs.declared.unread.Unread.{Unread}
 use Rattle.cdpp_top.specs.declared.unread.Unread.TheVariants as why
@@ -41,6 +44,16 @@ TellsEvents (E.TooLarge line) old new status =
     TellsStop (bad_events (E.TooLarge line)) old new status
 TellsEvents E.Memory old new status = TellsNothing old new status
 
+-- why a state is refused
+abbrev pub TellsState : StateRefusal → Outside → Outside → Status → Type 0
+TellsState (S.BadStateLine line) old new status =
+    TellsStop (bad_state (S.BadStateLine line)) old new status
+TellsState (S.EndBefore line) old new status =
+    TellsStop (bad_state (S.EndBefore line)) old new status
+TellsState (S.TooLarge line) old new status =
+    TellsStop (bad_state (S.TooLarge line)) old new status
+TellsState S.Memory old new status = TellsNothing old new status
+
 -- a line tells why
 abbrev pub TellsUnread : Unread → Outside → Outside → Status → Type 0
 TellsUnread why.Usage old new status = TellsStop (bad_words usage) old new status
@@ -50,4 +63,5 @@ TellsUnread (why.ReadFault name) old new status =
 TellsUnread (why.Model line kind) old new status =
     TellsStop (bad_model (refusal line kind)) old new status
 TellsUnread (why.Events refusal) old new status = TellsEvents refusal old new status
+TellsUnread (why.State refusal) old new status = TellsState refusal old new status
 TellsUnread why.Memory old new status = TellsNothing old new status

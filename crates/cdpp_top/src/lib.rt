@@ -1,4 +1,5 @@
-//! The program: words, a model, its events, and its run, over any room.
+//! The program: words, a model, its events, the state that its run goes on from, and its run, over
+//! any room.
 #![tactic(auto)]
 
 mod events;
@@ -8,6 +9,7 @@ mod program;
 mod read;
 mod run;
 mod start;
+mod state;
 mod sure;
 mod tell;
 mod unread;

@@ -22,9 +22,9 @@ use told_lines::Status;
 
 /// Runs the program for the words of a command line, of which the first is its name, with these
 /// boxes for atomic components. Answers what a process ends with: the run is done, and its end is
-/// shown; the words are refused; a file is missing; a read failed; a write failed; the model or the
-/// events are refused; a cell or a box stops the run; an instant has too many cycles; want of
-/// memory.
+/// shown; the words are refused; a file is missing; a read failed; a write failed; the model, the
+/// events or the state that the run is to go on from are refused; a cell or a box stops the run; an
+/// instant has too many cycles; want of memory.
 pub fn cdpp<R: Room, M: AtomicModel, L: Ledger>(
     alloc: Global,
     words: &[String],
@@ -46,7 +46,8 @@ pub fn cdpp<R: Room, M: AtomicModel, L: Ledger>(
     // Over every room: each fault that was counted shows in the status.
     ensures faults { AnswersFaults (R.outside room.old) (R.outside room.new) result }
     // At most the visits that the reference run of what is asked for may cost: each leaf once, and
-    // then in each cycle only for the values given and for the leaves that move.
+    // then in each cycle only for the values given and for the leaves that move; and each leaf once
+    // more for a state that is read, and for one that is saved.
     ensures visits { IfSome (R.outside room.old).files (λ files. steps.new ≤ steps.old
         + visits_for (map string_bytes words.now) files (classes_by (λ m. M.held m) boxes.items)) }
     // However the run ends, some number of its cycles was begun: the files have pieces of these, in

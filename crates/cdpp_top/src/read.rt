@@ -1,9 +1,7 @@
-// All that is read before a run: words, a model, its events.
+// All that is read before a run: words, a model, its events, the state that it goes on from.
 ghost use Rattle.std.specs.Prelude.{◌≡◌, ◌<◌, ◌≤◌, ◌^◌, None, IfSome, IfOk, IsTrue, length, map, not};
 ghost use Rattle.std.specs.List.{list_all};
 ghost use Rattle.std.specs.String.{string_bytes};
-ghost use Rattle.model_tree.specs.Tree.{ins_of};
-ghost use Rattle.sparse_cycle.specs.Feed.{AreAtInputs};
 ghost use Rattle.room_edge.specs.Outside.{OnlyInput};
 ghost use Rattle.model_stock.specs.Settled.{classes_of};
 ghost use Rattle.model_text.specs.Drawings.{drawing_refused};
@@ -12,11 +10,13 @@ ghost use Rattle.model_read.specs.Read.{Reads};
 ghost use Rattle.answer_model.specs.Asked.{made};
 ghost use Rattle.answer_model.specs.Started.{drawing_of, inputs_read, started};
 ghost use Rattle.asked_words.specs.Shown.{asked_of, source_of, IsInBounds, IsOfSize};
-ghost use Rattle.cdpp_top.specs.Starting.{classes_by, tree_on, MayStart};
-ghost use Rattle.cdpp_top.specs.Stages.{model_in, start_with, ReadCauses, ReadsStart, StartCauses};
+ghost use Rattle.run_loop.specs.Answers.{MayRun};
+ghost use Rattle.cdpp_top.specs.Starting.{classes_by, tree_on};
+ghost use Rattle.cdpp_top.specs.Stages.{model_in, ReadCauses, ReadsStart, StandsAt, StartCauses};
 
 use crate::events::read_events;
-use crate::start::Start;
+use crate::start::{Start, run_at_start, runs_may_run};
+use crate::state::read_state;
 use crate::unread::Unread;
 use asked_words::{Asked, FramesFile, Source, read_words};
 use atomic_face::{AtomicModel, Stock};
@@ -25,7 +25,8 @@ use model_read::{ModelRefusal, ReadModel, read_model, read_model_bytes};
 use room_edge::Room;
 use std::alloc::Global;
 
-/// Reads what the words ask for: the words themselves, the model with these boxes, and its events.
+/// Reads what the words ask for: the words themselves, the model with these boxes, its events, and
+/// the state that its run goes on from.
 pub(crate) fn read<'a, R: Room, M: AtomicModel>(
     alloc: Global,
     words: &'a [String],
@@ -34,14 +35,13 @@ pub(crate) fn read<'a, R: Room, M: AtomicModel>(
 ) -> Result<Start<'a, M>, Unread>
     requires few { length boxes.items < 2 ^ 32 }
     ensures reads { IfSome (R.outside room.old).files (λ files. ReadsStart
-        (λ s inputs. start_with (asked_of s.asked) (tree_on s.model s.stock) s.events inputs)
+        (λ x. StandsAt x.asked x.run)
         (started (map string_bytes words.entry.now) files (classes_by (λ m. M.held m) boxes.items))
         (R.outside room.old) (R.outside room.new) result) }
     ensures causes { StartCauses (map string_bytes words.entry.now)
         (R.outside room.old) (R.outside room.new) result }
     ensures only { OnlyInput (R.outside room.old) (R.outside room.new) }
-    ensures may_start { IfOk result (λ s. MayStart s.asked s.stock s.model s.routes s.drawn) }
-    ensures at_inputs { IfOk result (λ s. AreAtInputs (ins_of (tree_on s.model s.stock)) s.events) }
+    ensures may_run { IfOk result (λ x. MayRun x.asked x.drawn x.run) }
 {
     match read_words(alloc, words) {
         Ok(Some(asked)) => read_inputs(alloc, asked, boxes, room),
@@ -50,7 +50,8 @@ pub(crate) fn read<'a, R: Room, M: AtomicModel>(
     }
 }
 
-/// Reads the model that is asked for, with these boxes, and its events.
+/// Reads the model that is asked for, with these boxes, its events, and the state that its run goes
+/// on from.
 fn read_inputs<'a, R: Room, M: AtomicModel>(
     alloc: Global,
     asked: Asked<'a>,
@@ -60,25 +61,21 @@ fn read_inputs<'a, R: Room, M: AtomicModel>(
     requires few { length boxes.items < 2 ^ 32 }
     requires bounds { IsInBounds asked }
     ensures reads { IfSome (R.outside room.old).files (λ files. ReadsStart
-        (λ s inputs. start_with (asked_of s.asked) (tree_on s.model s.stock) s.events inputs)
+        (λ x. StandsAt x.asked x.run)
         (inputs_read (asked_of asked.entry) files (classes_by (λ m. M.held m) boxes.items))
         (R.outside room.old) (R.outside room.new) result) }
     ensures causes { ReadCauses (R.outside room.old) (R.outside room.new) result }
     ensures only { OnlyInput (R.outside room.old) (R.outside room.new) }
-    ensures may_start { IfOk result (λ s. MayStart s.asked s.stock s.model s.routes s.drawn) }
-    ensures at_inputs { IfOk result (λ s. AreAtInputs (ins_of (tree_on s.model s.stock)) s.events) }
+    ensures may_run { IfOk result (λ x. MayRun x.asked x.drawn x.run) }
 {
+    runs_may_run();
     let mut stock = Stock::new(alloc, boxes)?;
     let read = read_source(alloc, room, &asked, &mut stock)?;
     let events = read_events(alloc, room, asked.given.events, &read.model.top().ins)?;
-    Ok(Start {
-        asked,
-        model: read.model,
-        routes: read.routes,
-        drawn: read.drawn,
-        stock,
-        events,
-    })
+    let drawn = read.drawn;
+    let at_start = run_at_start(alloc, &asked, read, stock, events)?;
+    let run = read_state(alloc, room, asked.given.state, at_start, asked.end)?;
+    Ok(Start { asked, drawn, run })
 }
 
 /// The model that is asked for: of a file, or made.

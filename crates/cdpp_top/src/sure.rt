@@ -1,9 +1,10 @@
 // Over a room that never fails, what comes is the answer.
-ghost use Rattle.std.specs.Prelude.{◌≡◌, ◌<◌, ◌^◌, ◌⊎◌, length, map, IfSome};
+ghost use Rattle.std.specs.Prelude.{◌≡◌, ◌+◌, ◌<◌, ◌≤◌, ◌^◌, ◌⊎◌, length, map, IfSome};
 ghost use Rattle.std.specs.String.{string_bytes};
 ghost use Rattle.room_edge.specs.Sure.{sure_outside};
 ghost use Rattle.answer_model.specs.Cdpp.{answer};
 ghost use Rattle.answer_model.specs.Headline.{Writes};
+ghost use Rattle.answer_model.specs.Visits.{visits_for};
 ghost use Rattle.answer_model.specs.declared.status.Status.TheVariants.{NoMemory};
 ghost use Rattle.cdpp_top.specs.Starting.{classes_by};
 
@@ -15,7 +16,8 @@ use std::alloc::Global;
 use std::sync::ledger::Ledger;
 use told_lines::Status;
 
-/// Runs the program over a room that never fails: what comes is the answer, but for want of memory.
+/// Runs the program over a room that never fails: what comes is the answer, but for want of memory,
+/// with no more visits than the reference run may cost.
 pub fn cdpp_surely<L: Ledger>(
     alloc: Global,
     words: &[String],
@@ -24,10 +26,13 @@ pub fn cdpp_surely<L: Ledger>(
     steps: &mut Steps<L>,
 ) -> Status
     requires few { length boxes.items < 2 ^ 32 }
-    ensures { IfSome (sure_outside room.old).files (λ files. (result ≡ NoMemory) ⊎ Writes
+    ensures writes { IfSome (sure_outside room.old).files (λ files. (result ≡ NoMemory) ⊎ Writes
         (answer (map string_bytes words.now) files
         (classes_by (λ b. (AtomicModel-box b).held b.value) boxes.items))
         (sure_outside room.old) (sure_outside room.new) result) }
+    ensures visits { IfSome (sure_outside room.old).files (λ files. steps.new ≤ steps.old
+        + visits_for (map string_bytes words.now) files
+        (classes_by (λ b. (AtomicModel-box b).held b.value) boxes.items)) }
 {
     cdpp(alloc, words, boxes, room, steps)
 }

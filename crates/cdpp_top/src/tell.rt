@@ -1,17 +1,18 @@
 // What is told where nothing is read that a run could start from.
 ghost use Rattle.std.specs.Prelude.{◌++◌, codes};
 ghost use Rattle.text_forms.specs.Lines.{ended};
-ghost use Rattle.answer_model.specs.declared.status.Status.TheVariants.{Usage, EventsRefused};
+ghost use Rattle.answer_model.specs.declared.status.Status.TheVariants.{Usage, EventsRefused, StateRefused};
 ghost use Rattle.answer_model.specs.Answer.{refused_text};
 ghost use Rattle.answer_model.specs.Asked.{usage};
 ghost use Rattle.answer_model.specs.Endings.{Says};
-ghost use Rattle.cdpp_top.specs.Unread.{TellsEvents, TellsUnread};
+ghost use Rattle.cdpp_top.specs.Unread.{TellsEvents, TellsState, TellsUnread};
 
 use crate::lines::refused_line;
 use crate::unread::Unread;
 use event_list::EventRefusal;
 use room_edge::Room;
 use std::alloc::Global;
+use text_forms::StateRefusal;
 use told_lines::{Status, complain, complain_of};
 use word_options::usage_line;
 
@@ -42,6 +43,7 @@ pub(crate) fn tell_unread<R: Room>(alloc: Global, room: &mut R, why: Unread) -> 
             Status::ModelRefused,
         ),
         Unread::Events(refusal) => tell_events(alloc, room, refusal),
+        Unread::State(refusal) => tell_state(alloc, room, refusal),
         Unread::Memory => Status::NoMemory,
     }
 }
@@ -75,6 +77,26 @@ fn refuse_events<R: Room>(alloc: Global, room: &mut R, line: u32, why: &[u8]) ->
         (R.outside room.old) (R.outside room.new) result }
 {
     tell_refused(alloc, room, b"events", line, why, Status::EventsRefused)
+}
+
+/// Tells why a state is refused, as far as it can.
+fn tell_state<R: Room>(alloc: Global, room: &mut R, why: StateRefusal) -> Status
+    ensures { TellsState why (R.outside room.old) (R.outside room.new) result }
+{
+    match why {
+        StateRefusal::BadStateLine(line) => refuse_state(alloc, room, line, b"1 BadStateLine"),
+        StateRefusal::EndBefore(line) => refuse_state(alloc, room, line, b"2 EndBefore"),
+        StateRefusal::TooLarge(line) => refuse_state(alloc, room, line, b"3 TooLarge"),
+        StateRefusal::Memory => Status::NoMemory,
+    }
+}
+
+/// Tells at which line the state is refused, and why.
+fn refuse_state<R: Room>(alloc: Global, room: &mut R, line: u32, why: &[u8]) -> Status
+    ensures { Says (ended (refused_text (codes "state") line why.now)) StateRefused
+        (R.outside room.old) (R.outside room.new) result }
+{
+    tell_refused(alloc, room, b"state", line, why, Status::StateRefused)
 }
 
 /// Complains of what is refused.

@@ -3,6 +3,7 @@ use event_list::EventRefusal;
 use model_read::ModelRefusal;
 use model_text::Kind;
 use quantity::{OutOfMemory, Text};
+use text_forms::StateRefusal;
 
 /// Why there is nothing to start a run from.
 #[derive(Drop)]
@@ -17,6 +18,8 @@ pub(crate) enum Unread {
     Model { line: u32, kind: Kind },
     /// The events are refused.
     Events(EventRefusal),
+    /// The state that the run is to go on from is refused.
+    State(StateRefusal),
     /// There is no memory.
     Memory,
 }

@@ -1,11 +1,7 @@
 -- Bytes that are added to one of the files, and texts that are added one after another.
-use Rattle.std.proofs.Common.{◌≡◌, ◌≢◌, ℕ, ◌<◌, ◌≤◌, Bool, false, Option, Some, None, List, [], ◌∷◌, ◌++◌, length, take, refl, sym, ap, ◌∙◌, subst, append_assoc, length-append, arith, rules}
-use Rattle.std.specs.Prelude.{Contains, IsSome, ◌||◌, Result, Ok, Err}
-use Rattle.std.specs.Str.{bytes_eq}
+use Rattle.std.proofs.Common.{◌≡◌, ◌≢◌, ℕ, ◌<◌, ◌≤◌, Some, None, List, [], ◌∷◌, ◌++◌, length, take, refl, sym, ap, ◌∙◌, subst, append_assoc, length-append, arith}
+use Rattle.std.specs.Prelude.{IsSome, Result, Ok, Err}
 use Rattle.std.proofs.lemmas.List.{append-nil, append_cancel_left}
-use Rattle.std.proofs.lemmas.List.Elements.{Contains-append_right}
-use Rattle.std.proofs.lemmas.List.Folds.{list_any-append}
-use Rattle.std.proofs.lemmas.Slice.Eq.{bytes_eq-Decides}
 use Rattle.quantity.specs.Bytes.{Bytes}
 use Rattle.model_tree.specs.Tree.{Word}
 use Rattle.room_edge.specs.Faults.{WriteFaultCounted, KeepsWriteFaults}
@@ -13,40 +9,47 @@ use Rattle.room_edge.specs.Outside.{Outside, OnlyMade, adds}
 use Rattle.room_edge.proofs.Only.{OnlyMade-refl, OnlyMade-trans}
 use Rattle.answer_model.specs.Answer.{MadeFiles}
 use Rattle.answer_model.specs.Headline.{Begins}
-use Rattle.answer_model.specs.RunFiles.{file_if}
-use Rattle.answer_model.specs.Steps.{is_made, grown}
+use Rattle.answer_model.specs.Steps.{grown}
 use Rattle.answer_model.specs.FaultsAnswered.{NoWriteFault}
 use Rattle.answer_model.specs.Endings.{made_after, LeadsTo}
 use Rattle.answer_model.proofs.Endings.{steps_lead, rose_later, le_more}
 use Rattle.answer_model.proofs.Said.{short_of}
 use Rattle.answer_model.proofs.Stages.{then_leads, grown_at, made_there}
 use Rattle.run_files.specs.declared.outputs.Output.{Output}
-use Rattle.run_files.specs.declared.outputs.Output.TheVariants.{Log, Out, Frames}
+use Rattle.run_files.specs.declared.outputs.Output.TheVariants.{Log, Out, Frames, State}
 use Rattle.run_files.specs.declared.outputs.Unwritten.{Unwritten}
 use Rattle.run_files.specs.declared.outputs.Unwritten.TheVariants.{Fault, Memory}
-use Rattle.run_files.specs.Texts.{Names, Texts, no_texts, both, only, files, name_at, text_at, Differ, AreApart, AreCreated}
+use Rattle.run_files.specs.Texts.{Names, Texts, no_texts, both, only, files, name_at, text_at, AreApart}
 use Rattle.run_files.specs.Order.{Piece, piece_of, one_piece, texts_of, WritesInOrder}
 use Rattle.run_files.specs.Written.{Adds, AddsAll, Falls, FaultCounted, Writes}
+use Rattle.run_files.proofs.Around.{files_before, files_behind, files_at, files_without, has_file, not_behind}
 
 -- ---- texts
 
 -- more bytes in one of the texts
 abbrev pub grown_text : Texts → Output → Bytes → Texts
-grown_text t Log bytes = record { log = t.log ++ bytes; out = t.out; frames = t.frames }
-grown_text t Out bytes = record { log = t.log; out = t.out ++ bytes; frames = t.frames }
-grown_text t Frames bytes = record { log = t.log; out = t.out; frames = t.frames ++ bytes }
+grown_text t Log bytes = record t { log = t.log ++ bytes }
+grown_text t Out bytes = record t { out = t.out ++ bytes }
+grown_text t Frames bytes = record t { frames = t.frames ++ bytes }
+grown_text t State bytes = record t { state = t.state ++ bytes }
 
 pub both_only : (t : Texts) (file : Output) (bytes : Bytes) → both t (only file bytes) ≡ grown_text t file bytes
-both_only t Log bytes = λ i. record { log = t.log ++ bytes; out = append-nil t.out i; frames = append-nil t.frames i }
-both_only t Out bytes = λ i. record { log = append-nil t.log i; out = t.out ++ bytes; frames = append-nil t.frames i }
-both_only t Frames bytes = λ i. record { log = append-nil t.log i; out = append-nil t.out i; frames = t.frames ++ bytes }
+both_only t Log bytes = λ i. record { log = t.log ++ bytes; out = append-nil t.out i; frames = append-nil t.frames i; state = append-nil t.state i }
+both_only t Out bytes = λ i. record { log = append-nil t.log i; out = t.out ++ bytes; frames = append-nil t.frames i; state = append-nil t.state i }
+both_only t Frames bytes = λ i. record { log = append-nil t.log i; out = append-nil t.out i; frames = t.frames ++ bytes; state = append-nil t.state i }
+both_only t State bytes = λ i. record { log = append-nil t.log i; out = append-nil t.out i; frames = append-nil t.frames i; state = t.state ++ bytes }
 
 pub both_assoc : (a b c : Texts) → both (both a b) c ≡ both a (both b c)
 both_assoc a b c =
-    λ i. record { log = append_assoc a.log b.log c.log i; out = append_assoc a.out b.out c.out i; frames = append_assoc a.frames b.frames c.frames i }
+    λ i. record {
+      log = append_assoc a.log b.log c.log i;
+      out = append_assoc a.out b.out c.out i;
+      frames = append_assoc a.frames b.frames c.frames i;
+      state = append_assoc a.state b.state c.state i;
+    }
 
 both_none : (t : Texts) → both t no_texts ≡ t
-both_none t = λ i. record { log = append-nil t.log i; out = append-nil t.out i; frames = append-nil t.frames i }
+both_none t = λ i. record { log = append-nil t.log i; out = append-nil t.out i; frames = append-nil t.frames i; state = append-nil t.state i }
 
 pub one_text : (file : Output) (bytes : Bytes) → texts_of (one_piece file bytes) ≡ only file bytes
 one_text file bytes = both_none (only file bytes)
@@ -64,90 +67,33 @@ no_fewer old new sure = by old.write_faults new.write_faults sure
     by : (a b : ℕ) → b ≡ a → a ≤ b
     by a b e = omega (arith, e)
 
--- ---- names that differ
-
-differs_back : (a b : Word) → bytes_eq a b ≡ false → bytes_eq b a ≡ false
-differs_back a b e = search (rules, bytes_eq-Decides)
-
--- the name is no other's
-pub not_if : (name : Word) (o : Option Word) (bytes : Bytes) → Differ (Some name) o → is_made name (file_if o bytes) ≡ false
-not_if name None bytes d = refl
-not_if name (Some other) bytes d = ap (λ b. b || false) (differs_back name other d)
-
-pub not_after : (name : Word) (o : Option Word) (bytes : Bytes) → Differ o (Some name) → is_made name (file_if o bytes) ≡ false
-not_after name None bytes d = refl
-not_after name (Some other) bytes d = ap (λ b. b || false) d
-
-both_off : (p q : Bool) → p ≡ false → q ≡ false → (p || q) ≡ false
-both_off p q a b = rw (a, b) refl
-
-pub not_both : (name : Word) (fs gs : MadeFiles) → is_made name fs ≡ false → is_made name gs ≡ false → is_made name (fs ++ gs) ≡ false
-not_both name fs gs a b = list_any-append (λ (f : Word × Bytes). bytes_eq f.0 name) fs gs ∙ both_off (is_made name fs) (is_made name gs) a b
-
 -- ---- one of the files grows
 
-abbrev pub named : Option Word → Option Word → Option Word → Names
-named l o f = record { log = l; out = o; frames = f }
+text_grown : (t : Texts) (file : Output) (bytes : Bytes) → text_at (grown_text t file bytes) file ≡ text_at t file ++ bytes
+text_grown t Log bytes = refl
+text_grown t Out bytes = refl
+text_grown t Frames bytes = refl
+text_grown t State bytes = refl
 
-grown_log : (l : Word) (o f : Option Word) (t : Texts) (bytes : Bytes) → Differ (Some l) o → Differ (Some l) f
-    → grown l bytes (files (named (Some l) o f) t) ≡ files (named (Some l) o f) (grown_text t Log bytes)
-grown_log l o f t bytes a b =
-    let off = not_both l (file_if o t.out) (file_if f t.frames) (not_if l o t.out a) (not_if l f t.frames b) in
-    grown_at [] (file_if o t.out ++ file_if f t.frames) l t.log bytes off
+-- the others stay
+others_stay : (n : Names) (t : Texts) (file : Output) (bytes : Bytes) (here : MadeFiles)
+    → files_before n (grown_text t file bytes) file ++ (here ++ files_behind n (grown_text t file bytes) file) ≡ files_before n t file ++ (here ++ files_behind n t file)
+others_stay n t Log bytes here = refl
+others_stay n t Out bytes here = refl
+others_stay n t Frames bytes here = refl
+others_stay n t State bytes here = refl
 
-grown_out : (l : Option Word) (o : Word) (f : Option Word) (t : Texts) (bytes : Bytes) → Differ (Some o) f
-    → grown o bytes (files (named l (Some o) f) t) ≡ files (named l (Some o) f) (grown_text t Out bytes)
-grown_out None o f t bytes b = grown_at [] (file_if f t.frames) o t.out bytes (not_if o f t.frames b)
-grown_out (Some l) o f t bytes b = grown_at ((l, t.log) ∷ []) (file_if f t.frames) o t.out bytes (not_if o f t.frames b)
-
-grown_frames : (l o : Option Word) (f : Word) (t : Texts) (bytes : Bytes)
-    → grown f bytes (files (named l o (Some f)) t) ≡ files (named l o (Some f)) (grown_text t Frames bytes)
-grown_frames l o f t bytes = grown_at (file_if l t.log ++ file_if o t.out) [] f t.frames bytes refl
-
-pub grown_file : (l o f : Option Word) (t : Texts) (file : Output) (name : Word) (bytes : Bytes) → AreApart (named l o f) → name_at (named l o f) file ≡ Some name
-    → grown name bytes (files (named l o f) t) ≡ files (named l o f) (grown_text t file bytes)
-grown_file None o f t Log name bytes apart is = absurd (cc)
-grown_file (Some l) o f t Log name bytes apart is =
-    let same : l ≡ name = cc in
-    subst (λ (w : Word). grown w bytes (files (named (Some l) o f) t) ≡ files (named (Some l) o f) (grown_text t Log bytes)) same (grown_log l o f t bytes apart.log_out apart.log_frames)
-grown_file l None f t Out name bytes apart is = absurd (cc)
-grown_file l (Some o) f t Out name bytes apart is =
-    let same : o ≡ name = cc in
-    subst (λ (w : Word). grown w bytes (files (named l (Some o) f) t) ≡ files (named l (Some o) f) (grown_text t Out bytes)) same (grown_out l o f t bytes apart.out_frames)
-grown_file l o None t Frames name bytes apart is = absurd (cc)
-grown_file l o (Some f) t Frames name bytes apart is =
-    let same : f ≡ name = cc in
-    subst (λ (w : Word). grown w bytes (files (named l o (Some f)) t) ≡ files (named l o (Some f)) (grown_text t Frames bytes)) same (grown_frames l o f t bytes)
-
--- the file is among those that are made
-pub has_file : (l o f : Option Word) (t : Texts) (file : Output) (name : Word) → name_at (named l o f) file ≡ Some name
-    → Contains {X = Word × Bytes} (files (named l o f) t) (name, text_at t file)
-has_file None o f t Log name is = absurd (cc)
-has_file (Some l) o f t Log name is =
-    let same : l ≡ name = cc in
-    subst (λ (w : Word). Contains {X = Word × Bytes} (files (named (Some l) o f) t) (w, t.log)) same (0, omega arith, refl)
-has_file l None f t Out name is = absurd (cc)
-has_file None (Some o) f t Out name is =
-    let same : o ≡ name = cc in
-    subst (λ (w : Word). Contains {X = Word × Bytes} (files (named None (Some o) f) t) (w, t.out)) same (0, omega arith, refl)
-has_file (Some l) (Some o) f t Out name is =
-    let same : o ≡ name = cc in
-    subst (λ (w : Word). Contains {X = Word × Bytes} (files (named (Some l) (Some o) f) t) (w, t.out)) same (1, omega arith, refl)
-has_file l o None t Frames name is = absurd (cc)
-has_file l o (Some f) t Frames name is =
-    let same : f ≡ name = cc in
-    subst (λ (w : Word). Contains {X = Word × Bytes} (files (named l o (Some f)) t) (w, t.frames)) same
-    (Contains-append_right (file_if l t.log ++ file_if o t.out) ((f, t.frames) ∷ []) (f, t.frames) (0, omega arith, refl))
+pub grown_file : (n : Names) (t : Texts) (file : Output) (name : Word) (bytes : Bytes) → AreApart n → name_at n file ≡ Some name → grown name bytes (files n t) ≡ files n (grown_text t file bytes)
+grown_file n t file name bytes apart is =
+    let more = grown_text t file bytes in
+    ap (grown name bytes) (files_at n t file name is)
+    ∙ grown_at (files_before n t file) (files_behind n t file) name (text_at t file) bytes (not_behind n t file name apart is)
+    ∙ ap (λ (text : Bytes). files_before n t file ++ (name, text) ∷ files_behind n t file) (sym (text_grown t file bytes))
+    ∙ sym (files_at n more file name is ∙ others_stay n t file bytes ((name, text_at more file) ∷ []))
 
 -- a file that isn't made has no bytes
-none_same : (l o f : Option Word) (t : Texts) (file : Output) (bytes : Bytes) → name_at (named l o f) file ≡ None
-    → files (named l o f) (grown_text t file bytes) ≡ files (named l o f) t
-none_same None o f t Log bytes is = refl
-none_same (Some l) o f t Log bytes is = absurd (cc)
-none_same l None f t Out bytes is = refl
-none_same l (Some o) f t Out bytes is = absurd (cc)
-none_same l o None t Frames bytes is = refl
-none_same l o (Some f) t Frames bytes is = absurd (cc)
+none_same : (n : Names) (t : Texts) (file : Output) (bytes : Bytes) → name_at n file ≡ None → files n (grown_text t file bytes) ≡ files n t
+none_same n t file bytes is = files_without n (grown_text t file bytes) file is ∙ others_stay n t file bytes [] ∙ sym (files_without n t file is)
 
 -- ---- what is added
 
@@ -157,8 +103,8 @@ pub added : (n : Names) (file : Output) (name : Word) (bytes : Bytes) (old new :
 added n file name bytes old new apart is made created only_made keeps =
     record {
       leads = λ t a inputs.
-          let there = made_there (files n t) name (text_at t file) (has_file n.log n.out n.frames t file name is) in
-          let grows = grown_file n.log n.out n.frames t file name bytes apart is in
+          let there = made_there (files n t) name (text_at t file) (has_file n t file name is) in
+          let grows = grown_file n t file name bytes apart is in
           let texts = ap (files n) (sym (both_only t file bytes)) in
           subst (λ (fs : MadeFiles). LeadsTo a (made_after inputs (files n t)) (made_after inputs fs) old new) (grows ∙ texts)
           (steps_lead.appending a (made_after inputs (files n t)) old new name bytes there (made, created, only_made) keeps);
@@ -172,7 +118,7 @@ none_more : (n : Names) (file : Output) (bytes : Bytes) (now : Outside) → name
 none_more n file bytes now is =
     record {
       leads = λ t a inputs.
-          let texts = ap (files n) (both_only t file bytes) ∙ none_same n.log n.out n.frames t file bytes is in
+          let texts = ap (files n) (both_only t file bytes) ∙ none_same n t file bytes is in
           subst (λ (fs : MadeFiles). LeadsTo a (made_after inputs (files n t)) (made_after inputs fs) now now) (sym texts) (λ start way. way);
       created = refl;
       keeps = omega arith;
@@ -180,18 +126,21 @@ none_more n file bytes now is =
     }
 
 -- no text is added
-nothing : (t : Texts) → both t (only Frames []) ≡ t
-nothing t = both_only t Frames [] ∙ (λ i. record { log = t.log; out = t.out; frames = append-nil t.frames i })
-
-pub adds_nothing : (n : Names) (now : Outside) → Adds n (only Frames []) now now
-adds_nothing n now =
+adds_none : (n : Names) (now : Outside) → Adds n no_texts now now
+adds_none n now =
     record {
       leads = λ t a inputs.
-          subst (λ (fs : MadeFiles). LeadsTo a (made_after inputs (files n t)) (made_after inputs fs) now now) (sym (ap (files n) (nothing t))) (λ start way. way);
+          subst (λ (fs : MadeFiles). LeadsTo a (made_after inputs (files n t)) (made_after inputs fs) now now) (sym (ap (files n) (both_none t))) (λ start way. way);
       created = refl;
       keeps = omega arith;
       only = OnlyMade-refl now;
     }
+
+no_bytes : (file : Output) → no_texts ≡ only file []
+no_bytes Log = refl
+no_bytes Out = refl
+no_bytes Frames = refl
+no_bytes State = refl
 
 -- one after another
 pub adds_both : (n : Names) (first second : Texts) (old mid new : Outside) → Adds n first old mid → Adds n second mid new → Adds n (both first second) old new
@@ -208,9 +157,9 @@ adds_both n first second old mid new p q =
 pub adds_as : (n : Names) (first second : Texts) (old new : Outside) → first ≡ second → Adds n first old new → Adds n second old new
 adds_as n first second old new is p = subst (λ (u : Texts). Adds n u old new) is p
 
--- all names are still among the files that were made
-pub still_created : (n : Names) (more : Texts) (old new : Outside) → Adds n more old new → AreCreated n old.created → AreCreated n new.created
-still_created n more old new p c = subst (AreCreated n) (sym p.created) c
+-- no bytes for one of the files
+adds_nothing : (n : Names) (file : Output) (now : Outside) → Adds n (only file []) now now
+adds_nothing n file now = adds_as n no_texts (only file []) now now (no_bytes file) (adds_none n now)
 
 -- ---- pieces that are written whole
 
@@ -231,24 +180,14 @@ all_as n first second old new is p = subst (λ (ps : List Piece). AddsAll n ps o
 
 -- no piece, and nothing of a file without a name
 pub all_none : (n : Names) (now : Outside) → AddsAll n [] now now
-all_none n now =
-    record {
-      adds = record {
-        leads = λ t a inputs.
-            subst (λ (fs : MadeFiles). LeadsTo a (made_after inputs (files n t)) (made_after inputs fs) now now) (sym (ap (files n) (both_none t))) (λ start way. way);
-        created = refl;
-        keeps = omega arith;
-        only = OnlyMade-refl now;
-      };
-      sure = refl;
-    }
+all_none n now = record { adds = adds_none n now; sure = refl }
 
 pub none_added : (n : Names) (file : Output) (bytes : Bytes) (now : Outside) → name_at n file ≡ None → AddsAll n (one_piece file bytes) now now
 none_added n file bytes now is = all_added n file bytes now now (none_more n file bytes now is) refl
 
--- a frame without bytes
-pub no_frame_added : (n : Names) (now : Outside) → AddsAll n (one_piece Frames []) now now
-no_frame_added n now = all_added n Frames [] now now (adds_nothing n now) refl
+-- a piece without bytes is written by doing nothing
+pub nothing_added : (n : Names) (file : Output) (now : Outside) → AddsAll n (one_piece file []) now now
+nothing_added n file now = all_added n file [] now now (adds_nothing n file now) refl
 
 -- ---- what falls short
 
@@ -286,16 +225,11 @@ fell_at_once n p ps now =
       part = only p.file [];
       order = record { before = []; last = p; behind = ps; begun = []; pieces_are = refl; begins = (p.bytes, refl); texts = refl };
       lacks = tt;
-      adds = adds_as n (only Frames []) (only p.file []) now now (no_bytes p.file) (adds_nothing n now);
+      adds = adds_nothing n p.file now;
       fault = refl;
     }
-  where
-    no_bytes : (file : Output) → only Frames [] ≡ only file []
-    no_bytes Log = refl
-    no_bytes Out = refl
-    no_bytes Frames = refl
 
-fault_after : (why : Unwritten) (old mid new : Outside) → NoWriteFault old mid → FaultCounted why mid new → FaultCounted why old new
+pub fault_after : (why : Unwritten) (old mid new : Outside) → NoWriteFault old mid → FaultCounted why mid new → FaultCounted why old new
 fault_after (Fault file) old mid new sure rose = rose_later old.write_faults mid.write_faults new.write_faults (no_fewer old mid sure) rose
 fault_after Memory old mid new sure fault = fault ∙ sure
 
@@ -363,6 +297,11 @@ all_fell n before last old new p =
       fault = p.sure;
     }
 
+-- whatever became of pieces behind those that were written whole
+pub writes_after : {T : Type 0} (n : Names) (first second : List Piece) (old mid new : Outside) (r : Result T Unwritten) → AddsAll n first old mid → Writes n second mid new r → Writes n (first ++ second) old new r
+writes_after n first second old mid new (Ok x) p q = all_both n first second old mid new p q
+writes_after n first second old mid new (Err why) p f = falls_after n why first second old mid new p f
+
 -- whatever was written, the same files were made
 pub writes_created : {T : Type 0} (n : Names) (pieces : List Piece) (old new : Outside) (r : Result T Unwritten) → Writes n pieces old new r → new.created ≡ old.created
 writes_created n pieces old new (Ok x) p = p.adds.created
@@ -375,6 +314,7 @@ pub record BeginTexts (part whole : Texts) : Type 0 where
   pub log_begins : Begins part.log whole.log
   pub out_begins : Begins part.out whole.out
   pub frames_begin : Begins part.frames whole.frames
+  pub state_begins : Begins part.state whole.state
 
 begins_after : (first part whole : Bytes) → Begins part whole → Begins (first ++ part) (first ++ whole)
 begins_after first part whole (rest, is) = (rest, ap (λ w. first ++ w) is ∙ sym (append_assoc first part rest))
@@ -382,13 +322,23 @@ begins_after first part whole (rest, is) = (rest, ap (λ w. first ++ w) is ∙ s
 begins_more : (part whole more : Bytes) → Begins part whole → Begins part (whole ++ more)
 begins_more part whole more (rest, is) = (rest ++ more, ap (λ w. w ++ more) is ∙ append_assoc part rest more)
 
-none_begins : (bytes : Bytes) → Begins [] bytes
+pub none_begins : (bytes : Bytes) → Begins [] bytes
 none_begins bytes = (bytes, refl)
 
 begins_here : (file : Output) (part whole : Bytes) (more : Texts) → Begins part whole → BeginTexts (only file part) (both (only file whole) more)
-begins_here Log part whole more b = record { log_begins = begins_more part whole more.log b; out_begins = none_begins more.out; frames_begin = none_begins more.frames }
-begins_here Out part whole more b = record { log_begins = none_begins more.log; out_begins = begins_more part whole more.out b; frames_begin = none_begins more.frames }
-begins_here Frames part whole more b = record { log_begins = none_begins more.log; out_begins = none_begins more.out; frames_begin = begins_more part whole more.frames b }
+begins_here Log part whole more b =
+    record { log_begins = begins_more part whole more.log b; out_begins = none_begins more.out; frames_begin = none_begins more.frames; state_begins = none_begins more.state }
+begins_here Out part whole more b =
+    record { log_begins = none_begins more.log; out_begins = begins_more part whole more.out b; frames_begin = none_begins more.frames; state_begins = none_begins more.state }
+begins_here Frames part whole more b =
+    record { log_begins = none_begins more.log; out_begins = none_begins more.out; frames_begin = begins_more part whole more.frames b; state_begins = none_begins more.state }
+begins_here State part whole more b =
+    record { log_begins = none_begins more.log; out_begins = none_begins more.out; frames_begin = none_begins more.frames; state_begins = begins_more part whole more.state b }
+
+-- nothing begins all texts
+pub none_begin : (whole : Texts) → BeginTexts no_texts whole
+none_begin whole =
+    record { log_begins = none_begins whole.log; out_begins = none_begins whole.out; frames_begin = none_begins whole.frames; state_begins = none_begins whole.state }
 
 begins_behind : (first part whole : Texts) → BeginTexts part whole → BeginTexts (both first part) (both first whole)
 begins_behind first part whole b =
@@ -396,6 +346,7 @@ begins_behind first part whole b =
       log_begins = begins_after first.log part.log whole.log b.log_begins;
       out_begins = begins_after first.out part.out whole.out b.out_begins;
       frames_begin = begins_after first.frames part.frames whole.frames b.frames_begin;
+      state_begins = begins_after first.state part.state whole.state b.state_begins;
     }
 
 -- the whole, by the piece that was begun last
@@ -423,6 +374,7 @@ lacks_here : (file : Output) (first more : Texts) (part whole : Bytes) → Begin
 lacks_here Log first more part whole b short = λ e. short_of_more part whole more.log b short (append_cancel_left first.log part (whole ++ more.log) e)
 lacks_here Out first more part whole b short = λ e. short_of_more part whole more.out b short (append_cancel_left first.out part (whole ++ more.out) e)
 lacks_here Frames first more part whole b short = λ e. short_of_more part whole more.frames b short (append_cancel_left first.frames part (whole ++ more.frames) e)
+lacks_here State first more part whole b short = λ e. short_of_more part whole more.state b short (append_cancel_left first.state part (whole ++ more.state) e)
 
 pub order_lacks : (pieces : List Piece) (part : Texts) (o : WritesInOrder pieces part) (file : Output) → file ≡ o.last.file → o.begun ≢ o.last.bytes → text_at part file ≢ text_at (texts_of pieces) file
 order_lacks pieces part o file is short e =

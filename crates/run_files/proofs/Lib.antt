@@ -1,6 +1,9 @@
+pub mod Around
 pub mod Adding
 pub mod Making
 pub mod Cycles
+pub mod Ends
+pub mod Starts
 pub mod Turns
 pub mod Groups
 pub mod Counting

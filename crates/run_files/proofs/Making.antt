@@ -1,8 +1,7 @@
--- MadeFiles that are made, and what follows where one could not be made or lacks bytes.
+-- Files that are made, and what follows where one could not be made or lacks bytes.
 use Rattle.std.proofs.Common.{◌≡◌, ◌≢◌, Bool, false, Option, Some, None, List, [], ◌∷◌, ◌++◌, refl, sym, ap, ◌∙◌, subst, arith}
 use Rattle.std.specs.Prelude.{Contains, IsSome, IfSome, Result, Ok, Err}
 use Rattle.std.specs.Option.{option_to_list}
-use Rattle.std.proofs.lemmas.List.{append-nil}
 use Rattle.std.proofs.lemmas.List.Elements.{Contains-append_left, Contains-append_right}
 use Rattle.quantity.specs.Bytes.{Bytes}
 use Rattle.model_tree.specs.Tree.{Word}
@@ -18,32 +17,22 @@ use Rattle.answer_model.specs.Outcome.{Lacks}
 use Rattle.answer_model.specs.RunFiles.{file_if}
 use Rattle.answer_model.specs.Steps.{is_made}
 use Rattle.answer_model.specs.Endings.{Says, made_after, looked_for, LeadsTo, EndsWith}
-use Rattle.answer_model.proofs.Endings.{steps_lead, endings_follow, rose_later, le_more}
+use Rattle.answer_model.proofs.Endings.{steps_lead, endings_follow, le_more}
 use Rattle.answer_model.specs.FaultsAnswered.{NoWriteFault, AnswersFaults}
 use Rattle.answer_model.proofs.FaultLemmas.{IsClean, IsStopped, clean_answers, wrote_answers}
 use Rattle.answer_model.proofs.Said.{said_among}
-use Rattle.answer_model.proofs.Stages.{then_leads, then_ends, was_unmade, write_failed, lacks_rest, lacks_unmade, rose_by_said}
+use Rattle.answer_model.proofs.Stages.{then_leads, then_ends, write_failed, lacks_rest, lacks_unmade, rose_by_said}
 use Rattle.run_files.specs.declared.outputs.Output.{Output}
-use Rattle.run_files.specs.declared.outputs.Output.TheVariants.{Log, Out, Frames}
+use Rattle.run_files.specs.declared.outputs.Output.TheVariants.{Out, Frames, State}
 use Rattle.run_files.specs.declared.outputs.Unwritten.{Unwritten}
 use Rattle.run_files.specs.declared.outputs.Unwritten.TheVariants.{Fault, Memory}
 use Rattle.run_files.specs.Texts.{Names, Texts, no_texts, files, name_at, text_at, made_before, AreApart, IsAmong, AreCreated}
 use Rattle.run_files.specs.Order.{Piece, texts_of}
 use Rattle.run_files.specs.Written.{AddsAll, Falls, FaultCounted, Makes, MakesNone, IsThere, MakesOne, MakesAll, FallsMaking, MakesFiles, Tells, Blames}
-use Rattle.run_files.proofs.Adding.{named, not_if, not_after, not_both, has_file, no_fewer, BeginTexts, order_begins, order_lacks}
+use Rattle.run_files.proofs.Around.{files_before, files_behind, in_turn, around, files_at, has_file, before_is, not_before, not_behind}
+use Rattle.run_files.proofs.Adding.{no_fewer, fault_after, BeginTexts, none_begins, none_begin, order_begins, order_lacks}
 
 -- ---- one file
-
-pub made_none : (name : Option Word) (now : Outside) → name ≡ None → Makes name now now
-made_none name now is =
-    record {
-      leads = λ fs a inputs.
-          let same : fs ++ file_if name [] ≡ fs = ap (λ n. fs ++ file_if n []) is ∙ append-nil fs in
-          subst (λ (gs : MadeFiles). LeadsTo a (made_after inputs fs) (made_after inputs gs) now now) (sym same) (λ start way. way);
-      created = sym (ap (λ n. now.created ++ option_to_list n) is ∙ append-nil now.created);
-      sure = refl;
-      only = OnlyMade-refl now;
-    }
 
 pub made_file : (o : Option Word) (name : Word) (old new : Outside) → o ≡ Some name → new.made ≡ puts old.made name [] → new.created ≡ old.created ++ name ∷ [] → OnlyMade old new → NoWriteFault old new → Makes o old new
 made_file o name old new is made created only_made sure =
@@ -55,56 +44,55 @@ made_file o name old new is made created only_made sure =
     } in
     subst (λ (p : Option Word). Makes p old new) (sym is) there
 
-pub unmade : (old new : Outside) → new.made ≡ old.made → new.created ≡ old.created → OnlyMade old new → KeepsWriteFaults old new → MakesNone old new
-unmade old new made created only_made keeps =
-    record { leads = λ fs a inputs. was_unmade a (made_after inputs fs) old new made created only_made keeps; keeps = keeps; only = only_made }
+-- ---- all files, one after another
 
--- ---- all files
+-- these were made, all empty, so that these names were created
+pub record HasMade (parts : MadeFiles) (names : List Word) (old new : Outside) : Type 0 where
+  pub leads : (a : Answer) (inputs : List Word) → LeadsTo a (looked_for inputs) (made_after inputs parts) old new
+  pub created : new.created ≡ names
+  pub sure : NoWriteFault old new
+  pub only : OnlyMade old new
 
-pub log_unmade : (n : Names) (why : Unwritten) (old new : Outside) → MakesNone old new → IsThere why n Log → FaultCounted why old new → FallsMaking n why old new
-log_unmade n why old new none there fault =
-    record { file = Log; there = there; leads = λ a inputs. none.leads [] a inputs; keeps = none.keeps; only = none.only; fault = fault }
+pub none_made : (now : Outside) → HasMade [] now.created now now
+none_made now = record { leads = λ a inputs start way. way; created = refl; sure = refl; only = OnlyMade-refl now }
 
-fault_kept : (why : Unwritten) (old mid new : Outside) → NoWriteFault old mid → FaultCounted why mid new → FaultCounted why old new
-fault_kept (Fault file) old mid new sure rose = rose_later old.write_faults mid.write_faults new.write_faults (no_fewer old mid sure) rose
-fault_kept Memory old mid new sure fault = fault ∙ sure
-
-kept : (old mid new : Outside) → NoWriteFault old mid → KeepsWriteFaults mid new → KeepsWriteFaults old new
-kept old mid new sure keeps = le_more old.write_faults mid.write_faults new.write_faults (no_fewer old mid sure) keeps
-
-pub out_unmade : (n : Names) (why : Unwritten) (old mid new : Outside) → Makes n.log old mid → MakesNone mid new → IsThere why n Out → FaultCounted why mid new → FallsMaking n why old new
-out_unmade n why old mid new log none there fault =
+one_more : (parts : MadeFiles) (names : List Word) (name : Option Word) (old mid new : Outside) → HasMade parts names old mid → Makes name mid new → HasMade (parts ++ file_if name []) (names ++ option_to_list name) old new
+one_more parts names name old mid new made one =
     record {
-      file = Out;
+      leads = λ a inputs. then_leads a (looked_for inputs) (made_after inputs parts) (made_after inputs (parts ++ file_if name [])) old mid new (made.leads a inputs) (one.leads parts a inputs);
+      created = one.created ∙ ap (λ (xs : List Word). xs ++ option_to_list name) made.created;
+      sure = one.sure ∙ made.sure;
+      only = OnlyMade-trans old mid new made.only one.only;
+    }
+
+pub log_made : (n : Names) (old new : Outside) → Makes n.log old new → HasMade (made_before n Out) (old.created ++ option_to_list n.log) old new
+log_made n old new log = one_more [] old.created n.log old old new (none_made old) log
+
+pub out_made : (n : Names) (old mid new : Outside) → Makes n.log old mid → Makes n.out mid new → HasMade (made_before n Frames) (old.created ++ option_to_list n.log ++ option_to_list n.out) old new
+out_made n old mid new log out = one_more (made_before n Out) (old.created ++ option_to_list n.log) n.out old mid new (log_made n old mid log) out
+
+pub frames_made : (n : Names) (old mid next new : Outside) → Makes n.log old mid → Makes n.out mid next → Makes n.frames next new → HasMade (made_before n State) (old.created ++ option_to_list n.log ++ option_to_list n.out ++ option_to_list n.frames) old new
+frames_made n old mid next new log out frames = one_more (made_before n Frames) (old.created ++ option_to_list n.log ++ option_to_list n.out) n.frames old next new (out_made n old mid next log out) frames
+
+-- the one behind them was not
+pub one_unmade : (n : Names) (why : Unwritten) (last : Output) (names : List Word) (old mid new : Outside) → HasMade (made_before n last) names old mid → MakesNone mid new × IsThere why n last × FaultCounted why mid new → FallsMaking n why old new
+one_unmade n why last names old mid new made (none, there, fault) =
+    record {
+      file = last;
       there = there;
-      leads = λ a inputs. then_leads a (looked_for inputs) (made_after inputs (made_before n Out)) (made_after inputs (made_before n Out)) old mid new (log.leads [] a inputs) (none.leads (made_before n Out) a inputs);
-      keeps = kept old mid new log.sure none.keeps;
-      only = OnlyMade-trans old mid new log.only none.only;
-      fault = fault_kept why old mid new log.sure fault;
+      leads = λ a inputs. then_leads a (looked_for inputs) (made_after inputs (made_before n last)) (made_after inputs (made_before n last)) old mid new (made.leads a inputs) (none.leads (made_before n last) a inputs);
+      keeps = le_more old.write_faults mid.write_faults new.write_faults (no_fewer old mid made.sure) none.keeps;
+      only = OnlyMade-trans old mid new made.only none.only;
+      fault = fault_after why old mid new made.sure fault;
     }
 
-both_made : (n : Names) (old mid next : Outside) (a : Answer) (inputs : List Word) → Makes n.log old mid → Makes n.out mid next → LeadsTo a (looked_for inputs) (made_after inputs (made_before n Frames)) old next
-both_made n old mid next a inputs log out =
-    then_leads a (looked_for inputs) (made_after inputs (made_before n Out)) (made_after inputs (made_before n Frames)) old mid next (log.leads [] a inputs) (out.leads (made_before n Out) a inputs)
-
-pub frames_made : {T : Type 0} (n : Names) (old mid next new : Outside) (r : Result T Unwritten) → Makes n.log old mid → Makes n.out mid next → MakesOne n Frames next new r → MakesFiles n old new r
-frames_made n old mid next new (Ok x) log out frames =
-    record {
-      leads = λ a inputs. then_leads a (looked_for inputs) (made_after inputs (made_before n Frames)) (made_after inputs (files n no_texts)) old next new (both_made n old mid next a inputs log out) (frames.leads (made_before n Frames) a inputs);
-      created = frames.created ∙ ap (λ xs. xs ++ option_to_list n.frames) (out.created ∙ ap (λ xs. xs ++ option_to_list n.out) log.created);
-      sure = frames.sure ∙ out.sure ∙ log.sure;
-      only = OnlyMade-trans old next new (OnlyMade-trans old mid next log.only out.only) frames.only;
-    }
-frames_made n old mid next new (Err why) log out (none, there, fault) =
-    let sure : NoWriteFault old next = out.sure ∙ log.sure in
-    record {
-      file = Frames;
-      there = there;
-      leads = λ a inputs. then_leads a (looked_for inputs) (made_after inputs (made_before n Frames)) (made_after inputs (made_before n Frames)) old next new (both_made n old mid next a inputs log out) (none.leads (made_before n Frames) a inputs);
-      keeps = kept old next new sure none.keeps;
-      only = OnlyMade-trans old next new (OnlyMade-trans old mid next log.only out.only) none.only;
-      fault = fault_kept why old next new sure fault;
-    }
+-- whatever became of the last
+pub state_made : {T : Type 0} (n : Names) (old mid new : Outside) (r : Result T Unwritten) → HasMade (made_before n State) (old.created ++ option_to_list n.log ++ option_to_list n.out ++ option_to_list n.frames) old mid → MakesOne n State mid new r → MakesFiles n old new r
+state_made n old mid new (Ok x) made state =
+    let all = one_more (made_before n State) (old.created ++ option_to_list n.log ++ option_to_list n.out ++ option_to_list n.frames) n.state old mid new made state in
+    record { leads = all.leads; created = all.created; sure = all.sure; only = all.only }
+state_made n old mid new (Err why) made unmade =
+    one_unmade n why State (old.created ++ option_to_list n.log ++ option_to_list n.out ++ option_to_list n.frames) old mid new made unmade
 
 -- ---- all names are among those that were made
 
@@ -125,10 +113,13 @@ all_created n old new m =
     let l = option_to_list n.log in
     let o = option_to_list n.out in
     let f = option_to_list n.frames in
+    let s = option_to_list n.state in
+    let here = old.created in
     subst (AreCreated n) (sym m.created) (record {
-      log_there = among-left n.log ((old.created ++ l) ++ o) f (among-left n.log (old.created ++ l) o (among-right n.log old.created l (among_own n.log)));
-      out_there = among-left n.out ((old.created ++ l) ++ o) f (among-right n.out (old.created ++ l) o (among_own n.out));
-      frames_there = among-right n.frames ((old.created ++ l) ++ o) f (among_own n.frames);
+      log_there = among-left n.log (here ++ l ++ o ++ f) s (among-left n.log (here ++ l ++ o) f (among-left n.log (here ++ l) o (among-right n.log here l (among_own n.log))));
+      out_there = among-left n.out (here ++ l ++ o ++ f) s (among-left n.out (here ++ l ++ o) f (among-right n.out (here ++ l) o (among_own n.out)));
+      frames_there = among-left n.frames (here ++ l ++ o ++ f) s (among-right n.frames (here ++ l ++ o) f (among_own n.frames));
+      state_there = among-right n.state (here ++ l ++ o ++ f) s (among_own n.state);
     })
 
 -- ---- a beginning of the files of an answer
@@ -141,70 +132,38 @@ begins_last : (o : Option Word) (part whole : Bytes) → Begins part whole → B
 begins_last None part whole b = tt
 begins_last (Some name) part whole b = (refl, b, tt)
 
-in_groups : (l o f : Option Word) (t : Texts) → files (named l o f) t ≡ file_if l t.log ++ (file_if o t.out ++ file_if f t.frames)
-in_groups None o f t = refl
-in_groups (Some l) o f t = refl
+begins_files : (n : Names) (part whole : Texts) → BeginTexts part whole → BeginFiles (files n part) (files n whole)
+begins_files n part whole b =
+    subst (λ (fs : MadeFiles). BeginFiles fs (files n whole)) (sym (in_turn n part))
+    (subst (BeginFiles (file_if n.log part.log ++ (file_if n.out part.out ++ (file_if n.frames part.frames ++ file_if n.state part.state)))) (sym (in_turn n whole))
+    (begins_if n.log part.log whole.log (file_if n.out part.out ++ (file_if n.frames part.frames ++ file_if n.state part.state)) (file_if n.out whole.out ++ (file_if n.frames whole.frames ++ file_if n.state whole.state)) b.log_begins
+    (begins_if n.out part.out whole.out (file_if n.frames part.frames ++ file_if n.state part.state) (file_if n.frames whole.frames ++ file_if n.state whole.state) b.out_begins
+    (begins_if n.frames part.frames whole.frames (file_if n.state part.state) (file_if n.state whole.state) b.frames_begin (begins_last n.state part.state whole.state b.state_begins)))))
 
-begins_files : (l o f : Option Word) (part whole : Texts) → BeginTexts part whole → BeginFiles (files (named l o f) part) (files (named l o f) whole)
-begins_files l o f part whole b =
-    subst (λ (fs : MadeFiles). BeginFiles fs (files (named l o f) whole)) (sym (in_groups l o f part))
-    (subst (BeginFiles (file_if l part.log ++ (file_if o part.out ++ file_if f part.frames))) (sym (in_groups l o f whole))
-    (begins_if l part.log whole.log (file_if o part.out ++ file_if f part.frames) (file_if o whole.out ++ file_if f whole.frames) b.log_begins
-    (begins_if o part.out whole.out (file_if f part.frames) (file_if f whole.frames) b.out_begins (begins_last f part.frames whole.frames b.frames_begin))))
+-- the first of files that begin others
+begins_front : (parts more wholes : MadeFiles) → BeginFiles (parts ++ more) wholes → BeginFiles parts wholes
+begins_front [] more wholes b = tt
+begins_front (p ∷ ps) more [] b = b
+begins_front (p ∷ ps) more (w ∷ ws) b = (b.0, b.1, begins_front ps more ws b.2)
 
-none_begins : (bytes : Bytes) → Begins [] bytes
-none_begins bytes = (bytes, refl)
-
-begins_before : (l o f : Option Word) (file : Output) (whole : Texts) → BeginFiles (made_before (named l o f) file) (files (named l o f) whole)
-begins_before l o f Log whole = tt
-begins_before None o f Out whole = tt
-begins_before (Some l) o f Out whole = (refl, none_begins whole.log, tt)
-begins_before None None f Frames whole = tt
-begins_before None (Some o) f Frames whole = (refl, none_begins whole.out, tt)
-begins_before (Some l) None f Frames whole = (refl, none_begins whole.log, tt)
-begins_before (Some l) (Some o) f Frames whole = (refl, none_begins whole.log, (refl, none_begins whole.out, tt))
+begins_before : (n : Names) (file : Output) (whole : Texts) → BeginFiles (made_before n file) (files n whole)
+begins_before n file whole =
+    subst (λ (fs : MadeFiles). BeginFiles fs (files n whole)) (sym (before_is n file))
+    (begins_front (files_before n no_texts file) (file_if (name_at n file) (text_at no_texts file) ++ files_behind n no_texts file) (files n whole)
+    (subst (λ (fs : MadeFiles). BeginFiles fs (files n whole)) (around n no_texts file) (begins_files n no_texts whole (none_begin whole))))
 
 -- ---- what lacks bytes
 
-wanted : (a : Answer) (l o f : Option Word) (whole : Texts) (file : Output) (name : Word) → a.made ≡ files (named l o f) whole → name_at (named l o f) file ≡ Some name → Contains {X = Word × Bytes} a.made (name, text_at whole file)
-wanted a l o f whole file name made is = subst (λ (fs : MadeFiles). Contains {X = Word × Bytes} fs (name, text_at whole file)) (sym made) (has_file l o f whole file name is)
+wanted : (a : Answer) (n : Names) (whole : Texts) (file : Output) (name : Word) → a.made ≡ files n whole → name_at n file ≡ Some name → Contains {X = Word × Bytes} a.made (name, text_at whole file)
+wanted a n whole file name made is = subst (λ (fs : MadeFiles). Contains {X = Word × Bytes} fs (name, text_at whole file)) (sym made) (has_file n whole file name is)
 
-lacks_file : (a : Answer) (l o f : Option Word) (inputs : List Word) (part whole : Texts) (file : Output) (name : Word) → a.made ≡ files (named l o f) whole → AreApart (named l o f) → name_at (named l o f) file ≡ Some name → text_at part file ≢ text_at whole file
-    → Lacks a (made_after inputs (files (named l o f) part)) name
-lacks_file a None o f inputs part whole Log name made apart is short = absurd (cc)
-lacks_file a (Some l) o f inputs part whole Log name made apart is short =
-    let same : l ≡ name = cc in
-    subst (λ (w : Word). Lacks a (made_after inputs (files (named (Some l) o f) part)) w) same
-    (lacks_rest a (made_after inputs (files (named (Some l) o f) part)) [] (file_if o part.out ++ file_if f part.frames) l part.log whole.log (wanted a (Some l) o f whole Log l made refl) refl refl
-    (not_both l (file_if o part.out) (file_if f part.frames) (not_if l o part.out apart.log_out) (not_if l f part.frames apart.log_frames)) short)
-lacks_file a l None f inputs part whole Out name made apart is short = absurd (cc)
-lacks_file a None (Some o) f inputs part whole Out name made apart is short =
-    let same : o ≡ name = cc in
-    subst (λ (w : Word). Lacks a (made_after inputs (files (named None (Some o) f) part)) w) same
-    (lacks_rest a (made_after inputs (files (named None (Some o) f) part)) [] (file_if f part.frames) o part.out whole.out (wanted a None (Some o) f whole Out o made refl) refl refl
-    (not_if o f part.frames apart.out_frames) short)
-lacks_file a (Some l) (Some o) f inputs part whole Out name made apart is short =
-    let same : o ≡ name = cc in
-    subst (λ (w : Word). Lacks a (made_after inputs (files (named (Some l) (Some o) f) part)) w) same
-    (lacks_rest a (made_after inputs (files (named (Some l) (Some o) f) part)) ((l, part.log) ∷ []) (file_if f part.frames) o part.out whole.out (wanted a (Some l) (Some o) f whole Out o made refl) refl
-    (not_after o (Some l) part.log apart.log_out) (not_if o f part.frames apart.out_frames) short)
-lacks_file a l o None inputs part whole Frames name made apart is short = absurd (cc)
-lacks_file a l o (Some f) inputs part whole Frames name made apart is short =
-    let same : f ≡ name = cc in
-    subst (λ (w : Word). Lacks a (made_after inputs (files (named l o (Some f)) part)) w) same
-    (lacks_rest a (made_after inputs (files (named l o (Some f)) part)) (file_if l part.log ++ file_if o part.out) [] f part.frames whole.frames (wanted a l o (Some f) whole Frames f made refl) refl
-    (not_both f (file_if l part.log) (file_if o part.out) (not_after f l part.log apart.log_frames) (not_after f o part.out apart.out_frames)) refl short)
+lacks_file : (a : Answer) (n : Names) (inputs : List Word) (part whole : Texts) (file : Output) (name : Word) → a.made ≡ files n whole → AreApart n → name_at n file ≡ Some name → text_at part file ≢ text_at whole file → Lacks a (made_after inputs (files n part)) name
+lacks_file a n inputs part whole file name made apart is short =
+    lacks_rest a (made_after inputs (files n part)) (files_before n part file) (files_behind n part file) name (text_at part file) (text_at whole file)
+    (wanted a n whole file name made is) (files_at n part file name is) (not_before n part file name apart is) (not_behind n part file name apart is) short
 
-unmade_before : (l o f : Option Word) (file : Output) (name : Word) → AreApart (named l o f) → name_at (named l o f) file ≡ Some name → is_made name (made_before (named l o f) file) ≡ false
-unmade_before l o f Log name apart is = refl
-unmade_before l None f Out name apart is = absurd (cc)
-unmade_before l (Some o) f Out name apart is =
-    let same : o ≡ name = cc in
-    subst (λ (w : Word). is_made w (file_if l []) ≡ false) same (not_after o l [] apart.log_out)
-unmade_before l o None Frames name apart is = absurd (cc)
-unmade_before l o (Some f) Frames name apart is =
-    let same : f ≡ name = cc in
-    subst (λ (w : Word). is_made w (file_if l [] ++ file_if o []) ≡ false) same (not_both f (file_if l []) (file_if o []) (not_after f l [] apart.log_frames) (not_after f o [] apart.out_frames))
+unmade_before : (n : Names) (file : Output) (name : Word) → AreApart n → name_at n file ≡ Some name → is_made name (made_before n file) ≡ false
+unmade_before n file name apart is = ap (is_made name) (before_is n file) ∙ not_before n no_texts file name apart is
 
 -- ---- endings
 
@@ -223,14 +182,14 @@ fell_ends a n pieces (Fault file) inputs old mid new status made apart f tells =
     let s = some_of (name_at n file) f.lacks.0 in
     let there = made_after inputs (files n f.part) in
     write_failed a (made_after inputs (files n no_texts)) there old mid new s.0 status (f.adds.leads no_texts a inputs) f.fault
-    (subst (BeginFiles (files n f.part)) (sym made) (begins_files n.log n.out n.frames f.part whole (order_begins pieces f.part f.order)), none_begins a.shown)
-    (lacks_file a n.log n.out n.frames inputs f.part whole file s.0 made apart s.1 (order_lacks pieces f.part f.order file f.lacks.1 f.lacks.2))
+    (subst (BeginFiles (files n f.part)) (sym made) (begins_files n f.part whole (order_begins pieces f.part f.order)), none_begins a.shown)
+    (lacks_file a n inputs f.part whole file s.0 made apart s.1 (order_lacks pieces f.part f.order file f.lacks.1 f.lacks.2))
     (if_some (name_at n file) (λ name. Says (write_fault_line name) WriteFault mid new status) s.0 s.1 tells)
 fell_ends a n pieces Memory inputs old mid new status made apart f (own, same) =
     let whole = texts_of pieces in
     let there = made_after inputs (files n f.part) in
     let ends : EndsWith a (made_after inputs (files n no_texts)) old mid NoMemory = then_ends a (made_after inputs (files n no_texts)) there old mid mid NoMemory (f.adds.leads no_texts a inputs)
-    (endings_follow.memory a there mid (subst (BeginFiles (files n f.part)) (sym made) (begins_files n.log n.out n.frames f.part whole (order_begins pieces f.part f.order)), none_begins a.shown)) in
+    (endings_follow.memory a there mid (subst (BeginFiles (files n f.part)) (sym made) (begins_files n f.part whole (order_begins pieces f.part f.order)), none_begins a.shown)) in
     subst (λ s. EndsWith a (made_after inputs (files n no_texts)) old new s) (sym own) (subst (λ o. EndsWith a (made_after inputs (files n no_texts)) old o NoMemory) (sym same) ends)
 
 -- a file could not be made, or memory ran out
@@ -241,13 +200,13 @@ unmade_ends a n whole (Fault file) inputs old mid new status made apart f tells 
     let there = made_after inputs (made_before n f.file) in
     let is : name_at n f.file ≡ Some s.0 = ap (name_at n) (sym f.there.1) ∙ s.1 in
     write_failed a (looked_for inputs) there old mid new s.0 status (f.leads a inputs) f.fault
-    (subst (BeginFiles (made_before n f.file)) (sym made) (begins_before n.log n.out n.frames f.file whole), none_begins a.shown)
-    (lacks_unmade a there s.0 (text_at whole f.file) (wanted a n.log n.out n.frames whole f.file s.0 made is) (unmade_before n.log n.out n.frames f.file s.0 apart is))
+    (subst (BeginFiles (made_before n f.file)) (sym made) (begins_before n f.file whole), none_begins a.shown)
+    (lacks_unmade a there s.0 (text_at whole f.file) (wanted a n whole f.file s.0 made is) (unmade_before n f.file s.0 apart is))
     (if_some (name_at n file) (λ name. Says (write_fault_line name) WriteFault mid new status) s.0 s.1 tells)
 unmade_ends a n whole Memory inputs old mid new status made apart f (own, same) =
     let there = made_after inputs (made_before n f.file) in
     let ends : EndsWith a (looked_for inputs) old mid NoMemory = then_ends a (looked_for inputs) there old mid mid NoMemory (f.leads a inputs)
-    (endings_follow.memory a there mid (subst (BeginFiles (made_before n f.file)) (sym made) (begins_before n.log n.out n.frames f.file whole), none_begins a.shown)) in
+    (endings_follow.memory a there mid (subst (BeginFiles (made_before n f.file)) (sym made) (begins_before n f.file whole), none_begins a.shown)) in
     subst (λ s. EndsWith a (looked_for inputs) old new s) (sym own) (subst (λ o. EndsWith a (looked_for inputs) old o NoMemory) (sym same) ends)
 
 -- ---- statuses

@@ -1,12 +1,12 @@
 -- Frames of cycles in turn: what a cycle adds, and what is left after it.
-use Rattle.std.proofs.Common.{◌≡◌, ℕ, zero, suc, ◌+◌, ◌-◌, ◌<◌, ◌≤◌, ◌==◌, ◌&&◌, not, Bool, true, false, cond, Option, Some, None, List, [], ◌∷◌, ◌++◌, length, replicate, nat_le, nat_lt, refl, sym, ap, ◌∙◌, arith}
+use Rattle.std.proofs.Common.{◌≡◌, ℕ, ◌+◌, ◌-◌, ◌<◌, ◌≤◌, ◌==◌, ◌&&◌, not, Bool, true, false, cond, Option, Some, None, List, [], ◌∷◌, ◌++◌, length, map, nat_le, nat_lt, refl, sym, ap, ◌∙◌, arith}
 use Rattle.std.specs.Prelude.{if◌then◌else◌}
 use Rattle.std.specs.Option.{ForSome, option_map}
-use Rattle.std.specs.List.{AllByRecursion, filter_map, cons_option}
+use Rattle.std.specs.List.{AllByRecursion, range_with_len, filter_map, cons_option}
 use Rattle.std.proofs.lemmas.List.{append-nil}
 use Rattle.std.proofs.lemmas.Bool.Decides.{nat_tests}
 use Rattle.quantity.specs.Bytes.{Bytes}
-use Rattle.quantity.specs.declared.value.Value.TheVariants.{Undefined}
+use Rattle.quantity.specs.declared.value.Value.{Value}
 use Rattle.cell_grid.specs.Space.{Space, cell_count}
 use Rattle.model_tree.specs.Tree.{Tree}
 use Rattle.run_model.specs.Run.{PortRecord, Cycle}
@@ -14,15 +14,14 @@ use Rattle.run_model.specs.Instants.{InstantsNeverFall}
 use Rattle.text_forms.specs.Lines.{log_bytes, out_bytes}
 use Rattle.text_forms.specs.Frames.{Picture, ShownCell, shown_by, shown_in, frames, frames_of}
 use Rattle.text_forms.proofs.Joins.{texts_join}
-use Rattle.frame_draw.specs.Drawing.{Drawing, blank, frame_of, value_of, with_instant}
+use Rattle.frame_draw.specs.Drawing.{Drawing, frame_of, with_instant}
 use Rattle.frame_draw.specs.Turns.{is_other, text_before, with_shown, drawn_in_turn, NeverFall}
 use Rattle.frame_draw.proofs.TurnLemmas.{draws_all}
-use Rattle.run_files.specs.declared.outputs.Output.TheVariants.{Frames}
-use Rattle.run_files.specs.Texts.{Texts, only}
+use Rattle.run_files.specs.Texts.{Texts}
 use Rattle.run_files.specs.Order.{texts_of}
-use Rattle.run_files.specs.Pieces.{run_pieces}
-use Rattle.run_files.specs.Showing.{Showing, with_drawing, with_taken, shown_of, took, ended, ended_before, after_cycle, frame_before, last_frame, frames_left, left_texts, IsBegunBy}
-use Rattle.run_files.proofs.Adding.{one_text}
+use Rattle.run_files.specs.Pieces.{end_pieces, run_pieces}
+use Rattle.run_files.specs.Showing.{Showing, showing_from, with_drawing, with_taken, shown_of, took, ended, ended_before, after_cycle, frame_before, last_frame, frames_left, left_texts, IsBegunBy}
+use Rattle.run_files.proofs.Starts.{IsUndefinedFrom, values_length, values_are}
 
 -- ---- what cycles show
 
@@ -105,11 +104,11 @@ no_text t w h = by w.begun refl h
     by None is h = ap (λ o. if is_other o t then frame_of w else []) is
     by (Some u) is h = ap (λ o. if is_other o t then frame_of w else []) is ∙ ap (λ q. if q then frame_of w else []) (same u t (h u refl))
 
--- the drawing, after records of an instant
 -- a value of a cell, as it is shown
 abbrev one_shown : ℕ → Showing → PortRecord → ShownCell
 one_shown at w r = record { time = at; cell = r.leaf - w.first; value = r.value }
 
+-- the drawing, after records of an instant
 took_turns : (at : ℕ) (rs : List PortRecord) (w : Showing) (later : List ShownCell) → BegunAt at w.drawing
     → drawn_in_turn w.drawing (filter_map (shown_by w.drawing.picture.space w.first at) rs ++ later) ≡ drawn_in_turn (took at rs w).drawing later
 took_turns at [] w later h = refl
@@ -216,16 +215,20 @@ begun_after (Some w) c = at_most (after_cycle c w).drawing.begun (took_begun c.y
 
 -- ---- texts that are left
 
--- the pieces of cycles are all that is left to write
-pub texts_all : (tree : Tree) (letters : List ℕ) (w : Option Showing) (cs : List Cycle) (low : ℕ) → IsBegunBy low w → InstantsNeverFall low cs → texts_of (run_pieces tree letters w cs) ≡ left_texts tree letters w cs
-texts_all tree letters w [] low begun falls = one_text Frames (last_frame w) ∙ last w
+-- the pieces of the end
+end_texts : (tree : Tree) (letters : List ℕ) (w : Option Showing) (saved : Bytes) → texts_of (end_pieces w saved) ≡ left_texts tree letters w [] saved
+end_texts tree letters w saved = λ i. record { log = []; out = []; frames = (append-nil (last_frame w) ∙ last w) i; state = append-nil saved i }
   where
-    last : (w : Option Showing) → only Frames (last_frame w) ≡ left_texts tree letters w []
+    last : (w : Option Showing) → last_frame w ≡ frames_left w []
     last None = refl
     last (Some v) = refl
-texts_all tree letters w (c ∷ cs) low begun falls =
+
+-- the pieces of cycles and of the end are all that is left to write
+pub texts_all : (tree : Tree) (letters : List ℕ) (w : Option Showing) (cs : List Cycle) (saved : Bytes) (low : ℕ) → IsBegunBy low w → InstantsNeverFall low cs → texts_of (run_pieces tree letters w cs saved) ≡ left_texts tree letters w cs saved
+texts_all tree letters w [] saved low begun falls = end_texts tree letters w saved
+texts_all tree letters w (c ∷ cs) saved low begun falls =
     let more = option_map (after_cycle c) w in
-    let rest = texts_all tree letters more cs c.time (begun_after w c) falls.1 in
+    let rest = texts_all tree letters more cs saved c.time (begun_after w c) falls.1 in
     let log = log_bytes tree letters (c ∷ []) in
     let out = out_bytes tree (c ∷ []) in
     let frame = frame_before c.time w in
@@ -233,6 +236,7 @@ texts_all tree letters w (c ∷ cs) low begun falls =
       log = (ap (λ (t : Texts). log ++ t.log) rest ∙ sym (texts_join.log tree letters (c ∷ []) cs)) i;
       out = (ap (λ (t : Texts). out ++ t.out) rest ∙ sym (texts_join.out tree (c ∷ []) cs)) i;
       frames = (ap (λ (t : Texts). frame ++ t.frames) rest ∙ sym (frames_step w c cs low begun falls)) i;
+      state = ap (λ (t : Texts). t.state) rest i;
     }
 
 -- ---- all frames
@@ -267,19 +271,15 @@ inside space first n (c ∷ cs) is = among c.y (inside space first n cs is)
         by true e more = (let lt = within first r.leaf (cell_count space) e in omega (arith, lt, is), more)
         by false e more = more
 
-undefined_all : (n cell : ℕ) → value_of (replicate n Undefined) cell ≡ Undefined
-undefined_all zero cell = refl
-undefined_all (suc n) zero = refl
-undefined_all (suc n) (suc cell) = undefined_all n cell
+-- instants that never fall from a time on don't from an earlier one on
+pub never_fall_from : (low early : ℕ) (cs : List Cycle) → early ≤ low → InstantsNeverFall low cs → InstantsNeverFall early cs
+never_fall_from low early [] le h = tt
+never_fall_from low early (c ∷ cs) le h = let from = h.0 in (omega (arith, le, from), h.1)
 
-length-replicate : (n : ℕ) → length (replicate n Undefined) ≡ n
-length-replicate zero = refl
-length-replicate (suc n) = ap suc (length-replicate n)
-
--- frames from the start are those of all cycles
-pub all_frames : (p : Picture) (first : ℕ) (cs : List Cycle) → InstantsNeverFall 0 cs → drawn_in_turn (blank p) (shown_in p.space first cs) ≡ frames_of p first (λ cell. Undefined) cs
-all_frames p first cs h =
+-- frames that begin with these values, drawn in turn, are those of all cycles
+pub all_frames : (p : Picture) (first : ℕ) (start : ℕ → Value) (cs : List Cycle) → IsUndefinedFrom (cell_count p.space) start → InstantsNeverFall 0 cs → frames_left (Some (showing_from first p start)) cs ≡ frames_of p first start cs
+all_frames p first start cs none falls =
     let n = cell_count p.space in
-    let values = replicate n Undefined in
-    draws_all p values (shown_in p.space first cs) (length-replicate n) (inside p.space first (length values) cs (length-replicate n)) (never_fall p.space first 0 cs h)
-    ∙ (λ i. frames p (λ cell. undefined_all n cell i) (shown_in p.space first cs))
+    let values = map start (range_with_len 0 n) in
+    draws_all p values (shown_in p.space first cs) (values_length start n) (inside p.space first (length values) cs (values_length start n)) (never_fall p.space first 0 cs falls)
+    ∙ (λ i. frames p (λ cell. values_are start n none cell i) (shown_in p.space first cs))

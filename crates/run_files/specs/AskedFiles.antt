@@ -14,7 +14,8 @@ frames_name frames = option_map (λ (f : A.FramesFile). f.name) frames
 
 -- the names of the files that are asked for
 abbrev pub names_asked : A.Asked → Names
-names_asked a = record { log = a.log; out = a.out; frames = frames_name a.frames }
+names_asked a =
+    record { log = a.log; out = a.out; frames = frames_name a.frames; state = a.save }
 
 -- the same of what is asked, in code
 abbrev pub names_of : Asked → Names

@@ -9,10 +9,11 @@ use Rattle.text_forms.specs.Frames.{Picture}
 use Rattle.frame_draw.specs.Drawing.{CanDraw}
 use Rattle.answer_model.specs.Asked.{FramesFile}
 use Rattle.answer_model.specs.Started.{drawing_of}
-use Rattle.answer_model.specs.RunFiles.{group_at}
+use Rattle.text_forms.specs.StateOf.{Saved}
+use Rattle.answer_model.specs.RunFiles.{group_at, emitted_before}
 use Rattle.asked_words.specs.declared.group.GroupAt.{GroupAt}
 use Rattle.asked_words.specs.Group.{IsDrawn}
-use Rattle.run_files.specs.Showing.{Showing, showing_none}
+use Rattle.run_files.specs.Showing.{Showing, showing_from}
 
 -- the group stands there in the model, and none where there are no frames
 abbrev pub IsFoundIn : Model → Option FramesFile → Option GroupAt → Type 0
@@ -26,14 +27,15 @@ picture_of f s =
     record { space = s; plane = f.drawing.plane; width = f.width; decimals = f.decimals }
 
 -- frames of a group that is there
-abbrev pub begun_at : FramesFile → Option (ℕ × Group) → Option Showing
-begun_at f None = None
-begun_at f (Some g) = Some (showing_none g.0 (picture_of f g.1.space))
+abbrev pub begun_at : FramesFile → Option Saved → Option (ℕ × Group) → Option Showing
+begun_at f from None = None
+begun_at f from (Some g) = Some (showing_from g.0 (picture_of f g.1.space) (emitted_before from g))
 
--- the frames of the group, where there are to be such and there is the group
-abbrev pub showing_at_start : Tree → Option FramesFile → Option Showing
-showing_at_start tree None = None
-showing_at_start tree (Some f) = begun_at f (group_at f.drawing.group (leaves tree))
+-- the frames of the group, where there are to be such and there is the group: each cell has the
+-- value that it had emitted in the state that the run goes on from, if any
+abbrev pub showing_at_start : Tree → Option Saved → Option FramesFile → Option Showing
+showing_at_start tree from None = None
+showing_at_start tree from (Some f) = begun_at f from (group_at f.drawing.group (leaves tree))
 
 -- the group is there, and its plane can be drawn
 abbrev pub CanDrawOf : FramesFile → Option (ℕ × Group) → Type 0

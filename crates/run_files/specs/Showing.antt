@@ -1,7 +1,11 @@
 -- The frames that are drawn while a run goes on, and what its cycles add to each file.
-use Rattle.std.specs.Prelude.{◌≡◌, ℕ, ◌≤◌, ⊤, Bool, false, Option, Some, None, List, [], ◌∷◌, if◌then◌else◌}
+use Rattle.std.specs.Prelude.{◌≡◌, ℕ, ◌≤◌, ⊤, Bool, false, Option, Some, None, List, [], ◌∷◌, map}
+use Rattle.std.specs.Prelude.{if◌then◌else◌}
+use Rattle.std.specs.List.{range_with_len}
 use Rattle.std.specs.Option.{ForSome}
 use Rattle.quantity.specs.Bytes.{Bytes}
+use Rattle.quantity.specs.declared.value.Value.{Value}
+use Rattle.cell_grid.specs.Space.{cell_count}
 use Rattle.model_tree.specs.Tree.{Tree}
 use Rattle.run_model.specs.Run.{PortRecord, Cycle}
 use Rattle.record_text.specs.declared.records.YRecord.{YRecord}
@@ -23,6 +27,18 @@ with_drawing d w = record { first = w.first; drawing = d }
 -- before anything is shown
 abbrev pub showing_none : ℕ → Picture → Showing
 showing_none first p = record { first = first; drawing = blank p }
+
+-- before anything is shown, where each cell has a value already
+abbrev pub showing_from : ℕ → Picture → (ℕ → Value) → Showing
+showing_from first p start =
+    record {
+      first = first;
+      drawing = record {
+        picture = p;
+        values = map start (range_with_len 0 (cell_count p.space));
+        begun = None;
+      };
+    }
 
 -- what is shown is taken
 abbrev pub with_taken : Option ShownCell → Showing → Showing
@@ -73,12 +89,13 @@ frames_left (Some w) cycles =
     drawn_in_turn w.drawing (shown_in w.drawing.picture.space w.first cycles)
 
 -- what cycles add to each file, and the end of the run
-abbrev pub left_texts : Tree → List ℕ → Option Showing → List Cycle → Texts
-left_texts tree letters w cycles =
+abbrev pub left_texts : Tree → List ℕ → Option Showing → List Cycle → Bytes → Texts
+left_texts tree letters w cycles saved =
     record {
       log = log_bytes tree letters cycles;
       out = out_bytes tree cycles;
       frames = frames_left w cycles;
+      state = saved;
     }
 
 -- ---- tests

@@ -102,7 +102,7 @@ pub record MakesAll (n : Names) (old new : Outside) : Type 0 where
   pub leads : (a : Answer) (inputs : List Word)
       → LeadsTo a (looked_for inputs) (made_after inputs (files n no_texts)) old new
   pub created : new.created ≡ old.created ++ option_to_list n.log ++ option_to_list n.out
-      ++ option_to_list n.frames
+      ++ option_to_list n.frames ++ option_to_list n.state
   pub sure : NoWriteFault old new
   pub only : OnlyMade old new
 

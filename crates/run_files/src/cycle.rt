@@ -165,6 +165,7 @@ fn put_lines(
         Output::Log => log_bytes(records, letters, model, into),
         Output::Out => out_bytes(records, model, into),
         Output::Frames => Ok(()),
+        Output::State => Ok(()),
     }
 }
 

@@ -1,13 +1,15 @@
 // Frames that are drawn while a run goes on.
-ghost use Rattle.std.specs.Prelude.{◌≡◌, ◌++◌, Some, None, map, IfOk, OnOk, OnErr};
+ghost use Rattle.std.specs.Prelude.{◌≡◌, ◌<◌, ◌++◌, Some, None, map, IfOk, OnOk, OnErr};
 ghost use Rattle.std.specs.Option.{ForSome};
-ghost use Rattle.frame_draw.specs.Drawing.{CanDraw, frame_of};
+ghost use Rattle.cell_grid.specs.Space.{cell_count};
+ghost use Rattle.frame_draw.specs.Drawing.{CanDraw, frame_of, with_value};
 ghost use Rattle.frame_draw.specs.Turns.{is_other};
-ghost use Rattle.run_files.specs.Showing.{showing_none, with_taken, shown_of, took, plain, ended};
+ghost use Rattle.run_files.specs.Showing.{showing_none, with_drawing, with_taken, shown_of};
+ghost use Rattle.run_files.specs.Showing.{took, plain, ended};
 
 use cell_grid::Grid;
 use frame_draw::Frames;
-use quantity::{OutOfMemory, Time};
+use quantity::{OutOfMemory, Time, Value};
 use record_text::YRecord;
 use std::alloc::Global;
 use std::marker::Model;
@@ -60,6 +62,29 @@ impl Drawn {
             begun: None,
             frames,
         })
+    }
+
+    /// The leaf number of the first cell of the group.
+    pub fn first(&self) -> u32
+        ensures { result ≡ self.now.first }
+    {
+        self.first
+    }
+
+    /// The number of its cells.
+    pub fn cells(&self) -> u32
+        ensures { result ≡ cell_count self.now.drawing.picture.space }
+    {
+        self.cells
+    }
+
+    /// A cell of the group has this value before anything is shown.
+    pub fn preset(&mut self, cell: u32, value: Value)
+        requires begun { self.old.drawing.begun ≡ None }
+        requires inside { cell < cell_count self.old.drawing.picture.space }
+        ensures { self.new ≡ with_drawing (with_value cell value self.old.drawing) self.old }
+    {
+        self.frames.preset(cell, value);
     }
 
     /// Whether an instant was begun that is another than this.

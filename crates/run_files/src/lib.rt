@@ -1,4 +1,5 @@
-//! The files that a run makes: its log, its output and its frames, which grow cycle by cycle.
+//! The files that a run makes: its log, its output and its frames, which grow cycle by cycle, and the
+//! state at its end.
 #![tactic(auto)]
 
 mod counted;
@@ -17,3 +18,4 @@ pub use drawn::Drawn;
 pub use outputs::{Output, Unwritten};
 pub use start::drawn_at_start;
 pub use tell::tell_unwritten;
+pub use write::write_piece;

@@ -12,6 +12,7 @@ pub enum Output {
     Log,
     Out,
     Frames,
+    State,
 }
 
 /// Why not all was written: a file could not be, or there is no memory.
@@ -29,6 +30,7 @@ pub(crate) fn name_of<'a>(asked: &Asked<'a>, file: Output) -> Option<&'a str>
         Output::Log => asked.given.log,
         Output::Out => asked.given.out,
         Output::Frames => frames_named(&asked.frames),
+        Output::State => asked.given.save,
     }
 }
 

@@ -1,5 +1,5 @@
 // The frames that a run begins with.
-ghost use Rattle.std.specs.Prelude.{◌≡◌, IfOk};
+ghost use Rattle.std.specs.Prelude.{◌≡◌, None, IfOk};
 ghost use Rattle.model_tree.specs.Leaves.{OfTree};
 ghost use Rattle.asked_words.specs.Shown.{asked_of};
 ghost use Rattle.run_files.specs.Groups.{IsFoundIn, CanShowIn, showing_at_start};
@@ -10,7 +10,8 @@ use model_tree::Model;
 use quantity::OutOfMemory;
 use std::alloc::Global;
 
-/// The frames that a run begins with, where there are to be such, of this group of the model.
+/// The frames that a run from the start begins with, where there are to be such, of this group of the
+/// model. No value of a cell is known.
 pub fn drawn_at_start(
     alloc: Global,
     model: &Model,
@@ -20,7 +21,7 @@ pub fn drawn_at_start(
     requires found { IsFoundIn model.now (asked_of asked.now).frames group }
     requires shows { CanShowIn model.now (asked_of asked.now).frames }
     ensures { IfOk result (λ d. OfTree model.now
-        (λ tree. d ≡ showing_at_start tree (asked_of asked.now).frames)) }
+        (λ tree. d ≡ showing_at_start tree None (asked_of asked.now).frames)) }
 {
     let Some(frames) = &asked.frames else {
         return Ok(None);

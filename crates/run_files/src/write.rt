@@ -13,7 +13,12 @@ use quantity::OutOfMemory;
 use room_edge::{Room, WriteAll, write_all};
 
 /// Adds a piece to one of the files, where there was memory to fill it.
-pub(crate) fn write_piece<R: Room>(
+///
+/// # Errors
+///
+/// `Fault` where the file could not be written, `Memory` where memory ran out, also where there was
+/// none to fill the piece: the file has a beginning of it.
+pub fn write_piece<R: Room>(
     room: &mut R,
     asked: &Asked<'_>,
     file: Output,

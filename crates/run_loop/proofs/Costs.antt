@@ -1,20 +1,15 @@
 -- What a run costs: a call takes no more than what is left of the run.
-use Rattle.std.proofs.Common.{◌≡◌, ℕ, zero, suc, ◌+◌, ◌-◌, ◌<◌, ◌≤◌, Option, List, [], ◌∷◌, refl, sym, ap, ◌∙◌, subst, arith}
+use Rattle.std.proofs.Common.{◌≡◌, ℕ, zero, suc, ◌+◌, ◌-◌, ◌<◌, ◌≤◌, List, [], ◌∷◌, refl, sym, ap, ◌∙◌, subst, arith}
 use Rattle.std.specs.List.{sum_by}
 use Rattle.std.proofs.lemmas.List.Sums.{sum_by-cons}
 use Rattle.model_tree.specs.Tree.{Tree, leaf_count}
-use Rattle.run_model.specs.Run.{Cycle, Run, RunState, Verdict, done, too_many, stop, Next, ended, cycled, next_cycle, run_from, in_front, start, most_cycles}
+use Rattle.run_model.specs.Run.{Cycle, Run, RunState, Verdict, done, too_many, stop, Next, ended, cycled, next_cycle, run_from, in_front}
 use Rattle.run_model.specs.Runs.{Runs, ends, goes}
-use Rattle.run_model.specs.Instants.{RunIsARun}
 use Rattle.run_model.specs.Visits.{cycle_visits, last_visits, visits}
 use Rattle.flat_run.specs.Standing.{Standing, tree_in, next_of}
 use Rattle.flat_run.specs.Steps.{Keeps, visits_of}
-use Rattle.asked_words.specs.declared.asked.Asked.{Asked}
-use Rattle.asked_words.specs.declared.group.GroupAt.{GroupAt}
-use Rattle.run_loop.specs.Answers.{MayRun}
 use Rattle.run_loop.specs.Left.{run_of, EndsWithin}
 use Rattle.run_loop.proofs.GoesOn.{run_ended, from_cycled, from_none, run_more, same_tree}
-use Rattle.run_loop.proofs.Answered.{run_is_run}
 
 -- ---- a run whose next cycle is due
 
@@ -101,12 +96,3 @@ whole_next left s m c whole some is keeps =
     subst (λ (t : Tree). Runs t m.end m.limit m.state r.cycles r.verdict r.left) (sym (same_tree s m keeps))
     (subst (λ (e : ℕ). Runs (tree_in s) e m.limit m.state r.cycles r.verdict r.left) (sym keeps.end)
     (subst (λ (l : ℕ). Runs (tree_in s) s.end l m.state r.cycles r.verdict r.left) (sym keeps.limit) behind))
-
--- ---- from the start
-
-pub ends_whole : (a : Asked) (drawn : Option GroupAt) (s : Standing) → MayRun a drawn s → RunIsARun → EndsWithin (most_cycles a.end a.given.limit) s
-ends_whole a drawn s may is_run =
-    let is = is_run (tree_in s) s.state.events s.end s.limit in
-    let r = run_of (most_cycles a.end a.given.limit) s in
-    subst (λ (x : RunState). Runs (tree_in s) s.end s.limit x r.cycles r.verdict r.left) (sym may.starts)
-    (subst (λ (q : Run). Runs (tree_in s) s.end s.limit (start (tree_in s) s.state.events) q.cycles q.verdict q.left) (run_is_run a drawn s may) is)

@@ -32,17 +32,15 @@ use Rattle.answer_model.specs.FaultsAnswered.{AnswersFaults}
 use Rattle.answer_model.proofs.FaultLemmas.{then_answers, said_answers, shown_answers}
 use Rattle.run_files.proofs.Making.{clean_adds}
 use Rattle.run_files.specs.Order.{Piece, texts_of}
-use Rattle.run_files.specs.Pieces.{run_pieces}
 use Rattle.run_files.specs.Written.{Adds, AddsAll}
 use Rattle.run_files.specs.Counts.{Counts, no_counts, counts_of}
 use Rattle.run_files.proofs.Counting.{counts_y, counts_s, ones_counted}
 use Rattle.run_loop.specs.declared.going.Going.{Going}
 use Rattle.run_loop.specs.declared.ending.Ending.{Ending}
-use Rattle.run_loop.specs.Begins.{BeginsWith, counts_at_start}
+use Rattle.run_loop.specs.Begins.{CountsNone, counts_at_start}
 use Rattle.run_loop.specs.Ran.{HasEnded}
-use Rattle.run_loop.specs.Ends.{end_text, made_text, leaf_called, IsSaid, is_shown, is_complained, HasCounted}
+use Rattle.run_loop.specs.Ends.{IsVerdict, end_text, made_text, leaf_called, IsSaid, is_shown, is_complained, HasCounted}
 use Rattle.run_loop.specs.ToBe.{IsAnswerOf}
-use Rattle.run_loop.specs.Told.{TellsEnding}
 use Rattle.run_loop.proofs.Leaving.{told_made}
 
 -- ---- the last line
@@ -149,19 +147,24 @@ told_answers s old new status (is_complained none says) = said_answers s.complai
 
 -- ---- a run whose files are made
 
-has_counted : (a : Asked) (tree : Tree) (r : Run) (was going : Going) (ending : Ending) → BeginsWith a tree was → HasEnded r was going ending → HasCounted a tree r.cycles going
+has_counted : (a : Asked) (tree : Tree) (r : Run) (was going : Going) (ending : Ending) → CountsNone a tree was → HasEnded r was going ending → HasCounted a tree r.cycles going
 has_counted a tree r was going ending begins has =
     record {
       number = let n = has.cycles in let z = begins.cycles in omega (arith, n, z);
       counted = has.counted ∙ ap (option_map (counts_of r.cycles)) begins.counted;
     }
 
-module _ (n : Names) (letters : List ℕ) (a : Asked) (tree : Tree) (r : Run) (old mid new : Outside) (was going : Going) (ending : Ending) (status : Status) (begins : BeginsWith a tree was) (has : HasEnded r was going ending) (adds : AddsAll n (run_pieces tree letters was.drawn r.cycles) old mid) (tells : TellsEnding a tree going ending mid new status) where
+-- what is told of a verdict and of the cycles that were counted
+abbrev pub TellsAny : Asked → Tree → Going → Ending → Outside → Outside → Status → Type 0
+TellsAny a tree going ending old new status =
+    (events : List Event) (cycles : List Cycle) (v : Verdict) → IsVerdict ending v → HasCounted a tree cycles going → IsSaid (said a tree events cycles v) old new status
+
+module _ (n : Names) (pieces : List Piece) (a : Asked) (tree : Tree) (r : Run) (old mid new : Outside) (was going : Going) (ending : Ending) (status : Status) (begins : CountsNone a tree was) (has : HasEnded r was going ending) (adds : AddsAll n pieces old mid) (tells : TellsAny a tree going ending mid new status) where
   told : (events : List Event) → IsSaid (said a tree events r.cycles r.verdict) mid new status
   told events = tells events r.cycles r.verdict has.verdict (has_counted a tree r was going ending begins has)
 
-  pub created_ends : (x : Answer) (events : List Event) (inputs : List Word) → IsAnswerOf n (texts_of (run_pieces tree letters was.drawn r.cycles)) (said a tree events r.cycles r.verdict) x → EndsWith x (made_after inputs (files n no_texts)) old new status
-  created_ends x events inputs is = told_ends x n (texts_of (run_pieces tree letters was.drawn r.cycles)) (said a tree events r.cycles r.verdict) inputs old mid new status is adds.adds (told events)
+  pub created_ends : (x : Answer) (events : List Event) (inputs : List Word) → IsAnswerOf n (texts_of pieces) (said a tree events r.cycles r.verdict) x → EndsWith x (made_after inputs (files n no_texts)) old new status
+  created_ends x events inputs is = told_ends x n (texts_of pieces) (said a tree events r.cycles r.verdict) inputs old mid new status is adds.adds (told events)
 
   pub created_known : IsOf of_run status
   created_known = told_known (said a tree [] r.cycles r.verdict) mid new status (own a tree [] r.cycles r.verdict) (told [])
@@ -169,11 +172,11 @@ module _ (n : Names) (letters : List ℕ) (a : Asked) (tree : Tree) (r : Run) (o
   pub created_rose : status ≡ exit.WriteFault → WriteFaultCounted old new
   created_rose five = told_rose (said a tree [] r.cycles r.verdict) old mid new status (own a tree [] r.cycles r.verdict) adds.adds.keeps (told []) five
 
-pub created_made : (a : Asked) (tree : Tree) (r : Run) (mid new : Outside) (was going : Going) (ending : Ending) (status : Status) → BeginsWith a tree was → HasEnded r was going ending → TellsEnding a tree going ending mid new status → new.made ≡ mid.made
+pub created_made : (a : Asked) (tree : Tree) (r : Run) (mid new : Outside) (was going : Going) (ending : Ending) (status : Status) → CountsNone a tree was → HasEnded r was going ending → TellsAny a tree going ending mid new status → new.made ≡ mid.made
 created_made a tree r mid new was going ending status begins has tells =
     told_made (said a tree [] r.cycles r.verdict) mid new status (tells [] r.cycles r.verdict has.verdict (has_counted a tree r was going ending begins has))
 
-pub created_answers : (n : Names) (pieces : List Piece) (a : Asked) (tree : Tree) (r : Run) (old mid new : Outside) (was going : Going) (ending : Ending) (status : Status) → BeginsWith a tree was → HasEnded r was going ending → AddsAll n pieces old mid → TellsEnding a tree going ending mid new status
+pub created_answers : (n : Names) (pieces : List Piece) (a : Asked) (tree : Tree) (r : Run) (old mid new : Outside) (was going : Going) (ending : Ending) (status : Status) → CountsNone a tree was → HasEnded r was going ending → AddsAll n pieces old mid → TellsAny a tree going ending mid new status
     → AnswersFaults old new status
 created_answers n pieces a tree r old mid new was going ending status begins has adds tells =
     then_answers old mid new status (clean_adds n pieces old mid adds)

@@ -1,12 +1,17 @@
--- The cycles of a run name what there is, and their instants never fall.
-use Rattle.run_model.specs.Run.{start, run}
-use Rattle.run_model.specs.Instants.{StartStands, InstantsOfRuns, RunIsARun}
-use Rattle.run_model.specs.Fitting.{StartFits, RunsFit}
+-- A run with enough cycles for its verdict names what there is, and leaves what fits.
+use Rattle.run_model.specs.Run.{run_from}
+use Rattle.run_model.specs.Instants.{InstantsOfRuns, RunsEnd}
+use Rattle.run_model.specs.Fitting.{RunsFit}
 use Rattle.run_loop.specs.Known.{RunsAreFit}
 
-pub fit_runs : RunIsARun → InstantsOfRuns → StartStands → StartFits → RunsFit → RunsAreFit
-fit_runs whole instants stands fits runs tree events end limit =
-    let r = run tree events end limit in
-    let goes = whole tree events end limit in
-    let at = instants tree end limit 0 (start tree events) r.left r.cycles r.verdict (stands tree events limit) goes in
-    ((runs tree end limit (start tree events) r.left r.cycles r.verdict (fits tree events) goes).0, at.never_fall)
+pub fit_runs : RunsEnd → InstantsOfRuns → RunsFit → RunsAreFit
+fit_runs ends instants runs tree end limit low n s stands states enough =
+    let r = run_from n tree end limit s in
+    let goes = ends n tree end limit low s stands enough in
+    let parts = runs tree end limit s r.left r.cycles r.verdict states goes in
+    record {
+      names = parts.0;
+      never_fall = (instants tree end limit low s r.left r.cycles r.verdict stands goes).never_fall;
+      fits = parts.1;
+      whole = goes;
+    }

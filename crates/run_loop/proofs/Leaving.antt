@@ -1,5 +1,5 @@
 -- The files that a run leaves: pieces that were written, and a line that changes no file.
-use Rattle.std.proofs.Common.{◌≡◌, Option, List, [], inl, inr, refl, sym, ap, ◌∙◌, subst}
+use Rattle.std.proofs.Common.{◌≡◌, ℕ, ◌+◌, ◌≤◌, true, Option, List, [], inl, inr, refl, sym, ap, ◌∙◌, subst, arith}
 use Rattle.std.specs.Prelude.{Ok}
 use Rattle.std.proofs.lemmas.List.{append-nil}
 use Rattle.quantity.specs.Bytes.{Bytes}
@@ -12,8 +12,10 @@ use Rattle.answer_model.specs.Answer.{Answer, write_fault_line}
 use Rattle.answer_model.specs.Headline.{puts_all}
 use Rattle.answer_model.specs.Endings.{Says, ShowsEnd, all_shown, stopped, unshown, made_after, looked_for, LeadsTo}
 use Rattle.answer_model.specs.RunEnd.{Said}
+use Rattle.answer_model.specs.RunFiles.{saved_text}
 use Rattle.answer_model.proofs.Endings.{steps_lead}
 use Rattle.answer_model.proofs.Said.{said_only}
+use Rattle.flat_run.specs.Standing.{Standing}
 use Rattle.run_files.specs.declared.outputs.Unwritten.{Unwritten}
 use Rattle.run_files.specs.declared.outputs.Unwritten.TheVariants.{Fault, Memory}
 use Rattle.run_files.specs.Texts.{Names, no_texts, files, name_at, made_before}
@@ -26,7 +28,8 @@ use Rattle.run_loop.specs.declared.ending.Ending.{Ending}
 use Rattle.run_loop.specs.declared.going.Going.{Going}
 use Rattle.run_loop.specs.Ends.{IsSaid, is_shown, is_complained}
 use Rattle.run_loop.specs.Ran.{RunsWhole, BreaksOff, WritesBegun}
-use Rattle.run_loop.specs.Leaves.{Asking, Spent, Leaves, some_made, all_made}
+use Rattle.run_loop.specs.Left.{run_of}
+use Rattle.run_loop.specs.Leaves.{Asking, Spent, spent, first_visits, begun_visits, Leaves, some_made, all_made}
 
 -- ---- what is told changes no file
 
@@ -49,7 +52,8 @@ tells_made n Memory old new status blames (own, same) = ap (λ (o : Outside). o.
 
 pub all_written : (a : Asking) (r : Run) (old new : Going) (outside mid later : Outside) (spent : Spent) (ending : Ending) → RunsWhole a r old new outside mid spent (Ok ending) → later.made ≡ mid.made → WritesBegun a r old.drawn outside later spent
 all_written a r old new outside mid later spent ending (has, is, within) same =
-    record { begun = r.cycles; behind = []; cycles = sym (append-nil r.cycles); part = texts_of (run_pieces a.tree a.letters old.drawn r.cycles); order = inl refl; within = within; written = mid; adds = is.adds; told = same }
+    let pieces = run_pieces a.tree a.letters old.drawn r.cycles (saved_text a.end a.tree r) in
+    record { begun = r.cycles; behind = []; cycles = sym (append-nil r.cycles); part = texts_of pieces; order = inl refl; within = within; written = mid; adds = is.adds; told = same }
 
 pub some_written : (a : Asking) (why : Unwritten) (r : Run) (w : Option Showing) (outside mid later : Outside) (spent : Spent) → BreaksOff a why r w outside mid spent → later.made ≡ mid.made → WritesBegun a r w outside later spent
 some_written a why r w outside mid later spent b same =
@@ -61,14 +65,21 @@ some_written a why r w outside mid later spent b same =
 made_by : (x : Answer) (inputs : List Word) (fs : List (Word × Bytes)) (old new : Outside) → LeadsTo x (looked_for []) (made_after [] fs) old new → new.made ≡ puts_all old.made fs
 made_by x inputs fs old new leads = (leads old (steps_lead.start x old)).more.made
 
-pub created_leaves : (x : Answer) (a : Asking) (r : Run) (w : Option Showing) (old mid new : Outside) (spent : Spent) → MakesAll a.names old mid → WritesBegun a r w mid new spent → Leaves a r w old new spent
-created_leaves x a r w old mid new spent made b =
+-- the visits before the first cycle, and those of the cycles that were begun
+pub created_leaves : (x : Answer) (a : Asking) (r : Run) (w : Option Showing) (old mid new : Outside) (before first after : ℕ) → first ≤ before + first_visits a → MakesAll a.names old mid → WritesBegun a r w mid new (spent true first after)
+    → Leaves a r w old new (spent true before after)
+created_leaves x a r w old mid new before first after cost made b =
     let leads : LeadsTo x (looked_for []) (made_after [] (files a.names b.part)) old b.written = λ start way. b.adds.leads no_texts x [] start (made.leads x [] start way) in
-    all_made b.begun b.behind b.part b.cycles b.order (b.told ∙ made_by x [] (files a.names b.part) old b.written leads) b.within
+    all_made b.begun b.behind b.part b.cycles b.order (b.told ∙ made_by x [] (files a.names b.part) old b.written leads) (sum (first_visits a) (begun_visits a r b.begun b.behind) cost b.within)
+  where
+    sum : (c d : ℕ) → first ≤ before + c → after ≤ first + d → after ≤ before + c + d
+    sum c d p q = omega (arith, p, q)
 
-pub unmade_leaves : (x : Answer) (a : Asking) (r : Run) (w : Option Showing) (why : Unwritten) (old mid new : Outside) (spent : Spent) → FallsMaking a.names why old mid → new.made ≡ mid.made → spent.after ≡ spent.before → Leaves a r w old new spent
-unmade_leaves x a r w why old mid new spent f same none = some_made f.file (same ∙ made_by x [] (made_before a.names f.file) old mid (f.leads x [])) none
+pub unmade_leaves : (x : Answer) (a : Asking) (r : Run) (w : Option Showing) (why : Unwritten) (old mid new : Outside) (before first : ℕ) → first ≤ before + first_visits a → FallsMaking a.names why old mid → new.made ≡ mid.made
+    → Leaves a r w old new (spent true before first)
+unmade_leaves x a r w why old mid new before first cost f same = some_made f.file (same ∙ made_by x [] (made_before a.names f.file) old mid (f.leads x [])) cost
 
--- with the frames that are asked for
-pub leaves_as : (a : Asking) (r : Run) (w v : Option Showing) (old new : Outside) (spent : Spent) → w ≡ v → Leaves a r w old new spent → Leaves a r v old new spent
-leaves_as a r w v old new spent drawn l = subst (λ (x : Option Showing). Leaves a r x old new spent) drawn l
+-- with the frames that are asked for, and the most cycles that the run may have
+pub leaves_as : (a : Asking) (s : Standing) (k n : ℕ) (w v : Option Showing) (old new : Outside) (spent : Spent) → k ≡ n → w ≡ v → Leaves a (run_of k s) w old new spent → Leaves a (run_of n s) v old new spent
+leaves_as a s k n w v old new spent number drawn l =
+    subst (λ (m : ℕ). Leaves a (run_of m s) v old new spent) number (subst (λ (x : Option Showing). Leaves a (run_of k s) x old new spent) drawn l)

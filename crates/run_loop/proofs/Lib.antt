@@ -2,8 +2,12 @@ pub mod Known
 pub mod GoesOn
 pub mod Costs
 pub mod Stands
+pub mod Whole
 pub mod Ended
+pub mod Sounds
+pub mod Apart
 pub mod Answered
 pub mod Leaving
-pub mod Told
 pub mod Numbers
+pub mod Saving
+pub mod Emitted

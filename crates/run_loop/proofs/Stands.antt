@@ -16,21 +16,26 @@ use Rattle.run_model.specs.Fitting.{NamesItsParts}
 use Rattle.run_model.specs.Visits.{cycle_visits, last_visits, visits}
 use Rattle.record_text.specs.declared.records.Records.{Records}
 use Rattle.record_text.specs.Named.{NamesLeaves}
+use Rattle.record_text.specs.Chosen.{letters_of}
 use Rattle.record_text.proofs.NamedLeaves.{cycles_name_leaves}
 use Rattle.room_edge.specs.Outside.{Outside}
+use Rattle.quantity.specs.Bytes.{Bytes}
+use Rattle.answer_model.specs.RunFiles.{saved_text}
+use Rattle.asked_words.specs.declared.asked.Asked as code
 use Rattle.run_leaves.specs.Seated.{settings_at}
 use Rattle.flat_run.specs.Standing.{Standing, tree_in, next_of}
 use Rattle.flat_run.specs.Steps as run
 use Rattle.flat_run.specs.Steps.{Keeps, Cycles, visits_of}
 use Rattle.flat_run.specs.declared.progress.Stop.{Stop}
-use Rattle.run_files.specs.declared.outputs.Output.TheVariants.{Frames}
+use Rattle.run_files.specs.declared.outputs.Output.TheVariants.{Frames, State}
 use Rattle.run_files.specs.declared.outputs.Unwritten.{Unwritten}
 use Rattle.run_files.specs.declared.outputs.Unwritten.TheVariants as why
+use Rattle.run_files.specs.AskedFiles.{names_of}
 use Rattle.run_files.specs.Texts.{Names, AreCreated}
-use Rattle.run_files.specs.Order.{piece_of, one_piece}
+use Rattle.run_files.specs.Order.{Piece, piece_of, one_piece}
 use Rattle.run_files.specs.Written.{AddsAll, Falls}
 use Rattle.run_files.specs.Showing.{Showing, after_cycle, last_frame}
-use Rattle.run_files.specs.Pieces.{cycle_pieces, drawn_after, cycles_pieces, run_pieces}
+use Rattle.run_files.specs.Pieces.{cycle_pieces, drawn_after, cycles_pieces, end_pieces, run_pieces}
 use Rattle.run_files.specs.Counts.{Counts, counts_after, counts_of}
 use Rattle.run_files.proofs.Adding.{all_none, all_both, all_as, fell_at_once, falls_after, falls_before, falls_as}
 use Rattle.run_files.proofs.Cycles.{none_of_cycle}
@@ -38,11 +43,11 @@ use Rattle.run_files.proofs.Pieces.{after_split, pieces_split, pieces_next}
 use Rattle.run_loop.specs.declared.ending.Ending.{Ending}
 use Rattle.run_loop.specs.declared.ending.Ending.TheVariants.{Done, Stopped}
 use Rattle.run_loop.specs.declared.going.Going.{Going}
-use Rattle.run_loop.specs.Left.{run_of, EndsWithin, HaveValues}
+use Rattle.run_loop.specs.Left.{run_of, EndsWithin, HaveValues, IsFitTo}
 use Rattle.run_loop.specs.Ends.{IsVerdict}
 use Rattle.run_loop.specs.DoneIn.{DoneIn}
 use Rattle.run_loop.specs.Leaves.{Spent, spent as spent_of, begun_pieces, begun_visits}
-use Rattle.run_loop.specs.Ran.{asking, BreaksOff, RunsTo, RunsWhole}
+use Rattle.run_loop.specs.Ran.{asking, BreaksOff, RunsTo}
 use Rattle.run_loop.specs.Stopping.{StopsAs}
 use Rattle.run_loop.proofs.GoesOn.{run_ended, run_more, same_tree, stops_with, keeps-refl, keeps-trans}
 use Rattle.run_loop.proofs.Costs.{call_within, some_left, has_cycle, whole_next}
@@ -70,7 +75,7 @@ none_counted (Some k) = refl
 -- ---- between two cycles
 
 -- these cycles are done, and the run stands before those that are left
-pub record Stands (n : Names) (letters : List ℕ) (most left : ℕ) (s0 s : Standing) (old : Going) (drawn : Option Showing) (counted : Option Counts) (cycles : ℕ) (outside later : Outside) (spent : Spent) : Type 0 where
+pub record Stands (a : code.Asked) (most left : ℕ) (s0 s : Standing) (old : Going) (drawn : Option Showing) (counted : Option Counts) (cycles : ℕ) (outside later : Outside) (spent : Spent) : Type 0 where
   pub finished : List Cycle
   pub all : (run_of most s0).cycles ≡ finished ++ (run_of left s).cycles
   pub verdict : (run_of left s).verdict ≡ (run_of most s0).verdict
@@ -81,14 +86,14 @@ pub record Stands (n : Names) (letters : List ℕ) (most left : ℕ) (s0 s : Sta
   pub shows : drawn ≡ drawn_after finished old.drawn
   pub goes : s.stopped ≡ None
   pub keeps : Keeps s0 s
-  pub adds : AddsAll n (cycles_pieces (tree_in s0) letters old.drawn finished) outside later
+  pub adds : AddsAll (names_of a) (cycles_pieces (tree_in s0) (letters_of a.given.letters) old.drawn finished) outside later
   pub names : All (NamesItsParts (tree_in s0)) (run_of left s).cycles
   pub whole : EndsWithin left s
   pub within : OnTrue spent.is_counted (spent.after ≤ spent.before + cost_of s0 finished)
 
-pub stands_first : (n : Names) (letters : List ℕ) (most : ℕ) (s : Standing) (old : Going) (now : Outside) (is_counted : Bool) (visited : ℕ) → s.stopped ≡ None → All (NamesItsParts (tree_in s)) (run_of most s).cycles → EndsWithin most s
-    → Stands n letters most most s s old old.drawn old.counted old.cycles now now (spent_of is_counted visited visited)
-stands_first n letters most s old now is_counted visited none names whole =
+pub stands_first : (a : code.Asked) (most : ℕ) (s : Standing) (old : Going) (now : Outside) (is_counted : Bool) (visited : ℕ) → s.stopped ≡ None → IsFitTo most s
+    → Stands a most most s s old old.drawn old.counted old.cycles now now (spent_of is_counted visited visited)
+stands_first a most s old now is_counted visited none fit =
     record {
       finished = [];
       all = refl;
@@ -100,38 +105,53 @@ stands_first n letters most s old now is_counted visited none names whole =
       shows = refl;
       goes = none;
       keeps = keeps-refl s;
-      adds = all_none n now;
-      names = names;
-      whole = whole;
+      adds = all_none (names_of a) now;
+      names = fit.names;
+      whole = fit.whole;
       within = OnTrue_from is_counted _ (λ on. omega arith);
     }
 
 -- ---- where a run breaks off
 
--- its cycles are those that were begun and those behind
-begun_of : (n : Names) (letters : List ℕ) (s : Standing) (why : Unwritten) (w : Option Showing) (begun behind : List Cycle) (outside later : Outside) → Falls n why (cycles_pieces (tree_in s) letters w begun) outside later
-    → Falls n why (begun_pieces (asking n letters s) w begun behind) outside later
-begun_of n letters s why w begun [] outside later falls = falls_before n why (cycles_pieces (tree_in s) letters w begun) (one_piece Frames (last_frame (drawn_after begun w))) outside later falls
-begun_of n letters s why w begun (c ∷ cs) outside later falls = falls
+-- the state that is saved of a run
+abbrev pub saved_in : code.Asked → Standing → Run → Bytes
+saved_in a s r = saved_text a.end (tree_in s) r
 
-cost_begun : (s : Standing) (r : Run) (begun behind : List Cycle) → cost_of s begun ≤ begun_visits (tree_in s) r begun behind
-cost_begun s r begun [] = omega arith
-cost_begun s r begun (c ∷ cs) = omega arith
+-- its cycles are those that were begun and those behind
+begun_of : (a : code.Asked) (s : Standing) (r : Run) (why : Unwritten) (w : Option Showing) (begun behind : List Cycle) (outside later : Outside) → Falls (names_of a) why (cycles_pieces (tree_in s) (letters_of a.given.letters) w begun) outside later
+    → Falls (names_of a) why (begun_pieces (asking a s) r w begun behind) outside later
+begun_of a s r why w begun [] outside later falls =
+    falls_before (names_of a) why (cycles_pieces (tree_in s) (letters_of a.given.letters) w begun) (end_pieces (drawn_after begun w) (saved_in a s r)) outside later falls
+begun_of a s r why w begun (c ∷ cs) outside later falls = falls
+
+cost_begun : (a : code.Asked) (s : Standing) (r : Run) (begun behind : List Cycle) → cost_of s begun ≤ begun_visits (asking a s) r begun behind
+cost_begun a s r begun [] = omega arith
+cost_begun a s r begun (c ∷ cs) = omega arith
+
+-- all that a run writes
+abbrev pub all_pieces : code.Asked → Standing → Run → Option Showing → List Piece
+all_pieces a s r w = run_pieces (tree_in s) (letters_of a.given.letters) w r.cycles (saved_in a s r)
+
+whole_by : (n : Names) (tree : Tree) (letters : List ℕ) (saved : Bytes) (why : Unwritten) (w : Option Showing) (begun : List Cycle) (c : Cycle) (cs : List Cycle) (outside later : Outside) → Falls n why (cycles_pieces tree letters w begun) outside later
+    → Falls n why (run_pieces tree letters w (begun ++ c ∷ cs) saved) outside later
+whole_by n tree letters saved why w begun c cs outside later falls =
+    let first = cycles_pieces tree letters w begun in
+    let rest = cycles_pieces tree letters (drawn_after begun w) (c ∷ cs) in
+    falls_before n why (cycles_pieces tree letters w (begun ++ c ∷ cs)) (end_pieces (drawn_after (begun ++ c ∷ cs) w) saved) outside later
+    (falls_as n why (first ++ rest) (cycles_pieces tree letters w (begun ++ c ∷ cs)) outside later (sym (pieces_split tree letters w begun (c ∷ cs)))
+    (falls_before n why first rest outside later falls))
 
 -- so a beginning of all that the run writes is written
-pub begun_whole : (n : Names) (letters : List ℕ) (s : Standing) (why : Unwritten) (r : Run) (w : Option Showing) (outside later : Outside) (spent : Spent) → BreaksOff (asking n letters s) why r w outside later spent
-    → Falls n why (run_pieces (tree_in s) letters w r.cycles) outside later
-begun_whole n letters s why r w outside later spent b =
-    subst (λ (cs : List Cycle). Falls n why (run_pieces (tree_in s) letters w cs) outside later) (sym b.cycles) (by b.begun b.behind b.falls)
+pub begun_whole : (a : code.Asked) (s : Standing) (why : Unwritten) (r : Run) (w : Option Showing) (outside later : Outside) (spent : Spent) → BreaksOff (asking a s) why r w outside later spent
+    → Falls (names_of a) why (all_pieces a s r w) outside later
+begun_whole a s why r w outside later spent b =
+    subst (λ (cs : List Cycle). Falls (names_of a) why (run_pieces (tree_in s) (letters_of a.given.letters) w cs (saved_in a s r)) outside later) (sym b.cycles) (by b.begun b.behind b.falls)
   where
-    by : (begun behind : List Cycle) → Falls n why (begun_pieces (asking n letters s) w begun behind) outside later → Falls n why (run_pieces (tree_in s) letters w (begun ++ behind)) outside later
-    by begun [] falls = subst (λ (cs : List Cycle). Falls n why (run_pieces (tree_in s) letters w cs) outside later) (sym (append-nil begun)) falls
-    by begun (c ∷ cs) falls =
-        let first = cycles_pieces (tree_in s) letters w begun in
-        let rest = cycles_pieces (tree_in s) letters (drawn_after begun w) (c ∷ cs) in
-        falls_before n why (cycles_pieces (tree_in s) letters w (begun ++ c ∷ cs)) (one_piece Frames (last_frame (drawn_after (begun ++ c ∷ cs) w))) outside later
-        (falls_as n why (first ++ rest) (cycles_pieces (tree_in s) letters w (begun ++ c ∷ cs)) outside later (sym (pieces_split (tree_in s) letters w begun (c ∷ cs)))
-        (falls_before n why first rest outside later falls))
+    by : (begun behind : List Cycle) → Falls (names_of a) why (begun_pieces (asking a s) r w begun behind) outside later
+        → Falls (names_of a) why (run_pieces (tree_in s) (letters_of a.given.letters) w (begun ++ behind) (saved_in a s r)) outside later
+    by begun [] falls =
+        subst (λ (cs : List Cycle). Falls (names_of a) why (run_pieces (tree_in s) (letters_of a.given.letters) w cs (saved_in a s r)) outside later) (sym (append-nil begun)) falls
+    by begun (c ∷ cs) falls = whole_by (names_of a) (tree_in s) (letters_of a.given.letters) (saved_in a s r) why w begun c cs outside later falls
 
 -- the visits of all
 whole_cost : (s : Standing) (r : Run) (ds cs : List Cycle) (v : Verdict) (l : RunState) → r.cycles ≡ ds ++ cs → v ≡ r.verdict → l ≡ r.left
@@ -146,7 +166,13 @@ last_cost s done = refl
 last_cost s (too_many t) = refl
 last_cost s (stop leaf t why) = refl
 
-module _ (n : Names) (letters : List ℕ) (most left : ℕ) (s0 s : Standing) (old : Going) (drawn : Option Showing) (counted : Option Counts) (cycles : ℕ) (outside mid : Outside) (spent : Spent) (was : Stands n letters most left s0 s old drawn counted cycles outside mid spent) where
+module _ (a : code.Asked) (most left : ℕ) (s0 s : Standing) (old : Going) (drawn : Option Showing) (counted : Option Counts) (cycles : ℕ) (outside mid : Outside) (spent : Spent) (was : Stands a most left s0 s old drawn counted cycles outside mid spent) where
+  abbrev n : Names
+  n = names_of a
+
+  abbrev letters : List ℕ
+  letters = letters_of a.given.letters
+
   abbrev all : Run
   all = run_of most s0
 
@@ -198,7 +224,7 @@ module _ (n : Names) (letters : List ℕ) (most left : ℕ) (s0 s : Standing) (o
 
   pub stands_next : (m : Standing) (t : ℕ) (records : Records) (model : Model) (new : Outside) (drawn' : Option Showing) (counted' : Option Counts) (cycles' : ℕ) (after : ℕ) → 0 < left → (step : Cycles s t m records) → model ≡ m.model
       → AddsAll n (cycle_pieces (tree_of model (settings_at s0.settings)) letters drawn step.cycle) mid new → drawn' ≡ option_map (after_cycle step.cycle) drawn → counted' ≡ option_map (counts_after step.cycle) counted → cycles' ≡ cycles + 1 → Calls after
-      → Stands n letters most (left - 1) s0 m old drawn' counted' cycles' outside new (then_spent after)
+      → Stands a most (left - 1) s0 m old drawn' counted' cycles' outside new (then_spent after)
   stands_next m t records model new drawn' counted' cycles' after some step model_is adds drawn_is counted_is cycles_is calls =
       let c = step.cycle in
       let is = due m c some step.next step.keeps in
@@ -225,7 +251,7 @@ module _ (n : Names) (letters : List ℕ) (most left : ℕ) (s0 s : Standing) (o
 
   -- a cycle that was begun is written in part
   breaks_in : (why : Unwritten) (c : Cycle) (m : RunState) (cs : List Cycle) (new : Outside) (after : ℕ) → (run_of left s).cycles ≡ c ∷ cs → next_of s ≡ cycled c m → Falls n why (cycle_pieces tree letters drawn c) mid new → Calls after
-      → BreaksOff (asking n letters s0) why all old.drawn outside new (then_spent after)
+      → BreaksOff (asking a s0) why all old.drawn outside new (then_spent after)
   breaks_in why c m cs new after is next falls calls =
       let begun = was.finished ++ c ∷ [] in
       let first = cycles_pieces tree letters old.drawn was.finished in
@@ -233,18 +259,18 @@ module _ (n : Names) (letters : List ℕ) (most left : ℕ) (s0 s : Standing) (o
         begun = begun;
         behind = cs;
         cycles = all_next cs c is;
-        falls = begun_of n letters s0 why old.drawn begun cs outside new
+        falls = begun_of a s0 all why old.drawn begun cs outside new
             (falls_as n why (first ++ cycle_pieces tree letters drawn c) (cycles_pieces tree letters old.drawn begun) outside new (pieces_with c)
             (falls_after n why first (cycle_pieces tree letters drawn c) outside mid new was.adds falls));
         within = OnTrue_from spent.is_counted _ (λ on.
             let cost = OnTrue_at on (within_due c m after next calls) in
-            let most = cost_begun s0 all begun cs in
-            omega (arith, cost, most));
+            let more = cost_begun a s0 all begun cs in
+            omega (arith, cost, more));
       }
 
   pub breaks_next : (m : Standing) (t : ℕ) (records : Records) (model : Model) (new : Outside) (why : Unwritten) (after : ℕ) → 0 < left → (step : Cycles s t m records) → model ≡ m.model
       → Falls n why (cycle_pieces (tree_of model (settings_at s0.settings)) letters drawn step.cycle) mid new → Calls after
-      → BreaksOff (asking n letters s0) why all old.drawn outside new (then_spent after)
+      → BreaksOff (asking a s0) why all old.drawn outside new (then_spent after)
   breaks_next m t records model new why after some step model_is falls calls =
       breaks_in why step.cycle m.state (later m) new after (due m step.cycle some step.next step.keeps) step.next
       (subst (λ (x : Tree). Falls n why (cycle_pieces x letters drawn step.cycle) mid new) (same_model m model model_is step.keeps) falls) calls
@@ -260,9 +286,9 @@ module _ (n : Names) (letters : List ℕ) (most left : ℕ) (s0 s : Standing) (o
       let before = OnTrue_at on was.within in
       omega (arith, one, before, cost))
 
-  -- no cycle is left, and the last frame isn't written
-  breaks_last : (why : Unwritten) (v : Verdict) (new : Outside) (after : ℕ) → next_of s ≡ ended v → Falls n why (one_piece Frames (last_frame drawn)) mid new → Calls after
-      → BreaksOff (asking n letters s0) why all old.drawn outside new (then_spent after)
+  -- no cycle is left, and not all of the end is written
+  breaks_last : (why : Unwritten) (v : Verdict) (new : Outside) (after : ℕ) → next_of s ≡ ended v → Falls n why (end_pieces drawn (saved_in a s0 all)) mid new → Calls after
+      → BreaksOff (asking a s0) why all old.drawn outside new (then_spent after)
   breaks_last why v new after is falls calls =
       let none : (run_of left s).cycles ≡ [] = ap (λ (r : Run). r.cycles) (run_ended left s v is) in
       let first = cycles_pieces tree letters old.drawn was.finished in
@@ -270,24 +296,26 @@ module _ (n : Names) (letters : List ℕ) (most left : ℕ) (s0 s : Standing) (o
         begun = was.finished;
         behind = [];
         cycles = was.all ∙ ap (λ cs. was.finished ++ cs) none;
-        falls = falls_after n why first (one_piece Frames (last_frame (drawn_after was.finished old.drawn))) outside mid new was.adds
-            (subst (λ (w : Option Showing). Falls n why (one_piece Frames (last_frame w)) mid new) was.shows falls);
-        within = within_last v after is calls;
+        falls = falls_after n why first (end_pieces (drawn_after was.finished old.drawn) (saved_in a s0 all)) outside mid new was.adds
+            (subst (λ (w : Option Showing). Falls n why (end_pieces w (saved_in a s0 all)) mid new) was.shows falls);
+        within = OnTrue_from spent.is_counted _ (λ on.
+            let cost = OnTrue_at on (within_last v after is calls) in
+            omega (arith, cost));
       }
 
   -- memory ran out in the call
-  pub breaks_here : (after : ℕ) → Calls after → BreaksOff (asking n letters s0) why.Memory all old.drawn outside mid (then_spent after)
+  pub breaks_here : (after : ℕ) → Calls after → BreaksOff (asking a s0) why.Memory all old.drawn outside mid (then_spent after)
   breaks_here after calls = by (next_of s) refl
     where
-      by : (x : Next) → next_of s ≡ x → BreaksOff (asking n letters s0) why.Memory all old.drawn outside mid (then_spent after)
-      by (ended v) is = breaks_last why.Memory v mid after is (fell_at_once n (piece_of Frames (last_frame drawn)) [] mid) calls
+      by : (x : Next) → next_of s ≡ x → BreaksOff (asking a s0) why.Memory all old.drawn outside mid (then_spent after)
+      by (ended v) is = breaks_last why.Memory v mid after is (fell_at_once n (piece_of Frames (last_frame drawn)) (one_piece State (saved_in a s0 all)) mid) calls
       by (cycled c m) is =
           let first = has_cycle left s c m was.whole is in
           breaks_in why.Memory c m first.0 mid after first.1 is (none_of_cycle n tree letters drawn c mid) calls
 
   -- the run ends here
   pub ends_by_verdict : (v : Verdict) (ending : Ending) (new : Going) (after : ℕ) → next_of s ≡ ended v → IsVerdict ending v → new.drawn ≡ drawn → new.counted ≡ counted → new.cycles ≡ cycles → Calls after
-      → RunsTo (asking n letters s0) all old new outside mid (then_spent after) (Ok ending)
+      → RunsTo (asking a s0) all old new outside mid (then_spent after) (Ok ending)
   ends_by_verdict v ending new after is verdict drawn_is counted_is cycles_is calls =
       let none : (run_of left s).cycles ≡ [] = ap (λ (r : Run). r.cycles) (run_ended left s v is) in
       let same : all.cycles ≡ was.finished = was.all ∙ ap (λ cs. was.finished ++ cs) none ∙ append-nil was.finished in
@@ -312,7 +340,7 @@ module _ (n : Names) (letters : List ℕ) (most left : ℕ) (s0 s : Standing) (o
 
   -- a stop ends the run, or memory ran out
   pub stops_here : (m : Standing) (records : Records) (halt : Stop) (result : Result Ending Unwritten) (new : Going) (after : ℕ) → run.Steps s (Err halt) m records → StopsAs halt result → new.drawn ≡ drawn → new.counted ≡ counted → new.cycles ≡ cycles → Calls after
-      → RunsTo (asking n letters s0) all old new outside mid (then_spent after) result
+      → RunsTo (asking a s0) all old new outside mid (then_spent after) result
   stops_here m records halt (Ok Done) new after step how drawn_is counted_is cycles_is calls = absurd how
   stops_here m records halt (Ok (Stopped st)) new after step how drawn_is counted_is cycles_is calls =
       let v = stops_with s m records halt step how.1 in
@@ -346,29 +374,3 @@ pub stop_no_end : (halt : Stop) (result : Result Ending Unwritten) (left : RunSt
 stop_no_end halt (Ok Done) left s how = absurd how
 stop_no_end halt (Ok (Stopped st)) left s how = tt
 stop_no_end halt (Err why) left s how = tt
-
--- ---- with the last frame
-
-pub whole_run : (n : Names) (letters : List ℕ) (s : Standing) (r : Run) (old mid new : Going) (ending : Ending) (outside first later : Outside) (spent : Spent) → RunsTo (asking n letters s) r old mid outside first spent (Ok ending)
-    → AddsAll n (one_piece Frames (last_frame mid.drawn)) first later → new.counted ≡ mid.counted → new.cycles ≡ mid.cycles → RunsWhole (asking n letters s) r old new outside later spent (Ok ending)
-whole_run n letters s r old mid new ending outside first later spent (has, is) adds counted_is cycles_is = (
-  record { verdict = has.verdict; cycles = cycles_is ∙ has.cycles; counted = counted_is ∙ has.counted },
-  all_both n (cycles_pieces (tree_in s) letters old.drawn r.cycles) (one_piece Frames (last_frame (drawn_after r.cycles old.drawn))) outside first later is.adds
-      (subst (λ (w : Option Showing). AddsAll n (one_piece Frames (last_frame w)) first later) is.drawn adds),
-  is.within,
-)
-
-pub last_fell : (n : Names) (letters : List ℕ) (s : Standing) (r : Run) (old mid : Going) (ending : Ending) (why : Unwritten) (outside first later : Outside) (spent : Spent) → RunsTo (asking n letters s) r old mid outside first spent (Ok ending)
-    → Falls n why (one_piece Frames (last_frame mid.drawn)) first later → BreaksOff (asking n letters s) why r old.drawn outside later spent
-last_fell n letters s r old mid ending why outside first later spent (has, is) falls =
-    record {
-      begun = r.cycles;
-      behind = [];
-      cycles = sym (append-nil r.cycles);
-      falls = falls_after n why (cycles_pieces (tree_in s) letters old.drawn r.cycles) (one_piece Frames (last_frame (drawn_after r.cycles old.drawn))) outside first later is.adds
-          (subst (λ (w : Option Showing). Falls n why (one_piece Frames (last_frame w)) first later) is.drawn falls);
-      within = is.within;
-    }
-
-pub adds_created : (n : Names) (letters : List ℕ) (s : Standing) (r : Run) (old mid : Going) (ending : Ending) (outside first : Outside) (spent : Spent) → RunsTo (asking n letters s) r old mid outside first spent (Ok ending) → AreCreated n outside.created → AreCreated n first.created
-adds_created n letters s r old mid ending outside first spent (has, is) created = subst (AreCreated n) (sym is.adds.adds.created) created

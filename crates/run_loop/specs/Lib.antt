@@ -8,4 +8,5 @@ pub mod DoneIn
 pub mod Stopping
 pub mod Begins
 pub mod ToBe
-pub mod Told
+pub mod Saving
+pub mod Emitted

@@ -1,12 +1,19 @@
 -- What a run came to: its verdict and all that it writes, or the cycles that were begun.
-use Rattle.std.specs.Prelude.{◌≡◌, ℕ, ◌+◌, ◌≤◌, Option, List, [], ◌++◌, length, Result, Ok, Err}
+use Rattle.std.specs.Prelude.{◌≡◌, ◌+◌, ◌≤◌, Option, List, [], ◌++◌, length, Result, Ok, Err}
 use Rattle.std.specs.Bool.{OnTrue}
+use Rattle.std.specs.List.{sum_by}
 use Rattle.std.specs.Option.{option_map}
 use Rattle.run_model.specs.Run.{Cycle, Run}
+use Rattle.run_model.specs.Visits.{cycle_visits, last_visits}
 use Rattle.room_edge.specs.Outside.{Outside}
 use Rattle.flat_run.specs.Standing.{Standing, tree_in}
 use Rattle.run_files.specs.declared.outputs.Unwritten.{Unwritten}
-use Rattle.run_files.specs.Texts.{Names, Texts}
+use Rattle.record_text.specs.Chosen.{letters_of}
+use Rattle.answer_model.specs.RunFiles.{saved_text}
+use Rattle.asked_words.specs.declared.asked.Asked as code
+use Rattle.asked_words.specs.Shown.{text_of_name}
+use Rattle.run_files.specs.AskedFiles.{names_of}
+use Rattle.run_files.specs.Texts.{Texts}
 use Rattle.run_files.specs.Written.{Adds, AddsAll, Falls}
 use Rattle.run_files.specs.Showing.{Showing}
 use Rattle.run_files.specs.Pieces.{drawn_after, cycles_pieces, run_pieces}
@@ -17,8 +24,15 @@ use Rattle.run_loop.specs.Ends.{IsVerdict}
 use Rattle.run_loop.specs.Leaves.{Asking, Spent, begun_pieces, begun_visits, ArePiecesOf}
 
 -- of a run from where it stands
-abbrev pub asking : Names → List ℕ → Standing → Asking
-asking n letters s = record { names = n; tree = tree_in s; letters = letters }
+abbrev pub asking : code.Asked → Standing → Asking
+asking a s =
+    record {
+      names = names_of a;
+      tree = tree_in s;
+      letters = letters_of a.given.letters;
+      end = a.end;
+      state = text_of_name a.given.state;
+    }
 
 -- a write failed or memory ran out: the files have no more than the first pieces of the cycles that
 -- were begun, and there were no more visits than these cost
@@ -27,9 +41,9 @@ pub record BreaksOff (a : Asking) (why : Unwritten) (r : Run) (w : Option Showin
   pub begun : List Cycle
   pub behind : List Cycle
   pub cycles : r.cycles ≡ begun ++ behind
-  pub falls : Falls a.names why (begun_pieces a w begun behind) outside later
+  pub falls : Falls a.names why (begun_pieces a r w begun behind) outside later
   pub within : OnTrue spent.is_counted
-      (spent.after ≤ spent.before + begun_visits a.tree r begun behind)
+      (spent.after ≤ spent.before + begun_visits a r begun behind)
 
 -- ---- the end
 
@@ -40,16 +54,23 @@ pub record HasEnded (r : Run) (old new : Going) (ending : Ending) : Type 0 where
   pub counted : new.counted ≡ option_map (counts_of r.cycles) old.counted
 
 -- there were no more visits than all its cycles and the verdict cost
+abbrev pub CostsCycles : Asking → Run → Spent → Type 0
+CostsCycles a r spent =
+    OnTrue spent.is_counted
+    (spent.after
+    ≤ spent.before + (sum_by (cycle_visits a.tree) r.cycles + last_visits a.tree r.verdict r.left))
+
+-- and than the state costs that is saved
 abbrev pub CostsAll : Asking → Run → Spent → Type 0
 CostsAll a r spent =
-    OnTrue spent.is_counted (spent.after ≤ spent.before + begun_visits a.tree r r.cycles [])
+    OnTrue spent.is_counted (spent.after ≤ spent.before + begun_visits a r r.cycles [])
 
--- all but the last frame was written
+-- all but the last frame and the state was written
 pub record IsWritten (a : Asking) (r : Run) (old new : Going) (outside later : Outside)
     (spent : Spent) : Type 0 where
   pub adds : AddsAll a.names (cycles_pieces a.tree a.letters old.drawn r.cycles) outside later
   pub drawn : new.drawn ≡ drawn_after r.cycles old.drawn
-  pub within : CostsAll a r spent
+  pub within : CostsCycles a r spent
 
 -- the run goes to its end, or breaks off
 abbrev pub RunsTo : Asking → Run → Going → Going → Outside → Outside → Spent
@@ -59,12 +80,13 @@ RunsTo a r old new outside later spent (Ok ending) =
 RunsTo a r old new outside later spent (Err why) =
     BreaksOff a why r old.drawn outside later spent
 
--- the same with the last frame
+-- the same with the last frame and the state
 abbrev pub RunsWhole : Asking → Run → Going → Going → Outside → Outside → Spent
     → Result Ending Unwritten → Type 0
 RunsWhole a r old new outside later spent (Ok ending) =
     HasEnded r old new ending
-    × AddsAll a.names (run_pieces a.tree a.letters old.drawn r.cycles) outside later
+    × AddsAll a.names
+    (run_pieces a.tree a.letters old.drawn r.cycles (saved_text a.end a.tree r)) outside later
     × CostsAll a r spent
 RunsWhole a r old new outside later spent (Err why) =
     BreaksOff a why r old.drawn outside later spent
@@ -77,9 +99,9 @@ pub record WritesBegun (a : Asking) (r : Run) (w : Option Showing) (outside late
   pub behind : List Cycle
   pub cycles : r.cycles ≡ begun ++ behind
   pub part : Texts
-  pub order : ArePiecesOf (begun_pieces a w begun behind) part
+  pub order : ArePiecesOf (begun_pieces a r w begun behind) part
   pub within : OnTrue spent.is_counted
-      (spent.after ≤ spent.before + begun_visits a.tree r begun behind)
+      (spent.after ≤ spent.before + begun_visits a r begun behind)
   -- then a line was told, which changes no file
   pub written : Outside
   pub adds : Adds a.names part outside written

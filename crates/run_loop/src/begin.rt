@@ -1,33 +1,54 @@
 // What a run begins with.
-ghost use Rattle.std.specs.Prelude.{◌≡◌, ◌<◌, ◌^◌, IfOk};
+ghost use Rattle.std.specs.Prelude.{◌≡◌, ◌+◌, ◌<◌, ◌≤◌, ◌^◌, None, Option, List, IfOk};
+ghost use Rattle.model_tree.specs.Tree.{leaf_count};
 ghost use Rattle.model_tree.specs.Leaves.{OfTree};
-ghost use Rattle.run_model.specs.Run.{most_cycles as most};
+ghost use Rattle.run_model.specs.Fitting.{FitsTree};
+ghost use Rattle.run_model.specs.Run.{Event, most_cycles as most};
+ghost use Rattle.text_forms.specs.StateOf.{Saved};
+ghost use Rattle.answer_model.specs.Visits.{state_visits};
+ghost use Rattle.flat_run.specs.Standing.{tree_in};
 ghost use Rattle.asked_words.specs.Shown.{asked_of, source_of};
-ghost use Rattle.run_files.specs.Groups.{IsFoundIn, CanShowIn};
-ghost use Rattle.run_loop.specs.Begins.{BeginsWith, counts_at_start};
+ghost use Rattle.run_files.specs.Groups.{IsFoundIn, CanShow, showing_at_start};
+ghost use Rattle.run_loop.specs.Answers.{BeginsFrom};
+ghost use Rattle.run_loop.specs.Begins.{CountsNone, counts_at_start};
 
 use crate::going::Going;
+use crate::shown::show_emitted;
 use asked_words::{Asked, GroupAt, Source};
+use atomic_face::AtomicModel;
+use flat_run::{FlatRun, Steps};
 use model_tree::Model;
 use quantity::{OutOfMemory, Time};
 use record_text::Records;
-use run_files::{Counted, drawn_at_start};
+use run_files::{Counted, Drawn, drawn_at_start};
+use saved_runs::accepted::groups_stand;
 use std::alloc::Global;
+use std::sync::ledger::Ledger;
+use time_queue::TimeQueue;
 
-/// Frames of which nothing is drawn yet, and nothing counted.
-pub(crate) fn begin(
+/// Frames of which nothing is drawn yet, with what the cells had emitted where the run goes on from
+/// a saved state; and nothing counted. Those cells take one visit each.
+pub(crate) fn begin<Q: TimeQueue, M: AtomicModel, L: Ledger>(
     alloc: Global,
     asked: &Asked<'_>,
-    drawn: Option<GroupAt>,
-    model: &Model,
+    group: Option<GroupAt>,
+    run: &FlatRun<Q, M>,
+    steps: &mut Steps<L>,
 ) -> Result<Going, OutOfMemory>
-    requires found { IsFoundIn model.now (asked_of asked.now).frames drawn }
-    requires shows { CanShowIn model.now (asked_of asked.now).frames }
-    ensures { IfOk result (λ going. OfTree model.now
-        (λ tree. BeginsWith (asked_of asked.now) tree going)) }
+    requires goes { run.now.stopped ≡ None }
+    requires fits { FitsTree (tree_in run.now) run.now.state.leaf_states }
+    requires few { leaf_count (tree_in run.now) < 2 ^ 32 }
+    requires found { IsFoundIn run.now.model (asked_of asked.now).frames group }
+    requires shows { CanShow (tree_in run.now) (asked_of asked.now).frames }
+    ensures drawn { IfOk result (λ going. (events : List Event) (from : Option Saved)
+        → BeginsFrom (asked_of asked.now) events from run.now
+        → going.drawn ≡ showing_at_start (tree_in run.now) from (asked_of asked.now).frames) }
+    ensures counted { IfOk result (CountsNone (asked_of asked.now) (tree_in run.now)) }
+    ensures visits { steps.new ≤ steps.old
+        + state_visits (asked_of asked.now).state (tree_in run.now) }
 {
-    let drawn = drawn_at_start(alloc, model, asked, drawn)?;
-    let counted = counted_at_start(alloc, &asked.source, model)?;
+    let drawn = drawn_before_run(alloc, asked, group, run, steps)?;
+    let counted = counted_at_start(alloc, &asked.source, run.model())?;
     Ok(Going {
         drawn,
         counted,
@@ -35,6 +56,34 @@ pub(crate) fn begin(
         records: Records::none(alloc),
         piece: Vec::new(alloc),
     })
+}
+
+/// The frames of which nothing is drawn yet.
+fn drawn_before_run<Q: TimeQueue, M: AtomicModel, L: Ledger>(
+    alloc: Global,
+    asked: &Asked<'_>,
+    group: Option<GroupAt>,
+    run: &FlatRun<Q, M>,
+    steps: &mut Steps<L>,
+) -> Result<Option<Drawn>, OutOfMemory>
+    requires goes { run.now.stopped ≡ None }
+    requires fits { FitsTree (tree_in run.now) run.now.state.leaf_states }
+    requires few { leaf_count (tree_in run.now) < 2 ^ 32 }
+    requires found { IsFoundIn run.now.model (asked_of asked.now).frames group }
+    requires shows { CanShow (tree_in run.now) (asked_of asked.now).frames }
+    ensures drawn { IfOk result (λ drawn. (events : List Event) (from : Option Saved)
+        → BeginsFrom (asked_of asked.now) events from run.now
+        → drawn ≡ showing_at_start (tree_in run.now) from (asked_of asked.now).frames) }
+    ensures visits { steps.new ≤ steps.old
+        + state_visits (asked_of asked.now).state (tree_in run.now) }
+{
+    groups_stand();
+    let mut drawn = drawn_at_start(alloc, run.model(), asked, group)?;
+    if asked.given.state.is_none() {
+        return Ok(drawn);
+    }
+    show_emitted(run, &mut drawn, steps)?;
+    Ok(drawn)
 }
 
 /// Counts for the last line, where the model is made.

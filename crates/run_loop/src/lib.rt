@@ -1,5 +1,5 @@
 //! All of the program after its inputs are read: the files are made, the run goes on cycle by
-//! cycle, and how it ended is told.
+//! cycle, its state at the end is saved, where that is asked for, and how it ended is told.
 #![tactic(auto)]
 
 mod begin;
@@ -8,6 +8,8 @@ mod going;
 pub mod laws;
 mod lines;
 mod run;
+mod saved;
+mod shown;
 mod stage;
 
 pub use stage::run_and_tell;

@@ -1,66 +1,64 @@
 // A run goes on, cycle by cycle, and each cycle is written.
-ghost use Rattle.std.specs.Prelude.{◌≡◌, ◌+◌, ◌<◌, ◌≤◌, ◌^◌, None};
+ghost use Rattle.std.specs.Prelude.{◌≡◌, ◌+◌, ◌<◌, ◌≤◌, ◌^◌, true, None};
 ghost use Rattle.std.specs.Bool.{OnTrue};
-ghost use Rattle.std.specs.List.{All};
-ghost use Rattle.run_model.specs.Fitting.{NamesItsParts};
 ghost use Rattle.run_model.specs.Visits.{visits};
-ghost use Rattle.record_text.specs.Chosen.{letters_of};
+ghost use Rattle.answer_model.specs.Visits.{state_visits};
 ghost use Rattle.flat_run.specs.Standing.{tree_in};
 ghost use Rattle.flat_run.specs.Steps.{Keeps};
 ghost use Rattle.run_files.specs.AskedFiles.{names_of};
 ghost use Rattle.run_files.specs.Texts.{AreApart, AreCreated};
 ghost use Rattle.run_loop.specs.DoneIn.{DoneIn};
-ghost use Rattle.run_loop.specs.Left.{run_of, EndsWithin, HaveValues};
+ghost use Rattle.run_loop.specs.Left.{run_of, HaveValues, IsFitTo};
 ghost use Rattle.run_loop.specs.Ran.{asking, RunsTo, RunsWhole};
 ghost use Rattle.run_loop.specs.Leaves.{spent};
 ghost use Rattle.run_loop.specs.Stopping.{StopsAs};
 
 use crate::ending::Ending;
 use crate::going::{Going, write_next};
+use crate::saved::write_saved;
 use asked_words::Asked;
-use flat_run::{Cycles, Progress, Steps, Stop};
+use atomic_face::AtomicModel;
+use flat_run::{Cycles, FlatRun, Progress, Steps, Stop};
 use room_edge::Room;
 use run_files::{Unwritten, write_last};
 use std::sync::ledger::Ledger;
+use time_queue::TimeQueue;
 
-/// Runs at most so many cycles, and writes each, and at the end the last frame. A cycle that is due
-/// after them is one too many.
+/// Runs at most so many cycles, and writes each, and at the end the last frame and, where the run is
+/// done and it is to be saved, the state in which it is left. A cycle that is due after them is one
+/// too many.
 ///
 /// # Errors
 ///
 /// `Fault` where a file could not be written, `Memory` where memory ran out: the files have the
 /// first pieces of the cycles that were begun, in their order, and of one piece maybe a beginning.
-pub(crate) fn run_all<R: Room, C: Cycles<L>, L: Ledger>(
+pub(crate) fn run_all<R: Room, Q: TimeQueue, M: AtomicModel, L: Ledger>(
     room: &mut R,
     asked: &Asked<'_>,
     going: &mut Going,
-    run: &mut C,
+    run: &mut FlatRun<Q, M>,
     most: u64,
     steps: &mut Steps<L>,
 ) -> Result<Ending, Unwritten>
     requires apart { AreApart (names_of asked.now) }
     requires created { AreCreated (names_of asked.now) (R.outside room.old).created }
-    requires goes { (C.standing run.old).stopped ≡ None }
+    requires goes { run.old.stopped ≡ None }
     requires few { going.old.cycles + most < 2 ^ 64 }
-    requires values { HaveValues (tree_in (C.standing run.old)) }
-    requires names { let s = C.standing run.old in
-        All (NamesItsParts (tree_in s)) (run_of most s).cycles }
-    requires whole { EndsWithin most (C.standing run.old) }
-    ensures runs { let s = C.standing run.old in
-        RunsWhole (asking (names_of asked.now) (letters_of asked.now.given.letters) s)
-        (run_of most s) going.old going.new (R.outside room.old) (R.outside room.new)
-        (spent C.is_counted steps.old steps.new) result }
-    ensures keeps { Keeps (C.standing run.old) (C.standing run.new) }
-    ensures left { DoneIn result (run_of most (C.standing run.old)).left (C.standing run.new) }
-    ensures visits { let s = C.standing run.old in
-        OnTrue C.is_counted (steps.new ≤ steps.old + visits (tree_in s) (run_of most s)) }
+    requires values { HaveValues (tree_in run.old) }
+    requires fit { IsFitTo most run.old }
+    ensures runs { RunsWhole (asking asked.now run.old) (run_of most run.old) going.old going.new
+        (R.outside room.old) (R.outside room.new) (spent true steps.old steps.new) result }
+    ensures keeps { Keeps run.old run.new }
+    ensures visits { steps.new ≤ steps.old + visits (tree_in run.old) (run_of most run.old)
+        + state_visits (names_of asked.now).state (tree_in run.old) }
 {
     let ending = run_cycles(room, asked, going, run, most, steps)?;
     write_last(room, asked, &mut going.drawn, &mut going.piece)?;
+    write_saved(room, asked, &ending, run, &mut going.piece, steps)?;
     Ok(ending)
 }
 
-/// The same without the last frame.
+/// The same without the last frame and the state, whichever way the cycles are made.
 fn run_cycles<R: Room, C: Cycles<L>, L: Ledger>(
     room: &mut R,
     asked: &Asked<'_>,
@@ -74,11 +72,9 @@ fn run_cycles<R: Room, C: Cycles<L>, L: Ledger>(
     requires goes { (C.standing run.old).stopped ≡ None }
     requires few { going.old.cycles + most < 2 ^ 64 }
     requires values { HaveValues (tree_in (C.standing run.old)) }
-    requires names { let s = C.standing run.old in
-        All (NamesItsParts (tree_in s)) (run_of most s).cycles }
-    requires whole { EndsWithin most (C.standing run.old) }
+    requires fit { IsFitTo most (C.standing run.old) }
     ensures runs { let s = C.standing run.old in
-        RunsTo (asking (names_of asked.now) (letters_of asked.now.given.letters) s)
+        RunsTo (asking asked.now s)
         (run_of most s) going.old going.new (R.outside room.old) (R.outside room.new)
         (spent C.is_counted steps.old steps.new) result }
     ensures keeps { Keeps (C.standing run.old) (C.standing run.new) }

@@ -1,7 +1,7 @@
 -- The answers to a run that is saved and to the run on from its file are, one behind the other, the
 -- answer to one run.
 use Rattle.std.proofs.Common.{◌≡◌, ℕ, ◌+◌, Option, Some, None, List, [], ◌∷◌, ◌++◌, length, refl}
-use Rattle.std.proofs.Common.{ap, ◌∙◌, subst, arith}
+use Rattle.std.proofs.Common.{ap, ◌∙◌, subst}
 use Rattle.std.specs.Prelude.{⊤}
 use Rattle.std.proofs.lemmas.List.{append-nil}
 use Rattle.quantity.specs.Bytes.{Bytes}
@@ -191,8 +191,7 @@ as_one : (a : Asked) (tree : Tree) (events : List Event) (model name : Word) (sa
     (answered a tree events model last save (Some name) (Some saved) j rest)
     (answered a tree events model last save None None k whole)
 as_one a tree events model name save first last i j k saved here rest whole is files count =
-    let same_text : saved_text (to_end a model last save None) tree whole
-    ≡ saved_text (to_end a model last save (Some name)) tree rest =
+    let same_text : saved_text last tree whole ≡ saved_text last tree rest =
     ap (λ v. text_by tree last (text_of_state tree last whole.left.leaf_states) v) files.verdict
     ∙ ap (λ x. text_by tree last x rest.verdict) (files.state last) in
     let ends = same_end a tree events model last save None (Some name) whole.cycles rest.cycles
@@ -202,8 +201,8 @@ as_one a tree events model name save first last i j k saved here rest whole is f
           ap (λ b. file_if a.log (log_bytes tree a.letters whole.cycles)
           ++ file_if a.out (out_bytes tree whole.cycles)
           ++ frames_if tree None whole.cycles a.frames ++ file_if save b) same_text
-          ∙ are_joined (name, saved_text (to_end a model first (Some name) None) tree here) _ _ _
-          (file_if save (saved_text (to_end a model last save (Some name)) tree rest))
+          ∙ are_joined (name, saved_text first tree here) _ _ _
+          (file_if save (saved_text last tree rest))
           (all_follow tree saved here rest whole files a);
       status = ap (λ v. (said (to_end a model last save None) tree events whole.cycles v).status)
           files.verdict ∙ ends.0;

@@ -1,4 +1,6 @@
-mod Lines
+pub mod Lines
 mod Putting
 mod Reading
 mod Whole
+mod Sized
+mod Fitting

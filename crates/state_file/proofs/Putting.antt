@@ -58,7 +58,7 @@ of_both (Some l) P Q R h q f = f l h (q l refl)
 
 -- ---- a cell
 
-same_number : (n m : ℕ) → (n == m) ≡ true → n ≡ m
+pub same_number : (n m : ℕ) → (n == m) ≡ true → n ≡ m
 same_number n m e = grind (arith, nat_tests)
 
 less : (n m : ℕ) → nat_lt n m ≡ true → n < m
@@ -296,7 +296,7 @@ pub record HasValues (g : Group) : Type 0 where
   pub ports : length g.port_values ≡ length g.ports
   pub variables : length g.variable_values ≡ length g.variables
 
-has_values : (g : Group) → is_sound_group g ≡ true → HasValues g
+pub has_values : (g : Group) → is_sound_group g ≡ true → HasValues g
 has_values g sound =
     let a = nat_lt 0 (cell_count g.space) && (length g.initial == cell_count g.space) && nat_le
     g.default_delay 359999999 && nat_le (length g.offsets) 128 && list_all is_near_offset

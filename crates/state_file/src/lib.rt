@@ -1,6 +1,7 @@
 // The text of the state of a run: written leaf after leaf, and read so that a run goes on from it.
 #![tactic(auto)]
 
+pub mod laws;
 mod leaf;
 pub mod load;
 pub mod save;

@@ -27,9 +27,10 @@ pub record Names : Type 0 where
   pub log : Option Word
   pub out : Option Word
   pub drawn : Option Word
+  pub save : Option Word
 
 abbrev pub names : Draft → Names
-names d = record { log = d.log; out = d.out; drawn = d.drawn }
+names d = record { log = d.log; out = d.out; drawn = d.drawn; save = d.save }
 
 -- a value that names no made file
 abbrev Keeps : Field → Type 0
@@ -68,13 +69,16 @@ behind (r ∷ rs) rows keep given e is =
 -- ---- the rows that name made files
 
 abbrev with_log : Option Word → Names → Names
-with_log o n = record { log = o; out = n.out; drawn = n.drawn }
+with_log o n = record { log = o; out = n.out; drawn = n.drawn; save = n.save }
 
 abbrev with_out : Option Word → Names → Names
-with_out o n = record { log = n.log; out = o; drawn = n.drawn }
+with_out o n = record { log = n.log; out = o; drawn = n.drawn; save = n.save }
 
 abbrev with_drawn : Option Word → Names → Names
-with_drawn o n = record { log = n.log; out = n.out; drawn = o }
+with_drawn o n = record { log = n.log; out = n.out; drawn = o; save = n.save }
+
+abbrev with_save : Option Word → Names → Names
+with_save o n = record { log = n.log; out = n.out; drawn = n.drawn; save = o }
 
 log_is : (shown : Bytes) (o : Option Word) (d e : Draft) → put_if o (row (codes "l") shown true (word (λ w d. record d { log = Some w }))) d ≡ Some e → d.log ≡ None → names e ≡ with_log o (names d)
 log_is shown None d e is no_log = let same : d ≡ e = cc in ap names (sym same) ∙ ap (λ o. with_log o (names d)) no_log
@@ -88,28 +92,38 @@ drawn_is : (shown : Bytes) (o : Option Word) (d e : Draft) → put_if o (row (co
 drawn_is shown None d e is no_drawn = let same : d ≡ e = cc in ap names (sym same) ∙ ap (λ o. with_drawn o (names d)) no_drawn
 drawn_is shown (Some w) d e is no_drawn = let same : record d { drawn = Some w } ≡ e = cc in ap names (sym same)
 
+save_is : (shown : Bytes) (o : Option Word) (d e : Draft) → put_if o (row (codes "S") shown true (word (λ w d. record d { save = Some w }))) d ≡ Some e → d.save ≡ None → names e ≡ with_save o (names d)
+save_is shown None d e is no_save = let same : d ≡ e = cc in ap names (sym same) ∙ ap (λ o. with_save o (names d)) no_save
+save_is shown (Some w) d e is no_save = let same : record d { save = Some w } ≡ e = cc in ap names (sym same)
+
 -- ---- the whole table
 
 keep_before : AllKeep (take 4 built_rows)
 keep_before =
     (word_keeps _ (λ w d. refl), (field_keeps _ _ (λ x d. refl), (field_keeps _ _ (λ x d. refl), (word_keeps _ (λ w d. refl), tt))))
 
-keep_behind : AllKeep (drop 7 built_rows)
-keep_behind =
+keep_between : AllKeep (take 6 (drop 7 built_rows))
+keep_between =
     (word_keeps _ (λ w d. refl), (field_keeps _ _ (λ x d. refl), (field_keeps _ _ (λ x d. refl), (field_keeps _ _ (λ x d. refl), (field_keeps _ _ (λ x d. refl), (field_keeps _ _ (λ x d. refl), tt))))))
+
+keep_behind : AllKeep (drop 14 built_rows)
+keep_behind = (word_keeps _ (λ w d. refl), tt)
 
 no_names : (given : List Row) (e : Draft) → drafted [] given ≡ Some e → names e ≡ names nothing_given
 no_names given e is = let same : nothing_given ≡ e = cc in ap names (sym same)
 
-pub names_are : (given : List Row) (e : Draft) → drafted built_rows given ≡ Some e → names e ≡ (let n : Names = record { log = value_of given (codes "l"); out = value_of given (codes "o"); drawn = value_of given (codes "d") } in n)
+pub names_are : (given : List Row) (e : Draft) → drafted built_rows given ≡ Some e → names e ≡ (let n : Names = record { log = value_of given (codes "l"); out = value_of given (codes "o"); drawn = value_of given (codes "d"); save = value_of given (codes "S") } in n)
 names_are given e is =
     let a = behind (take 4 built_rows) (drop 4 built_rows) keep_before given e is in
     let l = made (drafted (drop 5 built_rows) given) _ a.from a.is in
     let o = made (drafted (drop 6 built_rows) given) _ l.from l.is in
     let d = made (drafted (drop 7 built_rows) given) _ o.from o.is in
-    let b = behind (drop 7 built_rows) [] keep_behind given d.from d.is in
-    let none = b.same ∙ no_names given b.from b.is in
-    let pictured = drawn_is _ (value_of given (codes "d")) d.from o.from d.gives (ap (λ (n : Names). n.drawn) none) ∙ ap (with_drawn (value_of given (codes "d"))) none in
+    let b = behind (take 6 (drop 7 built_rows)) (drop 13 built_rows) keep_between given d.from d.is in
+    let s = made (drafted (drop 14 built_rows) given) _ b.from b.is in
+    let c = behind (drop 14 built_rows) [] keep_behind given s.from s.is in
+    let none = c.same ∙ no_names given c.from c.is in
+    let saved = b.same ∙ (save_is _ (value_of given (codes "S")) s.from b.from s.gives (ap (λ (n : Names). n.save) none) ∙ ap (with_save (value_of given (codes "S"))) none) in
+    let pictured = drawn_is _ (value_of given (codes "d")) d.from o.from d.gives (ap (λ (n : Names). n.drawn) saved) ∙ ap (with_drawn (value_of given (codes "d"))) saved in
     let shown = out_is _ (value_of given (codes "o")) o.from l.from o.gives (ap (λ (n : Names). n.out) pictured) ∙ ap (with_out (value_of given (codes "o"))) pictured in
     let logged = log_is _ (value_of given (codes "l")) l.from a.from l.gives (ap (λ (n : Names). n.log) shown) ∙ ap (with_log (value_of given (codes "l"))) shown in
     a.same ∙ logged
@@ -118,5 +132,5 @@ names_are given e is =
 pub made_of : (given : List Row) (r : Option code.Draft) → option_map draft_of r ≡ drafted built_rows given → differ_all (named_by built_rows given) ≡ true → IfSome r MadeDiffer
 made_of given None is differ = tt
 made_of given (Some d) is differ =
-    subst (λ (n : Names). IsTrue (differ_all (given_names n.log n.out n.drawn))) (sym (names_are given (draft_of d) (sym is)))
-    (made_differ (value_of given (codes "m")) (value_of given (codes "e")) (value_of given (codes "l")) (value_of given (codes "o")) (value_of given (codes "d")) differ)
+    subst (λ (n : Names). IsTrue (differ_all (given_names n.log n.out n.drawn n.save))) (sym (names_are given (draft_of d) (sym is)))
+    (made_differ (value_of given (codes "m")) (value_of given (codes "e")) (value_of given (codes "l")) (value_of given (codes "o")) (value_of given (codes "d")) (value_of given (codes "S")) (value_of given (codes "R")) differ)

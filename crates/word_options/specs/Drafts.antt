@@ -18,7 +18,7 @@ use Rattle.word_options.specs.declared.table.Field.TheVariants as F
 abbrev pub text_of_name : Option (Bor Word) → Option Word
 text_of_name name = option_map (λ (n : Bor Word). n.now) name
 
--- an order of service and saved states are still to come
+-- an order of service is still to come
 abbrev pub draft_of : Draft → D.Draft
 draft_of d =
     record {
@@ -37,8 +37,8 @@ draft_of d =
       decimals = d.decimals;
       plane = d.plane;
       seed = None;
-      save = None;
-      state = None;
+      save = text_of_name d.save;
+      state = text_of_name d.state;
     }
 
 -- each value is one that its option may have
@@ -51,15 +51,16 @@ pub record IsBounded (d : Draft) : Type 0 where
   pub narrow : d.width ≤ 20
   pub short : d.decimals ≤ 5
 
--- those of three names that are given
-abbrev pub given_names : Option Word → Option Word → Option Word → List Word
-given_names a b c = filter_map (λ (o : Option Word). o) (a ∷ b ∷ c ∷ [])
+-- those of four names that are given
+abbrev pub given_names : Option Word → Option Word → Option Word → Option Word → List Word
+given_names a b c d = filter_map (λ (o : Option Word). o) (a ∷ b ∷ c ∷ d ∷ [])
 
 -- no two files that are made have one name
 abbrev pub MadeDiffer : Draft → Type 0
 MadeDiffer d =
     IsTrue (D.differ_all
-    (given_names (text_of_name d.log) (text_of_name d.out) (text_of_name d.drawn)))
+    (given_names (text_of_name d.log) (text_of_name d.out) (text_of_name d.drawn)
+    (text_of_name d.save)))
 
 -- ---- what a value says
 
@@ -72,6 +73,8 @@ place_of P.Out w d = record d { out = Some w }
 place_of P.Drawn w d = record d { drawn = Some w }
 place_of P.Group w d = record d { group = Some w }
 place_of P.Space w d = record d { space = Some w }
+place_of P.Save w d = record d { save = Some w }
+place_of P.State w d = record d { state = Some w }
 
 -- what a value says, in code as in the definitions
 abbrev pub field_of : Field → D.Field

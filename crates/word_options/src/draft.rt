@@ -16,8 +16,9 @@ use record_text::Letters;
 
 /// What options ask for: a model's file or the size of a made one, 5 to 1000, the last instant, the
 /// files, the group that is drawn and its space as words, the letters of the log's lines, how many
-/// cycles an instant may have, 1 to 1,000,000, and how frames look: 1 to 20 places for a value, at
-/// most 5 decimals, and the plane.
+/// cycles an instant may have, 1 to 1,000,000, how frames look: 1 to 20 places for a value, at
+/// most 5 decimals, and the plane; and the file of the state at the end, and of the state that the
+/// run goes on from.
 #[derive(Clone, Copy)]
 pub struct Draft<'a> {
     pub model: Option<&'a str>,
@@ -34,6 +35,8 @@ pub struct Draft<'a> {
     pub width: u8,
     pub decimals: u8,
     pub plane: u32,
+    pub save: Option<&'a str>,
+    pub state: Option<&'a str>,
 }
 
 impl<'a> Draft<'a> {
@@ -62,6 +65,8 @@ impl<'a> Draft<'a> {
             width: 3,
             decimals: 0,
             plane: 0,
+            save: None,
+            state: None,
         }
     }
 
@@ -98,6 +103,14 @@ impl<'a> Draft<'a> {
             },
             Place::Space => Draft {
                 space: Some(text),
+                ..*self
+            },
+            Place::Save => Draft {
+                save: Some(text),
+                ..*self
+            },
+            Place::State => Draft {
+                state: Some(text),
                 ..*self
             },
         }

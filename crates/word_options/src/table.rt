@@ -19,6 +19,8 @@ pub(crate) enum Place {
     Drawn,
     Group,
     Space,
+    Save,
+    State,
 }
 
 /// What the value of an option says.
@@ -70,7 +72,7 @@ const PLANE: Opt = Opt {
 };
 
 /// The options of the simulator.
-pub(crate) const CDPP: [Opt; 13] = [
+pub(crate) const CDPP: [Opt; 15] = [
     Opt {
         id: "m",
         letter: 'm',
@@ -144,6 +146,20 @@ pub(crate) const CDPP: [Opt; 13] = [
     WIDTH,
     DECIMALS,
     PLANE,
+    Opt {
+        id: "S",
+        letter: 'S',
+        shown: " [-S SAVE]",
+        is_file: true,
+        field: Field::Word(Place::Save),
+    },
+    Opt {
+        id: "R",
+        letter: 'R',
+        shown: " [-R STATE]",
+        is_file: true,
+        field: Field::Word(Place::State),
+    },
 ];
 
 /// The options of the drawing program.

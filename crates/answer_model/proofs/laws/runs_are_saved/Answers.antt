@@ -24,6 +24,7 @@ returns c =
       end_before = refl;
       no_end = refl;
       not_after = refl;
+      stopped = refl;
       no_state = refl;
       queue_joins = refl;
       queue_run = refl;

@@ -57,6 +57,17 @@ returns c =
         log_and_out = refl;
         log_and_frames = refl;
         out_and_frames = refl;
+        model_and_save = refl;
+        model_and_state = refl;
+        events_and_save = refl;
+        events_and_state = refl;
+        log_and_save = refl;
+        log_and_state = refl;
+        out_and_save = refl;
+        out_and_state = refl;
+        frames_and_save = refl;
+        frames_and_state = refl;
+        save_and_state = refl;
       };
       drawings = record {
         last_plane = refl;

@@ -5,10 +5,9 @@ use Rattle.answer_model.specs.Started.{started}
 use Rattle.answer_model.specs.Cdpp.{answer_of}
 use Rattle.answer_model.proofs.Stages.{at_start}
 use Rattle.answer_model.proofs.Causing.{run_ends}
-use Rattle.asked_words.specs.Shown.{asked_of}
 use Rattle.run_loop.specs.Leaves.{spent}
-use Rattle.cdpp_top.specs.Starting.{classes_by, tree_on}
-use Rattle.cdpp_top.specs.Stages.{start_with}
+use Rattle.cdpp_top.specs.Starting.{classes_by}
+use Rattle.cdpp_top.specs.Stages.{StandsAt}
 use Rattle.cdpp_top.proofs.Going.{if_some_all}
 use Rattle.cdpp_top.proofs.Joined.{read_then, read_ends, visited}
 use Rattle.cdpp_top.proofs.Leaving.{of_unrun, tells_made, leaves_of_start}
@@ -24,7 +23,7 @@ returns-in-Ok-clause-ends g c =
     let mid = g.R.Room.outside c.read.new.room in
     let new = g.R.Room.outside c.run.new.room in
     IfSome_then old.files c.in-Ok.ensures.reads
-    (λ files reads. read_then (λ s inputs. start_with (asked_of s.asked) (tree_on s.model s.stock) s.events inputs) c.in-Ok.start (started words files classes) old mid new c.run.result reads c.run.ensures.ends)
+    (λ files reads. read_then (λ s. StandsAt s.asked s.run) c.in-Ok.start (started words files classes) old mid new c.run.result reads c.run.ensures.ends)
 
 pub returns-in-Ok-clause-causes : goal.returns-in-Ok-clause-causes
 returns-in-Ok-clause-causes g c =
@@ -45,20 +44,18 @@ pub returns-in-Ok-clause-visits : goal.returns-in-Ok-clause-visits
 returns-in-Ok-clause-visits g c =
     let words = map string_bytes c.args.words.now in
     let classes = classes_by (λ m. g.M.AtomicModel.held m) c.args.boxes.items in
-    let s = c.in-Ok.start in
     IfSome_then (g.R.Room.outside c.args.room.now).files c.in-Ok.ensures.reads
-    (λ files reads. visited (asked_of s.asked) (tree_on s.model s.stock) s.events reads.0 (started words files classes) c.run.new.steps c.args.steps.now reads.1 c.run.ensures.visits)
+    (λ files reads. visited reads.0 (started words files classes) c.run.new.steps c.args.steps.now reads.1 (c.run.ensures.visits reads.0 reads.2))
 
 pub returns-in-Ok-clause-leaves : goal.returns-in-Ok-clause-leaves
 returns-in-Ok-clause-leaves g c =
     let words = map string_bytes c.args.words.now in
     let classes = classes_by (λ m. g.M.AtomicModel.held m) c.args.boxes.items in
-    let s = c.in-Ok.start in
     let old = g.R.Room.outside c.args.room.now in
     let mid = g.R.Room.outside c.read.new.room in
     let new = g.R.Room.outside c.run.new.room in
     IfSome_then old.files c.in-Ok.ensures.reads
-    (λ files reads. leaves_of_start (start_with (asked_of s.asked) (tree_on s.model s.stock) s.events reads.0) (started words files classes) old mid new (spent true c.args.steps.now c.run.new.steps) c.run.result reads.1 c.in-Ok.ensures.only.made c.run.ensures.leaves)
+    (λ files reads. leaves_of_start reads.0 (started words files classes) old mid new (spent true c.args.steps.now c.run.new.steps) c.run.result reads.1 c.in-Ok.ensures.only.made (c.run.ensures.leaves reads.0 reads.2))
 
 -- ---- it was not read, which a line tells
 

@@ -17,12 +17,12 @@ use Rattle.asked_words.specs.Shown.{text_of_name, asked_of}
 use Rattle.cdpp_top.specs.declared.unread.Unread.TheVariants as why
 use Rattle.cdpp_top.specs.Unread.{unread_model}
 use Rattle.cdpp_top.specs.Starting.{classes_by, tree_on}
-use Rattle.cdpp_top.specs.Stages.{start_with, ReadsEvents, ReadCauses, ReadsStart}
+use Rattle.cdpp_top.specs.Stages.{ReadsEvents, ReadCauses, ReadsStart, StandsAt}
 use Rattle.cdpp_top.proofs.Boxes.{none_taken, classes_are}
 use Rattle.cdpp_top.proofs.Causing.{nothing_told, model_told, only_then, misses_then}
 use Rattle.cdpp_top.proofs.Going.{if_some_all}
 use Rattle.cdpp_top.proofs.Groups.{sound_is}
-use Rattle.cdpp_top.proofs.Reading.{ReadsAsked, starts, stops_at_model, stops_at_events}
+use Rattle.cdpp_top.proofs.Reading.{ReadsAsked, has_events, starts, stops_at_model, stops_at_events, stops_at_run, stops_at_state}
 use Rattle.cdpp_top.proofs.Stops.{no_memory, no_line}
 use Rattle.cdpp_top.proofs.read.read_inputs.Goals as goal
 
@@ -40,7 +40,7 @@ returns-in_err-stock-clause-reads g c =
     let is : c.from_residual.result ≡ Err why.Memory = search rules in
     if_some_all old.files _ (λ files.
     let y = answer_of (inputs_read (asked_of x) files classes) in
-    subst (λ r. ReadsStart (λ s inputs. start_with (asked_of s.asked) (tree_on s.model s.stock) s.events inputs) (inputs_read (asked_of x) files classes) old old r) (sym is)
+    subst (λ r. ReadsStart (λ s. StandsAt s.asked s.run) (inputs_read (asked_of x) files classes) old old r) (sym is)
     (λ after s tells. no_line y [] old old after s (no_memory y [] old) tells))
 
 pub returns-in_err-stock-clause-causes : goal.returns-in_err-stock-clause-causes
@@ -65,7 +65,7 @@ returns-in_err-read-clause-reads g c =
     let are = ap classes_of c.in_ok-stock.ensures ∙ classes_are (λ m. g.M.AtomicModel.held m) c.args.boxes.items in
     let reads = subst (λ (cs : List Class). ReadsAsked x cs c.read_source.new.stock (Err w) old mid) are c.in_err-read.ensures.reads in
     IfSome_then old.files (stops_at_model x classes c.read_source.new.stock w old mid reads) (λ files stops.
-    subst (λ r. ReadsStart (λ s inputs. start_with (asked_of s.asked) (tree_on s.model s.stock) s.events inputs) (inputs_read (asked_of x) files classes) old mid r) (sym is) stops)
+    subst (λ r. ReadsStart (λ s. StandsAt s.asked s.run) (inputs_read (asked_of x) files classes) old mid r) (sym is) stops)
 
 pub returns-in_err-read-clause-causes : goal.returns-in_err-read-clause-causes
 returns-in_err-read-clause-causes g c =
@@ -102,7 +102,7 @@ returns-in_err-events-clause-reads g c =
     let reads = subst (λ (cs : List Class). ReadsAsked x cs stock (Ok (record { model = m; routes = c.in_ok-read.read.routes; drawn = c.in_ok-read.read.drawn })) old mid) are c.in_ok-read.ensures.reads in
     let later = subst (λ (names : List Bytes). IfSome mid.files (λ files. ReadsEvents (text_of_name x.given.events) names files mid new (Err w))) ports c.in_err-events.ensures.reads in
     IfSome_then old.files (stops_at_events x classes stock m c.in_ok-read.read.routes c.in_ok-read.read.drawn w old mid new reads later) (λ files stops.
-    subst (λ r. ReadsStart (λ s inputs. start_with (asked_of s.asked) (tree_on s.model s.stock) s.events inputs) (inputs_read (asked_of x) files classes) old new r) (sym is) stops)
+    subst (λ r. ReadsStart (λ s. StandsAt s.asked s.run) (inputs_read (asked_of x) files classes) old new r) (sym is) stops)
 
 pub returns-in_err-events-clause-causes : goal.returns-in_err-events-clause-causes
 returns-in_err-events-clause-causes g c =
@@ -118,6 +118,100 @@ pub returns-in_err-events-clause-only : goal.returns-in_err-events-clause-only
 returns-in_err-events-clause-only g c =
     only_then (g.R.Room.outside c.args.room.now) (g.R.Room.outside c.read_source.new.room) (g.R.Room.outside c.read_events.new.room) c.in_ok-read.ensures.reads.only c.in_err-events.ensures.only
 
+-- ---- no memory for the run
+
+pub run_at_start-requires-clause-may_start : goal.run_at_start-requires-clause-may_start
+run_at_start-requires-clause-may_start g c =
+    let e = c.in_ok-read.ensures in
+    record { bounds = c.requires.bounds; ready = e.reads.ready; drawn = e.drawn; found = e.reads.group }
+
+pub run_at_start-requires-clause-at_inputs : goal.run_at_start-requires-clause-at_inputs
+run_at_start-requires-clause-at_inputs g c =
+    let ports = c.deref.ensures.value ∙ ap (λ (top : Coupled). top.ins.items) c.top.ensures in
+    subst (λ names. AreAtInputs names c.in_ok-events.events) ports c.in_ok-events.ensures.at_inputs
+
+pub returns-in_err-at_start-clause-reads : goal.returns-in_err-at_start-clause-reads
+returns-in_err-at_start-clause-reads g c =
+    let x = c.args.asked in
+    let classes = classes_by (λ m. g.M.AtomicModel.held m) c.args.boxes.items in
+    let old = g.R.Room.outside c.args.room.now in
+    let mid = g.R.Room.outside c.read_source.new.room in
+    let late = g.R.Room.outside c.read_events.new.room in
+    let m = c.in_ok-read.read.model in
+    let stock = c.read_source.new.stock in
+    let events = c.in_ok-events.events in
+    let ports = c.deref.ensures.value ∙ ap (λ (top : Coupled). top.ins.items) c.top.ensures in
+    let are = ap classes_of c.in_ok-stock.ensures ∙ classes_are (λ m. g.M.AtomicModel.held m) c.args.boxes.items in
+    let reads = subst (λ (cs : List Class). ReadsAsked x cs stock (Ok (record { model = m; routes = c.in_ok-read.read.routes; drawn = c.in_ok-read.read.drawn })) old mid) are c.in_ok-read.ensures.reads in
+    let later = subst (λ (names : List Bytes). IfSome mid.files (λ files. ReadsEvents (text_of_name x.given.events) names files mid late (Ok events))) ports c.in_ok-events.ensures.reads in
+    let had = has_events x classes stock m c.in_ok-read.read.routes c.in_ok-read.read.drawn events old mid late reads later in
+    let is : c.from_residual-in_err-at_start.result ≡ Err why.Memory = search rules in
+    IfSome_then old.files had (λ files has.
+    subst (λ r. ReadsStart (λ s. StandsAt s.asked s.run) (inputs_read (asked_of x) files classes) old late r) (sym is) (stops_at_run x classes (tree_on m stock) events old late files has))
+
+pub returns-in_err-at_start-clause-causes : goal.returns-in_err-at_start-clause-causes
+returns-in_err-at_start-clause-causes g c =
+    let old = g.R.Room.outside c.args.room.now in
+    let mid = g.R.Room.outside c.read_source.new.room in
+    let late = g.R.Room.outside c.read_events.new.room in
+    let e = c.in_ok-read.ensures.reads in
+    let f = c.in_ok-events.ensures in
+    let only = only_then old mid late e.only f.only in
+    let is : c.from_residual-in_err-at_start.result ≡ Err why.Memory = search rules in
+    subst (λ r. ReadCauses old late r) (sym is) (λ after s tells. nothing_told old late after s only (f.causes.1 ∙ e.counted.1) tells)
+
+pub returns-in_err-at_start-clause-only : goal.returns-in_err-at_start-clause-only
+returns-in_err-at_start-clause-only g c =
+    only_then (g.R.Room.outside c.args.room.now) (g.R.Room.outside c.read_source.new.room) (g.R.Room.outside c.read_events.new.room) c.in_ok-read.ensures.reads.only c.in_ok-events.ensures.only
+
+-- ---- no state
+
+pub returns-in_err-run-clause-reads : goal.returns-in_err-run-clause-reads
+returns-in_err-run-clause-reads g c =
+    let x = c.args.asked in
+    let classes = classes_by (λ m. g.M.AtomicModel.held m) c.args.boxes.items in
+    let old = g.R.Room.outside c.args.room.now in
+    let mid = g.R.Room.outside c.read_source.new.room in
+    let late = g.R.Room.outside c.read_events.new.room in
+    let m = c.in_ok-read.read.model in
+    let stock = c.read_source.new.stock in
+    let events = c.in_ok-events.events in
+    let ports = c.deref.ensures.value ∙ ap (λ (top : Coupled). top.ins.items) c.top.ensures in
+    let are = ap classes_of c.in_ok-stock.ensures ∙ classes_are (λ m. g.M.AtomicModel.held m) c.args.boxes.items in
+    let reads = subst (λ (cs : List Class). ReadsAsked x cs stock (Ok (record { model = m; routes = c.in_ok-read.read.routes; drawn = c.in_ok-read.read.drawn })) old mid) are c.in_ok-read.ensures.reads in
+    let later = subst (λ (names : List Bytes). IfSome mid.files (λ files. ReadsEvents (text_of_name x.given.events) names files mid late (Ok events))) ports c.in_ok-events.ensures.reads in
+    let had = has_events x classes stock m c.in_ok-read.read.routes c.in_ok-read.read.drawn events old mid late reads later in
+    let new = g.R.Room.outside c.read_state.new.room in
+    let w = c.in_err-run.field-0.0 in
+    let is : c.from_residual-in_err-run.result ≡ Err w = search rules in
+    let only = only_then old mid late c.in_ok-read.ensures.reads.only c.in_ok-events.ensures.only in
+    IfSome_then old.files (stops_at_state x classes c.in_ok-at_start.at_start m stock events w old late new c.in_ok-at_start.ensures.made only had c.in_err-run.ensures.reads) (λ files stops.
+    subst (λ r. ReadsStart (λ s. StandsAt s.asked s.run) (inputs_read (asked_of x) files classes) old new r) (sym is) stops)
+
+pub returns-in_err-run-clause-causes : goal.returns-in_err-run-clause-causes
+returns-in_err-run-clause-causes g c =
+    let old = g.R.Room.outside c.args.room.now in
+    let mid = g.R.Room.outside c.read_source.new.room in
+    let late = g.R.Room.outside c.read_events.new.room in
+    let e = c.in_ok-read.ensures.reads in
+    let f = c.in_ok-events.ensures in
+    let only = only_then old mid late e.only f.only in
+    let new = g.R.Room.outside c.read_state.new.room in
+    let w = c.in_err-run.field-0.0 in
+    let is : c.from_residual-in_err-run.result ≡ Err w = search rules in
+    subst (λ r. ReadCauses old new r) (sym is)
+    (λ after s tells. later_ends of_reading old late after s only (misses_then old mid late e.misses f.causes.0) (f.causes.1 ∙ e.counted.1) (c.in_err-run.ensures.causes after s tells))
+
+pub returns-in_err-run-clause-only : goal.returns-in_err-run-clause-only
+returns-in_err-run-clause-only g c =
+    let old = g.R.Room.outside c.args.room.now in
+    let mid = g.R.Room.outside c.read_source.new.room in
+    let late = g.R.Room.outside c.read_events.new.room in
+    let e = c.in_ok-read.ensures.reads in
+    let f = c.in_ok-events.ensures in
+    let only = only_then old mid late e.only f.only in
+    only_then old late (g.R.Room.outside c.read_state.new.room) only c.in_err-run.ensures.only
+
 -- ---- all is read
 
 pub returns-clause-reads : goal.returns-clause-reads
@@ -126,35 +220,43 @@ returns-clause-reads g c =
     let classes = classes_by (λ m. g.M.AtomicModel.held m) c.args.boxes.items in
     let old = g.R.Room.outside c.args.room.now in
     let mid = g.R.Room.outside c.read_source.new.room in
-    let new = g.R.Room.outside c.read_events.new.room in
+    let late = g.R.Room.outside c.read_events.new.room in
     let m = c.in_ok-read.read.model in
     let stock = c.read_source.new.stock in
     let events = c.in_ok-events.events in
     let ports = c.deref.ensures.value ∙ ap (λ (top : Coupled). top.ins.items) c.top.ensures in
     let are = ap classes_of c.in_ok-stock.ensures ∙ classes_are (λ m. g.M.AtomicModel.held m) c.args.boxes.items in
     let reads = subst (λ (cs : List Class). ReadsAsked x cs stock (Ok (record { model = m; routes = c.in_ok-read.read.routes; drawn = c.in_ok-read.read.drawn })) old mid) are c.in_ok-read.ensures.reads in
-    let later = subst (λ (names : List Bytes). IfSome mid.files (λ files. ReadsEvents (text_of_name x.given.events) names files mid new (Ok events))) ports c.in_ok-events.ensures.reads in
-    starts x classes stock m c.in_ok-read.read.routes c.in_ok-read.read.drawn events old mid new reads later
+    let later = subst (λ (names : List Bytes). IfSome mid.files (λ files. ReadsEvents (text_of_name x.given.events) names files mid late (Ok events))) ports c.in_ok-events.ensures.reads in
+    let had = has_events x classes stock m c.in_ok-read.read.routes c.in_ok-read.read.drawn events old mid late reads later in
+    let new = g.R.Room.outside c.read_state.new.room in
+    let only = only_then old mid late c.in_ok-read.ensures.reads.only c.in_ok-events.ensures.only in
+    starts x classes c.in_ok-at_start.at_start c.in_ok-run.run' m stock events old late new c.in_ok-at_start.ensures.made only had c.in_ok-run.ensures.reads
 
 pub returns-clause-causes : goal.returns-clause-causes
 returns-clause-causes g c =
     let old = g.R.Room.outside c.args.room.now in
     let mid = g.R.Room.outside c.read_source.new.room in
-    let new = g.R.Room.outside c.read_events.new.room in
+    let late = g.R.Room.outside c.read_events.new.room in
     let e = c.in_ok-read.ensures.reads in
-    let f = c.in_ok-events.ensures.causes in
-    (misses_then old mid new e.misses f.0, f.1 ∙ e.counted.1)
+    let f = c.in_ok-events.ensures in
+    let only = only_then old mid late e.only f.only in
+    let h = c.in_ok-run.ensures.causes in
+    (misses_then old late (g.R.Room.outside c.read_state.new.room) (misses_then old mid late e.misses f.causes.0) h.0, h.1 ∙ (f.causes.1 ∙ e.counted.1))
 
 pub returns-clause-only : goal.returns-clause-only
 returns-clause-only g c =
-    only_then (g.R.Room.outside c.args.room.now) (g.R.Room.outside c.read_source.new.room) (g.R.Room.outside c.read_events.new.room) c.in_ok-read.ensures.reads.only c.in_ok-events.ensures.only
+    let old = g.R.Room.outside c.args.room.now in
+    let mid = g.R.Room.outside c.read_source.new.room in
+    let late = g.R.Room.outside c.read_events.new.room in
+    let e = c.in_ok-read.ensures.reads in
+    let f = c.in_ok-events.ensures in
+    let only = only_then old mid late e.only f.only in
+    only_then old late (g.R.Room.outside c.read_state.new.room) only c.in_ok-run.ensures.only
 
-pub returns-clause-may_start : goal.returns-clause-may_start
-returns-clause-may_start g c =
+pub returns-clause-may_run : goal.returns-clause-may_run
+returns-clause-may_run g c =
     let e = c.in_ok-read.ensures in
-    record { bounds = c.requires.bounds; ready = e.reads.ready; drawn = e.drawn; found = e.reads.group }
-
-pub returns-clause-at_inputs : goal.returns-clause-at_inputs
-returns-clause-at_inputs g c =
-    let ports = c.deref.ensures.value ∙ ap (λ (top : Coupled). top.ins.items) c.top.ensures in
-    subst (λ names. AreAtInputs names c.in_ok-events.events) ports c.in_ok-events.ensures.at_inputs
+    let r = c.in_ok-read.read in
+    c.runs_may_run.ensures c.args.asked c.read_source.new.stock r.model r.routes r.drawn c.in_ok-events.events c.in_ok-at_start.at_start c.in_ok-run.run'
+    (record { bounds = c.requires.bounds; ready = e.reads.ready; drawn = e.drawn; found = e.reads.group }) c.in_ok-at_start.ensures.made c.in_ok-run.ensures.goes_on

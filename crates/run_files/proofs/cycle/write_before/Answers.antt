@@ -4,7 +4,7 @@ use Rattle.run_files.specs.declared.outputs.Output.TheVariants.{Frames}
 use Rattle.run_files.specs.AskedFiles.{names_of}
 use Rattle.run_files.specs.Order.{one_piece}
 use Rattle.run_files.specs.Written.{AddsAll, Writes}
-use Rattle.run_files.proofs.Adding.{no_frame_added}
+use Rattle.run_files.proofs.Adding.{nothing_added}
 use Rattle.run_files.proofs.Cycles.{frame_over, no_frame, is_over, none_over}
 use Rattle.run_files.proofs.cycle.write_before.Goals as goal
 
@@ -23,6 +23,6 @@ returns-else-has_begun_before g c =
     let none = sym c.has_begun_before.ensures ∙ c.if-has_begun_before.false in
     let now = g.R.Room.outside c.args.room.now in
     record {
-      texts = subst (λ text. AddsAll (names_of c.args.asked.now) (one_piece Frames text) now now) (no_frame c.args.at c.args.drawn.now none) (no_frame_added (names_of c.args.asked.now) now);
+      texts = subst (λ text. AddsAll (names_of c.args.asked.now) (one_piece Frames text) now now) (no_frame c.args.at c.args.drawn.now none) (nothing_added (names_of c.args.asked.now) Frames now);
       drawn = none_over c.args.at c.args.drawn.now none;
     }

@@ -1,11 +1,9 @@
 use Rattle.std.proofs.Common.{◌≡◌, refl, sym, subst, arith, rules}
 use Rattle.std.specs.Prelude.{Result, Ok, Err}
-use Rattle.record_text.specs.Chosen.{letters_of}
 use Rattle.run_model.specs.Run.{done}
 use Rattle.run_leaves.specs.Seated.{settings_at}
 use Rattle.flat_run.specs.declared.progress.Progress.TheVariants as progress
 use Rattle.run_files.specs.declared.outputs.Unwritten.{Unwritten}
-use Rattle.run_files.specs.AskedFiles.{names_of}
 use Rattle.run_loop.specs.declared.ending.Ending.{Ending}
 use Rattle.run_loop.specs.declared.ending.Ending.TheVariants.{Done}
 use Rattle.run_loop.specs.DoneIn.{DoneIn}
@@ -18,8 +16,8 @@ use Rattle.run_loop.proofs.run.run_cycles.Goals as goal
 
 pub cycles-init : goal.cycles-init
 cycles-init g c =
-    stands_first (names_of c.args.asked.now) (letters_of c.args.asked.now.given.letters) c.args.most (g.C.Cycles.standing c.args.run.now) c.args.going.now (g.R.Room.outside c.args.room.now) g.C.Cycles.is_counted c.args.steps.now
-    c.requires.goes c.requires.names c.requires.whole
+    stands_first c.args.asked.now c.args.most (g.C.Cycles.standing c.args.run.now) c.args.going.now (g.R.Room.outside c.args.room.now) g.C.Cycles.is_counted c.args.steps.now
+    c.requires.goes c.requires.fit
 
 pub returns-in-Err-clause-runs : goal.returns-in-Err-clause-runs
 returns-in-Err-clause-runs g c =
@@ -27,7 +25,7 @@ returns-in-Err-clause-runs g c =
     let m = g.C.Cycles.standing c.cycle.new.self in
     let was = c.cycles.invariant in
     let step = goes_on s m (Err c.in-Err.stop) c.cycle.new.records was.goes c.in-Err.ensures.goes in
-    stops_here (names_of c.args.asked.now) (letters_of c.args.asked.now.given.letters) c.args.most c.cycles.left (g.C.Cycles.standing c.args.run.now) s c.args.going.now c.cycles.going.drawn c.cycles.going.counted c.cycles.going.cycles (g.R.Room.outside c.args.room.now) (g.R.Room.outside c.cycles.room) (spent g.C.Cycles.is_counted c.args.steps.now c.cycles.steps) was
+    stops_here c.args.asked.now c.args.most c.cycles.left (g.C.Cycles.standing c.args.run.now) s c.args.going.now c.cycles.going.drawn c.cycles.going.counted c.cycles.going.cycles (g.R.Room.outside c.args.room.now) (g.R.Room.outside c.cycles.room) (spent g.C.Cycles.is_counted c.args.steps.now c.cycles.steps) was
     m c.cycle.new.records c.in-Err.stop c.stopped_by.result (record c.cycles.going { records = c.cycle.new.records }) c.cycle.new.steps step c.stopped_by.ensures refl refl refl c.cycle.ensures.visits
 
 pub returns-in-Err-clause-keeps : goal.returns-in-Err-clause-keeps
@@ -48,7 +46,7 @@ returns-in-Done-clause-runs g c =
     let m = g.C.Cycles.standing c.cycle.new.self in
     let was = c.cycles.invariant in
     let step = goes_on s m (Ok progress.Done) c.cycle.new.records was.goes (rw c.in-Done.is at c.in-Ok.ensures.goes) in
-    ends_by_verdict (names_of c.args.asked.now) (letters_of c.args.asked.now.given.letters) c.args.most c.cycles.left (g.C.Cycles.standing c.args.run.now) s c.args.going.now c.cycles.going.drawn c.cycles.going.counted c.cycles.going.cycles (g.R.Room.outside c.args.room.now) (g.R.Room.outside c.cycles.room) (spent g.C.Cycles.is_counted c.args.steps.now c.cycles.steps) was
+    ends_by_verdict c.args.asked.now c.args.most c.cycles.left (g.C.Cycles.standing c.args.run.now) s c.args.going.now c.cycles.going.drawn c.cycles.going.counted c.cycles.going.cycles (g.R.Room.outside c.args.room.now) (g.R.Room.outside c.cycles.room) (spent g.C.Cycles.is_counted c.args.steps.now c.cycles.steps) was
     done Done (record c.cycles.going { records = c.cycle.new.records }) c.cycle.new.steps step.0 refl refl refl refl c.cycle.ensures.visits
 
 pub returns-in-Done-clause-keeps : goal.returns-in-Done-clause-keeps
@@ -65,7 +63,7 @@ returns-in-Done-clause-left g c =
     let m = g.C.Cycles.standing c.cycle.new.self in
     let was = c.cycles.invariant in
     let step = goes_on s m (Ok progress.Done) c.cycle.new.records was.goes (rw c.in-Done.is at c.in-Ok.ensures.goes) in
-    done_in (names_of c.args.asked.now) (letters_of c.args.asked.now.given.letters) c.args.most c.cycles.left (g.C.Cycles.standing c.args.run.now) s c.args.going.now c.cycles.going.drawn c.cycles.going.counted c.cycles.going.cycles (g.R.Room.outside c.args.room.now) (g.R.Room.outside c.cycles.room) (spent g.C.Cycles.is_counted c.args.steps.now c.cycles.steps) was m step.0 step.1
+    done_in c.args.asked.now c.args.most c.cycles.left (g.C.Cycles.standing c.args.run.now) s c.args.going.now c.cycles.going.drawn c.cycles.going.counted c.cycles.going.cycles (g.R.Room.outside c.args.room.now) (g.R.Room.outside c.cycles.room) (spent g.C.Cycles.is_counted c.args.steps.now c.cycles.steps) was m step.0 step.1
 
 pub returns-then-left-eq0 : goal.returns-then-left-eq0
 returns-then-left-eq0 g c =
@@ -73,13 +71,13 @@ returns-then-left-eq0 g c =
     let m = g.C.Cycles.standing c.cycle.new.self in
     let was = c.cycles.invariant in
     let step = goes_on s m (Ok (progress.Cycled c.in-Cycled.at)) c.cycle.new.records was.goes (rw c.in-Cycled.is at c.in-Ok.ensures.goes) in
-    absurd (not_late (names_of c.args.asked.now) (letters_of c.args.asked.now.given.letters) c.args.most c.cycles.left (g.C.Cycles.standing c.args.run.now) s c.args.going.now c.cycles.going.drawn c.cycles.going.counted c.cycles.going.cycles (g.R.Room.outside c.args.room.now) (g.R.Room.outside c.cycles.room) (spent g.C.Cycles.is_counted c.args.steps.now c.cycles.steps) was m c.in-Cycled.at c.cycle.new.records (omega arith) step)
+    absurd (not_late c.args.asked.now c.args.most c.cycles.left (g.C.Cycles.standing c.args.run.now) s c.args.going.now c.cycles.going.drawn c.cycles.going.counted c.cycles.going.cycles (g.R.Room.outside c.args.room.now) (g.R.Room.outside c.cycles.room) (spent g.C.Cycles.is_counted c.args.steps.now c.cycles.steps) was m c.in-Cycled.at c.cycle.new.records (omega arith) step)
 
 pub write_next-requires-clause-created : goal.write_next-requires-clause-created
 write_next-requires-clause-created g c =
     let s = g.C.Cycles.standing c.cycles.run in
     let was = c.cycles.invariant in
-    made_still (names_of c.args.asked.now) (letters_of c.args.asked.now.given.letters) c.args.most c.cycles.left (g.C.Cycles.standing c.args.run.now) s c.args.going.now c.cycles.going.drawn c.cycles.going.counted c.cycles.going.cycles (g.R.Room.outside c.args.room.now) (g.R.Room.outside c.cycles.room) (spent g.C.Cycles.is_counted c.args.steps.now c.cycles.steps) was c.requires.created
+    made_still c.args.asked.now c.args.most c.cycles.left (g.C.Cycles.standing c.args.run.now) s c.args.going.now c.cycles.going.drawn c.cycles.going.counted c.cycles.going.cycles (g.R.Room.outside c.args.room.now) (g.R.Room.outside c.cycles.room) (spent g.C.Cycles.is_counted c.args.steps.now c.cycles.steps) was c.requires.created
 
 pub write_next-requires-clause-leaves : goal.write_next-requires-clause-leaves
 write_next-requires-clause-leaves g c =
@@ -87,7 +85,7 @@ write_next-requires-clause-leaves g c =
     let m = g.C.Cycles.standing c.cycle.new.self in
     let was = c.cycles.invariant in
     let step = goes_on s m (Ok (progress.Cycled c.in-Cycled.at)) c.cycle.new.records was.goes (rw c.in-Cycled.is at c.in-Ok.ensures.goes) in
-    names_due (names_of c.args.asked.now) (letters_of c.args.asked.now.given.letters) c.args.most c.cycles.left (g.C.Cycles.standing c.args.run.now) s c.args.going.now c.cycles.going.drawn c.cycles.going.counted c.cycles.going.cycles (g.R.Room.outside c.args.room.now) (g.R.Room.outside c.cycles.room) (spent g.C.Cycles.is_counted c.args.steps.now c.cycles.steps) was
+    names_due c.args.asked.now c.args.most c.cycles.left (g.C.Cycles.standing c.args.run.now) s c.args.going.now c.cycles.going.drawn c.cycles.going.counted c.cycles.going.cycles (g.R.Room.outside c.args.room.now) (g.R.Room.outside c.cycles.room) (spent g.C.Cycles.is_counted c.args.steps.now c.cycles.steps) was
     m c.in-Cycled.at c.cycle.new.records c.model.result.now (omega arith) c.requires.values step c.model.ensures
 
 pub write_next-requires-clause-few : goal.write_next-requires-clause-few
@@ -104,8 +102,8 @@ returns-in_err-write_next-clause-runs g c =
     let new = g.R.Room.outside c.write_next.new.room in
     let why = c.in_err-write_next.field-0.0 in
     let is : c.from_residual.result ≡ Err why = search rules in
-    subst (λ (r : Result Ending Unwritten). RunsTo (asking (names_of c.args.asked.now) (letters_of c.args.asked.now.given.letters) s0) (run_of c.args.most s0) c.args.going.now c.write_next.new.going (g.R.Room.outside c.args.room.now) new (spent g.C.Cycles.is_counted c.args.steps.now c.cycle.new.steps) r) (sym is)
-    (breaks_next (names_of c.args.asked.now) (letters_of c.args.asked.now.given.letters) c.args.most c.cycles.left (g.C.Cycles.standing c.args.run.now) s c.args.going.now c.cycles.going.drawn c.cycles.going.counted c.cycles.going.cycles (g.R.Room.outside c.args.room.now) (g.R.Room.outside c.cycles.room) (spent g.C.Cycles.is_counted c.args.steps.now c.cycles.steps) was
+    subst (λ (r : Result Ending Unwritten). RunsTo (asking c.args.asked.now s0) (run_of c.args.most s0) c.args.going.now c.write_next.new.going (g.R.Room.outside c.args.room.now) new (spent g.C.Cycles.is_counted c.args.steps.now c.cycle.new.steps) r) (sym is)
+    (breaks_next c.args.asked.now c.args.most c.cycles.left (g.C.Cycles.standing c.args.run.now) s c.args.going.now c.cycles.going.drawn c.cycles.going.counted c.cycles.going.cycles (g.R.Room.outside c.args.room.now) (g.R.Room.outside c.cycles.room) (spent g.C.Cycles.is_counted c.args.steps.now c.cycles.steps) was
     m c.in-Cycled.at c.cycle.new.records c.model.result.now new why c.cycle.new.steps (omega arith) step c.model.ensures (c.in_err-write_next.ensures.texts step.cycle step.records_are step.time (settings_at s0.settings)) c.cycle.ensures.visits)
 
 pub returns-in_err-write_next-clause-keeps : goal.returns-in_err-write_next-clause-keeps
@@ -132,7 +130,7 @@ cycles-preserved g c =
     let s0 = g.C.Cycles.standing c.args.run.now in
     let new = g.R.Room.outside c.write_next.new.room in
     let e = c.in_ok-write_next.ensures in
-    stands_next (names_of c.args.asked.now) (letters_of c.args.asked.now.given.letters) c.args.most c.cycles.left (g.C.Cycles.standing c.args.run.now) s c.args.going.now c.cycles.going.drawn c.cycles.going.counted c.cycles.going.cycles (g.R.Room.outside c.args.room.now) (g.R.Room.outside c.cycles.room) (spent g.C.Cycles.is_counted c.args.steps.now c.cycles.steps) was
+    stands_next c.args.asked.now c.args.most c.cycles.left (g.C.Cycles.standing c.args.run.now) s c.args.going.now c.cycles.going.drawn c.cycles.going.counted c.cycles.going.cycles (g.R.Room.outside c.args.room.now) (g.R.Room.outside c.cycles.room) (spent g.C.Cycles.is_counted c.args.steps.now c.cycles.steps) was
     m c.in-Cycled.at c.cycle.new.records c.model.result.now new c.write_next.new.going.drawn c.write_next.new.going.counted c.write_next.new.going.cycles c.cycle.new.steps (omega arith) step c.model.ensures
     (e.texts step.cycle step.records_are step.time (settings_at s0.settings)) (e.drawn step.cycle step.records_are step.time) (e.counted step.cycle step.records_are) e.cycles c.cycle.ensures.visits
 
@@ -140,16 +138,16 @@ pub returns-in-Err-clause-visits : goal.returns-in-Err-clause-visits
 returns-in-Err-clause-visits g c =
     let s = g.C.Cycles.standing c.cycles.run in
     let was = c.cycles.invariant in
-    costs_here (names_of c.args.asked.now) (letters_of c.args.asked.now.given.letters) c.args.most c.cycles.left (g.C.Cycles.standing c.args.run.now) s c.args.going.now c.cycles.going.drawn c.cycles.going.counted c.cycles.going.cycles (g.R.Room.outside c.args.room.now) (g.R.Room.outside c.cycles.room) (spent g.C.Cycles.is_counted c.args.steps.now c.cycles.steps) was c.cycle.new.steps c.cycle.ensures.visits
+    costs_here c.args.asked.now c.args.most c.cycles.left (g.C.Cycles.standing c.args.run.now) s c.args.going.now c.cycles.going.drawn c.cycles.going.counted c.cycles.going.cycles (g.R.Room.outside c.args.room.now) (g.R.Room.outside c.cycles.room) (spent g.C.Cycles.is_counted c.args.steps.now c.cycles.steps) was c.cycle.new.steps c.cycle.ensures.visits
 
 pub returns-in-Done-clause-visits : goal.returns-in-Done-clause-visits
 returns-in-Done-clause-visits g c =
     let s = g.C.Cycles.standing c.cycles.run in
     let was = c.cycles.invariant in
-    costs_here (names_of c.args.asked.now) (letters_of c.args.asked.now.given.letters) c.args.most c.cycles.left (g.C.Cycles.standing c.args.run.now) s c.args.going.now c.cycles.going.drawn c.cycles.going.counted c.cycles.going.cycles (g.R.Room.outside c.args.room.now) (g.R.Room.outside c.cycles.room) (spent g.C.Cycles.is_counted c.args.steps.now c.cycles.steps) was c.cycle.new.steps c.cycle.ensures.visits
+    costs_here c.args.asked.now c.args.most c.cycles.left (g.C.Cycles.standing c.args.run.now) s c.args.going.now c.cycles.going.drawn c.cycles.going.counted c.cycles.going.cycles (g.R.Room.outside c.args.room.now) (g.R.Room.outside c.cycles.room) (spent g.C.Cycles.is_counted c.args.steps.now c.cycles.steps) was c.cycle.new.steps c.cycle.ensures.visits
 
 pub returns-in_err-write_next-clause-visits : goal.returns-in_err-write_next-clause-visits
 returns-in_err-write_next-clause-visits g c =
     let s = g.C.Cycles.standing c.cycles.run in
     let was = c.cycles.invariant in
-    costs_here (names_of c.args.asked.now) (letters_of c.args.asked.now.given.letters) c.args.most c.cycles.left (g.C.Cycles.standing c.args.run.now) s c.args.going.now c.cycles.going.drawn c.cycles.going.counted c.cycles.going.cycles (g.R.Room.outside c.args.room.now) (g.R.Room.outside c.cycles.room) (spent g.C.Cycles.is_counted c.args.steps.now c.cycles.steps) was c.cycle.new.steps c.cycle.ensures.visits
+    costs_here c.args.asked.now c.args.most c.cycles.left (g.C.Cycles.standing c.args.run.now) s c.args.going.now c.cycles.going.drawn c.cycles.going.counted c.cycles.going.cycles (g.R.Room.outside c.args.room.now) (g.R.Room.outside c.cycles.room) (spent g.C.Cycles.is_counted c.args.steps.now c.cycles.steps) was c.cycle.new.steps c.cycle.ensures.visits

@@ -1,12 +1,10 @@
-use Rattle.record_text.specs.Chosen.{letters_of}
-use Rattle.run_files.specs.AskedFiles.{names_of}
 use Rattle.run_loop.specs.Leaves.{spent}
 use Rattle.run_loop.proofs.Stands.{Stands}
 use Rattle.run_loop.proofs.run.run_cycles.Given as goal
 
 abbrev pub invariant-cycles : goal.invariant-cycles
 invariant-cycles g l =
-    Stands (names_of l.asked) (letters_of l.asked.given.letters) l.most l.left (g.C.Cycles.standing l.fn.run) (g.C.Cycles.standing l.run) l.fn.going l.going.drawn l.going.counted l.going.cycles (g.R.Room.outside l.fn.room) (g.R.Room.outside l.room)
+    Stands l.asked l.most l.left (g.C.Cycles.standing l.fn.run) (g.C.Cycles.standing l.run) l.fn.going l.going.drawn l.going.counted l.going.cycles (g.R.Room.outside l.fn.room) (g.R.Room.outside l.room)
     (spent g.C.Cycles.is_counted l.fn.steps l.steps)
 
 abbrev pub decreases-cycles : goal.decreases-cycles

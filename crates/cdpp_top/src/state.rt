@@ -1,0 +1,99 @@
+// The state that a run goes on from.
+ghost use Rattle.std.specs.Prelude.{Some, IfSome, IfOk, MatchResult};
+ghost use Rattle.room_edge.specs.Outside.{OnlyInput};
+ghost use Rattle.asked_words.specs.Shown.{text_of_name};
+ghost use Rattle.cdpp_top.specs.Stages.{GoesOnBy, HasText, HasNoText, ReadsState, ReadCauses};
+ghost use Rattle.cdpp_top.specs.Starting.{IsResumed, MayGoOn};
+
+use crate::unread::Unread;
+use atomic_face::AtomicModel;
+use flat_run::FlatRun;
+use linked_queue::LinkedQueue;
+use quantity::{MAX_LOG_BYTES, Text, Time};
+use room_edge::{ReadWhole, Room, read_whole};
+use state_file::load_state;
+use std::alloc::Global;
+use text_forms::StateRefusal;
+
+// The most bytes that a file of a state may have.
+const LONGEST: u32 = MAX_LOG_BYTES as u32;
+
+/// The run goes on from the state of the file of this name, where one is named.
+pub(crate) fn read_state<R: Room, M: AtomicModel>(
+    alloc: Global,
+    room: &mut R,
+    name: Option<&str>,
+    run: FlatRun<LinkedQueue, M>,
+    end: Time,
+) -> Result<FlatRun<LinkedQueue, M>, Unread>
+    requires { MayGoOn run }
+    ensures reads { IfSome (R.outside room.old).files (λ files. ReadsState
+        (text_of_name name.entry) run end files (R.outside room.old) (R.outside room.new)
+        result) }
+    ensures causes { ReadCauses (R.outside room.old) (R.outside room.new) result }
+    ensures only { OnlyInput (R.outside room.old) (R.outside room.new) }
+    ensures goes_on { IfOk result (IsResumed (text_of_name name.entry) run end) }
+{
+    match name {
+        None => Ok(run),
+        Some(name) => read_state_file(alloc, room, name, run, end),
+    }
+}
+
+/// The run goes on from the state of the file of this name.
+fn read_state_file<R: Room, M: AtomicModel>(
+    alloc: Global,
+    room: &mut R,
+    name: &str,
+    run: FlatRun<LinkedQueue, M>,
+    end: Time,
+) -> Result<FlatRun<LinkedQueue, M>, Unread>
+    requires { MayGoOn run }
+    ensures reads { IfSome (R.outside room.old).files (λ files. ReadsState (Some name.now)
+        run end files (R.outside room.old) (R.outside room.new) result) }
+    ensures causes { ReadCauses (R.outside room.old) (R.outside room.new) result }
+    ensures only { OnlyInput (R.outside room.old) (R.outside room.new) }
+    ensures goes_on { IfOk result (IsResumed (Some name.now) run end) }
+{
+    match read_text(alloc, room, name) {
+        Ok(text) => go_on(alloc, &text, run, end),
+        Err(why) => {
+            drop(run);
+            Err(why)
+        }
+    }
+}
+
+/// The bytes of the file of this name.
+fn read_text<R: Room>(alloc: Global, room: &mut R, name: &str) -> Result<Vec<u8>, Unread>
+    ensures reads { IfSome (R.outside room.old).files (λ files. MatchResult result
+        (λ bytes. HasText name.now files (R.outside room.old) (R.outside room.new) bytes.items)
+        (HasNoText name.now files (R.outside room.old) (R.outside room.new))) }
+    ensures causes { ReadCauses (R.outside room.old) (R.outside room.new) result }
+    ensures only { OnlyInput (R.outside room.old) (R.outside room.new) }
+{
+    let kept = Text::copy(alloc, name.as_bytes())?;
+    match read_whole(alloc, room, name, LONGEST) {
+        Ok(bytes) => Ok(bytes),
+        Err(ReadWhole::Missing) => Err(Unread::Missing(kept)),
+        Err(ReadWhole::ReadFault) => Err(Unread::ReadFault(kept)),
+        Err(ReadWhole::TooLong(_)) => Err(Unread::State(StateRefusal::TooLarge(0))),
+        Err(ReadWhole::Memory) => Err(Unread::Memory),
+    }
+}
+
+/// The run goes on from the state that these bytes give.
+fn go_on<M: AtomicModel>(
+    alloc: Global,
+    bytes: &[u8],
+    run: FlatRun<LinkedQueue, M>,
+    end: Time,
+) -> Result<FlatRun<LinkedQueue, M>, Unread>
+    requires { MayGoOn run }
+    ensures { GoesOnBy bytes.now run end result }
+{
+    match load_state(alloc, bytes, run, end) {
+        Ok((loaded, _)) => Ok(loaded),
+        Err(refusal) => Err(Unread::State(refusal)),
+    }
+}

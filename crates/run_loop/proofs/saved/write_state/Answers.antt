@@ -1,0 +1,31 @@
+use Rattle.std.proofs.Common.{◌≤◌, ◌+◌, ◌++◌, ◌∙◌, ap, arith}
+use Rattle.std.proofs.lemmas.Result.{on_ok_weaker}
+use Rattle.model_tree.specs.Tree.{leaf_count}
+use Rattle.text_forms.specs.StateText.{text_of_state}
+use Rattle.run_leaves.specs.Seated.{settings_at}
+use Rattle.flat_run.specs.Standing.{tree_in}
+use Rattle.state_file.proofs.Lines.{as_many}
+use Rattle.run_files.specs.declared.outputs.Output.TheVariants.{State}
+use Rattle.run_files.specs.AskedFiles.{names_of}
+use Rattle.run_files.proofs.Adding.{none_added}
+use Rattle.run_files.proofs.Cycles.{no_name}
+use Rattle.run_loop.proofs.Saving.{visits_named}
+use Rattle.run_loop.proofs.saved.write_state.Goals as goal
+
+pub returns-then-is_none-clause-texts : goal.returns-then-is_none-clause-texts
+returns-then-is_none-clause-texts g c =
+    let s = c.args.run.now in
+    none_added (names_of c.args.asked.now) State (text_of_state (tree_in s) c.args.asked.now.end s.state.leaf_states) (g.R.Room.outside c.args.room.now) (no_name c.args.asked.now.given.save c.if-is_none.ensures)
+
+pub returns-clause-texts : goal.returns-clause-texts
+returns-clause-texts g c =
+    let s = c.args.run.now in
+    let text = text_of_state (tree_in s) c.args.asked.now.end s.state.leaf_states in
+    c.write_piece.ensures.texts text (on_ok_weaker c.save_state-filled.result (λ ok. c.deref.ensures.value ∙ ok ∙ ap (λ xs. xs ++ text) c.clear.ensures.items) c.save_state-filled.ensures.ok)
+
+pub returns-clause-visits : goal.returns-clause-visits
+returns-clause-visits g c =
+    let s = c.args.run.now in
+    let within : c.save_state-filled.new.steps ≤ c.args.steps.now + leaf_count (tree_in s) =
+    omega (arith, c.save_state-filled.ensures.steps, as_many s.model (settings_at s.settings) s.state.leaf_states c.requires.fits) in
+    visits_named c.args.asked.now.given.save (tree_in s) c.args.steps.now c.save_state-filled.new.steps c.if-is_none.ensures within

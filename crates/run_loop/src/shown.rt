@@ -1,0 +1,74 @@
+// What frames show before the first cycle of a run that goes on from a saved state.
+ghost use Rattle.std.specs.Prelude.{◌≡◌, ◌+◌, ◌<◌, ◌≤◌, ◌^◌, Some, None, IfOk, OnOk, IsTrue, length};
+ghost use Rattle.std.specs.Option.{option_map};
+ghost use Rattle.sparse_cycle.specs.Sparse.{leaf_of};
+ghost use Rattle.run_leaves.specs.Saved.{is_cell};
+ghost use Rattle.run_loop.specs.Emitted.{AreCells, with_emitted, given_by, AreUnbegun, IsUnbegun};
+
+use atomic_face::AtomicModel;
+use flat_run::{FlatRun, Steps};
+use quantity::{OutOfMemory, Value};
+use run_files::Drawn;
+use std::sync::ledger::Ledger;
+use time_queue::TimeQueue;
+
+/// Each cell of the group that is drawn, if one is, has the value that it has emitted last. Each
+/// takes one visit.
+pub(crate) fn show_emitted<Q: TimeQueue, M: AtomicModel, L: Ledger>(
+    run: &FlatRun<Q, M>,
+    drawn: &mut Option<Drawn>,
+    steps: &mut Steps<L>,
+) -> Result<(), OutOfMemory>
+    requires goes { run.now.stopped ≡ None }
+    requires few { length run.now.state.leaf_states < 2 ^ 32 }
+    requires unbegun { AreUnbegun drawn.old }
+    requires cells { AreCells run.now.state.leaf_states drawn.old }
+    ensures shown { OnOk result
+        (drawn.new ≡ option_map (with_emitted run.now.state.leaf_states) drawn.old) }
+    ensures visits { steps.new ≤ steps.old + length run.now.state.leaf_states }
+{
+    match drawn {
+        None => Ok(()),
+        Some(drawn) => show_cells(run, drawn, steps),
+    }
+}
+
+/// The same of a group.
+fn show_cells<Q: TimeQueue, M: AtomicModel, L: Ledger>(
+    run: &FlatRun<Q, M>,
+    drawn: &mut Drawn,
+    steps: &mut Steps<L>,
+) -> Result<(), OutOfMemory>
+    requires goes { run.now.stopped ≡ None }
+    requires few { length run.now.state.leaf_states < 2 ^ 32 }
+    requires unbegun { IsUnbegun drawn.old }
+    requires cells { AreCells run.now.state.leaf_states (Some drawn.old) }
+    ensures shown { OnOk result (drawn.new ≡ with_emitted run.now.state.leaf_states drawn.old) }
+    ensures visits { steps.new ≤ steps.old + length run.now.state.leaf_states }
+{
+    for cell in 0..drawn.cells() {
+        let leaf = drawn.first() + cell;
+        let value = emitted(run, leaf, steps)?;
+        drawn.preset(cell, value);
+    }
+    Ok(())
+}
+
+/// The value that a cell emitted last.
+fn emitted<Q: TimeQueue, M: AtomicModel, L: Ledger>(
+    run: &FlatRun<Q, M>,
+    leaf: u32,
+    steps: &mut Steps<L>,
+) -> Result<Value, OutOfMemory>
+    requires goes { run.now.stopped ≡ None }
+    requires cell { IsTrue (is_cell (leaf_of run.now.state.leaf_states leaf)) }
+    requires within { leaf < length run.now.state.leaf_states }
+    ensures value { IfOk result (λ v. v ≡ given_by run.now.state.leaf_states leaf) }
+    ensures visits { steps.new ≡ steps.old + 1 }
+{
+    let state = run.cell_state(leaf, steps)?;
+    match state.ports.first() {
+        None => Ok(Value::Undefined),
+        Some(port) => Ok(port.emitted),
+    }
+}
