@@ -12,5 +12,3 @@ mod models;
 mod refusals;
 #[cfg(test)]
 mod rows;
-#[cfg(test)]
-mod runner;

@@ -4,17 +4,11 @@
 #[cfg(test)]
 mod drawings;
 #[cfg(test)]
-mod faults;
-#[cfg(test)]
 mod forms;
 #[cfg(test)]
 mod limits;
 #[cfg(test)]
 mod models;
-#[cfg(test)]
-mod order;
-#[cfg(test)]
-mod refusals;
 #[cfg(test)]
 mod rows;
 #[cfg(test)]

@@ -1,7 +1,8 @@
-// Models that are refused, each kind at least once: what is too large is refused in `limits`, and
-// what is drawn of no group in `tables`.
+// Models that are refused, each kind at least once: what is too large, and what is drawn of no group,
+// is refused in the crate of whole runs.
 use crate::forms::{push_with_line, refuses};
-use crate::rows::{Row, answers};
+use memory_runs::run;
+use room_edge::MemoryRoom;
 use std::process::Abort;
 use std::test::Fail;
 
@@ -230,17 +231,21 @@ fn changed_is_refused(
     is_refused(rt, &model, kind)
 }
 
+/// Runs the model as it is in the room.
+fn runs_in(rt: &(impl Abort + AllocGlobal), room: &mut MemoryRoom) -> Result<(), Fail> {
+    room.put_file("m.ma", MODEL.as_bytes())?;
+    let status = run(rt.alloc(), "cdpp -m m.ma -t 00:00:00:100", room)?;
+    assert_eq!(rt;
+        (status.number(), room.shown()),
+        (0, b"end 00:00:00:100 cycles 1\n".as_slice())
+    );
+    Ok(())
+}
+
 /// Runs the model as it is: it is refused for the changed line alone.
 fn unchanged_runs(rt: &(impl Abort + AllocGlobal)) -> Result<(), Fail> {
-    let row = Row {
-        files: &[("m.ma", MODEL)],
-        words: "cdpp -m m.ma -t 00:00:00:100",
-        status: 0,
-        shown: "end 00:00:00:100 cycles 1\n",
-        complained: "",
-        made: &[],
-    };
-    answers(rt, &row)
+    let mut room = MemoryRoom::new(rt.alloc(), 4096);
+    runs_in(rt, &mut room)
 }
 
 /// Runs each small model.

@@ -1,5 +1,5 @@
 // The order in which a run hands its files over, seen where each append of the room fails in turn.
-use crate::rows::run;
+use memory_runs::run;
 use room_edge::{MemoryRoom, RoomCall};
 use std::alloc::Global;
 use std::process::Abort;
@@ -142,7 +142,7 @@ fn fails_after(
     room.put_file("m.ma", MODEL.as_bytes())?;
     room.fail(RoomCall::Append, (appends as u64).saturating_add(1))?;
     let status = run(rt.alloc(), WORDS, room)?;
-    ends(rt, status, room, appends)?;
+    ends(rt, status.number(), room, appends)?;
     are_held(rt, room, appends)
 }
 

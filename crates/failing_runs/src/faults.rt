@@ -1,6 +1,6 @@
 // Runs of the two programs in which a call of the room fails, or whose file is cut short.
-use crate::models;
-use crate::rows::{USAGE, run};
+use memory_runs::models::{RING, RING_LOG, SERVED, USAGE};
+use memory_runs::run;
 use room_edge::{MemoryRoom, RoomCall};
 use std::process::Abort;
 use std::test::Fail;
@@ -16,28 +16,28 @@ struct Start<'a> {
 /// A run of the ring.
 const RING_RUN: Start<'static> = Start {
     name: "row1.ma",
-    text: models::RING,
+    text: RING,
     words: "cdpp -m row1.ma -t 00:00:00:100 -l log.txt",
 };
 
 /// A run that makes two files.
 const SERVED_RUN: Start<'static> = Start {
     name: "t.ma",
-    text: models::SERVED,
+    text: SERVED,
     words: "cdpp -m t.ma -t 00:00:00:000 -l log.txt -o out.txt -L YXS",
 };
 
 /// A run that is refused by its words.
 const REFUSED_RUN: Start<'static> = Start {
     name: "row1.ma",
-    text: models::RING,
+    text: RING,
     words: "cdpp -m row1.ma",
 };
 
 /// A drawing of the ring's log.
 const DRAWING: Start<'static> = Start {
     name: "log.txt",
-    text: models::RING_LOG,
+    text: RING_LOG,
     words: "drawlog -l log.txt -g line -s 1,3",
 };
 
@@ -72,7 +72,7 @@ fn first(text: &str, count: usize) -> &[u8] {
 /// The beginning of the ring's log that is left.
 fn log_of(wanted: &Left<'_>) -> Option<&'static [u8]> {
     match wanted.log {
-        Some(count) => Some(first(models::RING_LOG, count)),
+        Some(count) => Some(first(RING_LOG, count)),
         None => None,
     }
 }
@@ -109,7 +109,7 @@ fn leaves(
     number: u64,
 ) -> Result<(), Fail> {
     let status = run(rt.alloc(), words, room)?;
-    stands(rt, status, room, wanted, number);
+    stands(rt, status.number(), room, wanted, number);
     are_made(rt, room, wanted, number);
     Ok(())
 }
