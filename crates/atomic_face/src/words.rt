@@ -18,7 +18,7 @@ const UNDEFINED: i64 = 10_000_000_000_000_000;
 /// The number of no time, and of no count.
 pub const NONE: i64 = -1;
 
-/// So many milliseconds.
+/// The time of so many milliseconds.
 pub fn time(ms: u32) -> Time
     requires { ms ≤ MAX_TIME }
     ensures { result ≡ ms }
@@ -29,7 +29,7 @@ pub fn time(ms: u32) -> Time
     }
 }
 
-/// So many hundred-thousandths.
+/// The value of so many hundred-thousandths.
 pub fn number(raw: i64) -> Value
     requires { unsigned_abs raw ≤ 10 ^ 15 }
     ensures { result ≡ Value.Num raw }

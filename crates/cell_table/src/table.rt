@@ -254,7 +254,7 @@ impl CellTable {
         least(a, rest)
     }
 
-    /// What a cell tells.
+    /// What a cell gave and computed last at each port, and its next time.
     pub fn tell(&self, i: u32) -> Cell
         requires cell { i < length self.now.cells }
         ensures { Tells result (cell_at self.now.cells i) }

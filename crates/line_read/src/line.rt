@@ -48,7 +48,7 @@ pub enum LogLine<'a> {
 }
 
 impl LogLine<'_> {
-    /// Its time.
+    /// The time of the line: that of its cycle.
     pub fn time(&self) -> Time
         ensures { result ≡ line_time (line_of self.now) }
     {
@@ -121,6 +121,7 @@ fn given_line<'a>(letter: Letter, parts: &Parts<'a>) -> Option<LogLine<'a>>
     }
 }
 
+/// The line of this letter of a value at a port; None where no line of this letter is of this leaf.
 #[inline(always)]
 pub(crate) fn given<'a>(
     letter: Letter,
@@ -175,6 +176,7 @@ fn moved_line<'a>(parts: &Parts<'a>) -> Option<LogLine<'a>>
     moved(time, &leaf, value, next)
 }
 
+/// The line of a leaf that moved; None unless a cell has a value and a box none.
 #[inline(always)]
 pub(crate) fn moved<'a>(
     time: Time,
