@@ -67,11 +67,7 @@ fn counted<L: Ledger>(
 }
 
 /// Runs `cdpp` with all boxes.
-fn run_cdpp(
-    alloc: Global,
-    words: &[String],
-    room: &mut MemoryRoom,
-) -> Result<Status, OutOfMemory> {
+fn run_cdpp(alloc: Global, words: &[String], room: &mut MemoryRoom) -> Result<Status, OutOfMemory> {
     let mut boxes: Vec<Box<dyn AtomicModel>> = Vec::new(alloc);
     for number in 0..Class::ALL.len() * BOXES {
         let made: Box<dyn AtomicModel> = match Class::ALL[number / BOXES] {

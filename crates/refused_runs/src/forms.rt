@@ -48,7 +48,12 @@ const WORDS: &str = "cdpp -m m.ma -t 00:00:00:100 -l log.txt";
 /// Compares what was answered with a refusal, after which no file is made.
 fn is_refused(rt: &impl Abort, status: u8, room: &MemoryRoom, model: &str, refused: &str) {
     assert_eq!(rt;
-        (status, room.shown(), room.complained(), room.made("log.txt")),
+        (
+            status,
+            room.shown(),
+            room.complained(),
+            room.made("log.txt")
+        ),
         (6, b"".as_slice(), refused.as_bytes(), None),
         "{model}"
     );
