@@ -56,7 +56,8 @@ number low high text = number_between 7 low high text
 
 -- ---- what values ask for
 
--- what options ask for, one by one
+-- what options ask for, one by one; drawn is the file of frames, group and space are what they are
+-- of, save is the file of the state at the end, and state that of the one that a run goes on from
 pub record Draft : Type 0 where
   pub model : Option Word
   pub size : Option ℕ

@@ -147,6 +147,7 @@ pub fn give(value: &Value, into: &mut Vec<(PortNo, Value)>) -> Result<(), OutOfM
         (into.new.items ≡ into.old.items ++ outputs (value_in (word_of value.now) ∷ [])) }
     ensures err { OnErr result (into.new.items ≡ into.old.items) }
 {
+    // For the proof: the value is bounded.
     let _ = value.known();
     into.push((PortNo(0), *value)).map_err(AllocError::from)?;
     Ok(())

@@ -61,6 +61,7 @@ pub fn build(
         → HasSettings sections.now settings atomics.items → IsBuilt sections.now settings top) }
     ensures atomics { IfOk result (λ top. atomics_in (in_tree top) ≡ atomics.items) }
 {
+    // Only the clauses speak of it.
     let _walked = walked;
     components_are_made_item_by_item();
     let groups = groups.into_iter();
