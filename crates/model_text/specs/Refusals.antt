@@ -10,7 +10,7 @@ use Rattle.rule_words.specs.declared.refusal.RuleRefusal.{RuleRefusal}
 use Rattle.model_text.specs.declared.kind.Kind.{Kind}
 use Rattle.model_text.specs.declared.kind.Kind.TheVariants.{BadLine, DuplicateSection, NoTop, DuplicateKey, MissingKey, BadValue, UnknownComponent, DuplicateComponent, ComponentCycle, UnknownClass, OutOfStock, BadParameter, UnknownPort, SelfLink, PassThrough, DuplicateLink, TooManyRoutes, BadRule, BadSort, RandomRefused, UnknownFunction, NotANeighbour, BadZone, BadInitial, TooLarge, TooLong, NoSection, NoSuchPlane, UnknownVariable, UnknownNeighbourPort}
 
--- line 0 is the whole file
+-- why a model is refused, and the line; line 0 is the whole file
 pub record Refusal : Type 0 where
   pub line : ℕ
   pub kind : Kind
