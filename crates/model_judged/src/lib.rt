@@ -1,5 +1,5 @@
-//! The phases of reading a model that need no further file, one after another: from the walk to the
-//! limit of links, and the tree.
+//! The phases of reading a model up to the limit of links, one after another: from the walk to the
+//! tree.
 //!
 //! - `judge` takes the sections of a file and a `Stock` of boxes, and gives `Judged`: the component
 //!   top, and the groups with the values that files are laid on; or the refusal of the first phase

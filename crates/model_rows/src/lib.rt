@@ -4,7 +4,7 @@
 //!   `Phases.antt` one for each two phases that follow each other, `Steps.antt` what counts within
 //!   one phase, `Limits.antt`, `LineBytes.antt` and `Long.antt` the bounds of models, lines and
 //!   files.
-//! - The laws that state them stand in `laws`. All go by `model_of` of
+//! - The laws that state them stand in `laws`. What a model is, or why it is refused, is in
 //!   `model_text/specs/ModelOf.antt`.
 #![tactic(auto)]
 
