@@ -21,24 +21,28 @@ use text_forms::{Letter, Tells};
 /// leaf, or a leaf that moved.
 #[derive(Clone, Copy)]
 pub enum LogLine<'a> {
+    /// A value given at the port `out`.
     Y {
         time: Time,
         leaf: LeafName<'a>,
         port: &'a [u8],
         value: Value,
     },
+    /// A value given at a further port.
     N {
         time: Time,
         leaf: LeafName<'a>,
         port: &'a [u8],
         value: Value,
     },
+    /// A value that reached a leaf.
     X {
         time: Time,
         leaf: LeafName<'a>,
         port: &'a [u8],
         value: Value,
     },
+    /// A leaf that moved: its computed value, where it is a cell, and its next time.
     S {
         time: Time,
         leaf: LeafName<'a>,

@@ -35,6 +35,7 @@ use std::alloc::Global;
 #[derive(Drop)]
 pub struct GroupRules {
     pub rule_sets: Vec<Vec<RuleTree>>,
+    /// For each zone the number of its rule set.
     pub zone_rules: Vec<usize>,
     pub port_rules: Vec<PortRule>,
 }
