@@ -46,7 +46,7 @@ source_in (Some name) None = Some (file name)
 source_in None (Some size) = Some (made size)
 source_in m g = None
 
--- a letter, small
+-- a letter in its small form, and any other byte as it is
 abbrev pub lower : ℕ → ℕ
 lower c = if nat_le 65 c && nat_le c 90 then c + 32 else c
 

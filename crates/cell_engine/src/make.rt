@@ -47,6 +47,7 @@ pub(crate) fn table_of(alloc: Global, group: &CellGroup) -> Result<CellTable, Ou
     ensures { IfOk result (λ t. t ≡ starting group.now.initial group.now.port_values.items
         group.now.variable_values.items) }
 {
+    // For the proof: there are at most `MAX_CELLS` cells.
     let _most = group.grid.cells();
     let initial = group.initial.values();
     CellTable::new(alloc, initial, &group.port_values, &group.variable_values)

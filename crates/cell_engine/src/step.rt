@@ -120,6 +120,7 @@ pub(crate) fn take(
     ensures only { OnlyCell i table.old.cells table.new.cells }
     ensures shape { HasShape table.old table.new }
 {
+    // For the proof: each cell has `width` ports, at most 4, and at most 8 variables.
     let _width = table.width();
     table.take(i, kind, at, given)
 }

@@ -1,4 +1,4 @@
--- How lines begin. Only private clauses name this.
+-- Private: how lines begin.
 use Rattle.std.specs.Prelude.{◌≡◌, ⊤, ℕ, Some, ◌∷◌, ◌++◌, map, take, slice_get, codes, decimal}
 use Rattle.std.specs.List.{join_with_byte}
 use Rattle.quantity.specs.Bytes.{Bytes}

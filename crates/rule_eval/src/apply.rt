@@ -13,6 +13,7 @@ use crate::view::View;
 use quantity::{Overflow, Tri, Value};
 use rule_tree::{Answer, Binary, Function, Unary};
 
+/// The value that an answer is; `?` for a truth value.
 pub(crate) fn number_in(answer: Answer) -> Value
     ensures { result ≡ number_answered answer }
 {
@@ -22,6 +23,7 @@ pub(crate) fn number_in(answer: Answer) -> Value
     }
 }
 
+/// The truth value that an answer is; undefined for a value.
 pub(crate) fn truth_in(answer: Answer) -> Tri
     ensures { result ≡ truth_in answer }
 {
@@ -31,6 +33,7 @@ pub(crate) fn truth_in(answer: Answer) -> Tri
     }
 }
 
+/// What an operator makes of one answer.
 pub(crate) fn apply_unary(operator: Unary, a: Answer) -> Answer
     ensures { one_meaning operator a ≡ Some result }
 {
@@ -41,6 +44,7 @@ pub(crate) fn apply_unary(operator: Unary, a: Answer) -> Answer
     }
 }
 
+/// What an operator makes of two answers. Overflow where the result is too large.
 #[inline(always)]
 pub(crate) fn apply_binary(operator: Binary, a: Answer, b: Answer) -> Result<Answer, Overflow>
     ensures { result_ok result ≡ two_meaning operator a b }
@@ -59,6 +63,7 @@ pub(crate) fn apply_binary(operator: Binary, a: Answer, b: Answer) -> Result<Ans
     }
 }
 
+/// The answer that a value is, where it isn't too large.
 pub(crate) fn as_answer(value: Result<Value, Overflow>) -> Result<Answer, Overflow>
     ensures { result_ok result ≡ as_answer (result_ok value) }
 {

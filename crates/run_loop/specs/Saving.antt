@@ -1,4 +1,4 @@
--- The state in which a run is left, where it is done.
+-- Private: the state in which a run is left, where it is done.
 use Rattle.std.specs.Prelude.{◌≡◌, None, ⊤}
 use Rattle.run_model.specs.Fitting.{FitsTree}
 use Rattle.run_model.specs.Run.{Run}
