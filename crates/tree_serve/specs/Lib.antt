@@ -1,0 +1,6 @@
+pub mod Processing
+pub mod InCycle
+pub mod Calls
+pub mod Ordered
+pub mod Mail
+pub mod Holds
