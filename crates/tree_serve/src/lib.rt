@@ -8,7 +8,6 @@ mod mail;
 pub mod message;
 mod moving;
 pub mod ordered;
-mod pieces;
 mod records;
 pub mod run;
 pub mod served;

@@ -1,8 +1,8 @@
 // The messages that wait, and what is kept of processors; how both begin in a cycle.
 use crate::kept::{Kept, keep_nothing};
 use crate::message::{Answer, Message};
-use crate::pieces::Pieces;
 use atomic_face::PortNo;
+use piece_list::PieceList;
 use quantity::{OutOfMemory, Value};
 use std::alloc::Global;
 use tree_tables::Entry;
@@ -10,7 +10,7 @@ use tree_tables::Entry;
 /// What waits, and what is kept.
 #[derive(Drop)]
 pub(crate) struct Mail {
-    pub(crate) waiting: Pieces<Message>,
+    pub(crate) waiting: PieceList<Message>,
     pub(crate) kept: Vec<Kept>,
 }
 
@@ -18,7 +18,7 @@ impl Mail {
     /// Nothing waits and nothing is kept; there is room to keep something of so many processors.
     pub(crate) fn new(alloc: Global, processors: u32) -> Result<Mail, OutOfMemory> {
         Ok(Mail {
-            waiting: Pieces::new(alloc),
+            waiting: PieceList::new(alloc),
             kept: Vec::with_capacity(alloc, processors as usize)?,
         })
     }
