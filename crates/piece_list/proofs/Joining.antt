@@ -1,5 +1,5 @@
 -- Lists in pieces, piece by piece.
-use Rattle.std.proofs.Common.{◌≡◌, ◌+◌, ◌-◌, ◌<◌, ◌≤◌, ◌++◌, ℕ, zero, suc, Option, Some, None, List, [], ◌∷◌, take, length, get_or, set, refl, sym, ap, ◌∙◌, arith, append_assoc, append-nil, length-append}
+use Rattle.std.proofs.Common.{◌≡◌, ◌+◌, ◌-◌, ◌<◌, ◌≤◌, ◌++◌, ℕ, zero, suc, Some, List, [], ◌∷◌, take, length, get_or, set, refl, sym, ap, ◌∙◌, arith, append_assoc, append-nil, length-append}
 use Rattle.std.specs.Prelude.{Vec, slice_get}
 use Rattle.std.specs.List.{remove}
 use Rattle.std.specs.declared.alloc.Global.{Global}
@@ -27,6 +27,16 @@ put-behind (r ∷ s ∷ rs) zero p q x last here more = absurd (omega (arith, la
 put-behind (r ∷ rs) (suc k) p q x last here more =
     ap (λ xs. r.items ++ xs) (put-behind rs k p q x (omega (arith, last)) here more)
     ∙ sym (append_assoc r.items (joined rs) (x ∷ []))
+
+-- a piece that moves and keeps its items
+pub same-piece : {T : Type 0} (ps : List (Vec T Global)) (k : ℕ) (p q : Vec T Global)
+    → slice_get ps k ≡ Some p → q.items ≡ p.items → joined (set ps k q) ≡ joined ps
+same-piece [] k p q here same = refl
+same-piece (r ∷ rs) zero p q here same =
+    let there : r ≡ p = cc in
+    ap (λ xs. xs ++ joined rs) (same ∙ ap (λ (v : Vec _ Global). v.items) (sym there))
+same-piece (r ∷ rs) (suc k) p q here same =
+    ap (λ xs. r.items ++ xs) (same-piece rs k p q here same)
 
 -- ---- an item less
 

@@ -1,5 +1,5 @@
 -- A list in pieces.
-use Rattle.std.specs.Prelude.{◌≡◌, ◌<◌, ◌+◌, ℕ, Option, Some, List, [], ◌∷◌, ◌++◌, Vec, length, take, slice_get}
+use Rattle.std.specs.Prelude.{◌≡◌, ◌<◌, ◌+◌, ℕ, Some, List, [], ◌∷◌, ◌++◌, Vec, length, take, slice_get}
 use Rattle.std.specs.declared.alloc.Global.{Global}
 use Rattle.piece_list.specs.declared.place.Place.{Place}
 
