@@ -1,6 +1,5 @@
 -- Messages that wait and what is kept of processors, as the definitions have them.
 use Rattle.std.specs.Prelude.{ℕ, Option, Some, None, List, [], ◌∷◌, map, slice_get}
-use Rattle.std.specs.Option.{option_map}
 use Rattle.run_model.specs.Cycle.{LeafState, Moved, stayed, moved, stopped}
 use Rattle.tree_tables.specs.declared.entry.Entry.{Entry}
 use Rattle.served_tree.specs.Service as service
@@ -9,10 +8,10 @@ use Rattle.served_tree.specs.Order as order
 use Rattle.served_tree.specs.Order.{a_collect, an_output, a_transition, a_done}
 use Rattle.tree_serve.specs.declared.message.Message as code
 use Rattle.tree_serve.specs.declared.message.Message.TheVariants as lent
-use Rattle.tree_serve.specs.declared.kept.Kept.{Kept}
 use Rattle.tree_serve.specs.declared.kept.Became.{Became}
 use Rattle.tree_serve.specs.declared.kept.Became.TheVariants as leaf
 use Rattle.tree_serve.specs.declared.mail.Mail.{Mail}
+use Rattle.tree_serve.specs.Notes.{Note, notes_of}
 
 -- a message in code
 abbrev pub message_in : code.Message → Message
@@ -20,6 +19,9 @@ message_in (lent.Collect to) = collect to
 message_in (lent.Output from bag) = output from bag.items
 message_in (lent.Transition to bag woken) = transition to bag.items woken
 message_in (lent.Done from a) = done from a.next a.stop
+
+abbrev pub messages_in : List code.Message → List Message
+messages_in ms = map message_in ms
 
 -- how a leaf lies, if it is one
 abbrev pub lies_at : List LeafState → Option ℕ → Option LeafState
@@ -34,17 +36,17 @@ became_in (Some s) (leaf.Moved value) = moved s
 became_in s (leaf.Stopped why) = stopped why
 
 -- what is kept of a processor
-abbrev pub kept_in : List LeafState → Entry → Kept → service.Kept
+abbrev pub kept_in : List LeafState → Entry → Note → service.Kept
 kept_in states e k =
     record {
-      gave = option_map (λ b. b.items) k.gave;
-      answered = option_map (λ a. (a.next, a.stop)) k.answered;
-      took = k.took.items;
+      gave = k.gave;
+      answered = k.answered;
+      took = k.took;
       became = became_in (lies_at states e.leaf) k.became;
     }
 
 -- of all processors
-abbrev pub all_kept : List LeafState → List Entry → List Kept → List service.Kept
+abbrev pub all_kept : List LeafState → List Entry → List Note → List service.Kept
 all_kept states (e ∷ es) (k ∷ ks) = kept_in states e k ∷ all_kept states es ks
 all_kept states es ks = []
 
@@ -52,25 +54,21 @@ all_kept states es ks = []
 abbrev pub service_of : List Entry → List LeafState → Mail → Service
 service_of entries states mail =
     record {
-      waiting = map message_in mail.waiting;
-      kept = all_kept states entries mail.kept.items;
+      waiting = messages_in mail.waiting;
+      kept = all_kept states entries (notes_of mail.kept.items);
     }
 
 -- ---- who serves a message
 
 abbrev pub parent_at : List Entry → ℕ → ℕ
-parent_at entries n = option_or (slice_get entries n)
-  where
-    option_or : Option Entry → ℕ
-    option_or None = 0
-    option_or (Some e) = e.parent
+parent_at entries n = elim (slice_get entries n) [ None ↦ 0 | Some e ↦ e.parent ]
 
 -- what is told of a message in code
-abbrev pub told_by : List Entry → code.Message → order.Served
-told_by entries (lent.Collect to) = record { processor = to; kind = a_collect; next = None }
-told_by entries (lent.Output from bag) =
+abbrev pub told_by : List Entry → Message → order.Served
+told_by entries (collect to) = record { processor = to; kind = a_collect; next = None }
+told_by entries (output from bag) =
     record { processor = parent_at entries from; kind = an_output; next = None }
-told_by entries (lent.Transition to bag woken) =
+told_by entries (transition to bag woken) =
     record { processor = to; kind = a_transition; next = None }
-told_by entries (lent.Done from a) =
-    record { processor = parent_at entries from; kind = a_done; next = a.next }
+told_by entries (done from next stop) =
+    record { processor = parent_at entries from; kind = a_done; next = next }

@@ -11,6 +11,7 @@ pub mod ordered;
 mod records;
 pub mod run;
 pub mod served;
+mod serving;
 mod start;
 mod tables;
 mod transition;

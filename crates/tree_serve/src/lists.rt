@@ -1,5 +1,13 @@
 // The lists at ports: what the links into them bring, as the rows of a processor say.
-use crate::kept::Kept;
+ghost use Rattle.std.specs.Prelude.{◌≡◌, ◌++◌, map, IfOk, OnOk};
+ghost use Rattle.std.specs.List.{flat_map};
+ghost use Rattle.run_model.specs.Cycle.{at_port};
+ghost use Rattle.tree_tables.specs.Stations.{ref_of, row_of};
+ghost use Rattle.served_tree.specs.Service.{at_number};
+ghost use Rattle.served_tree.specs.Rows.{read, read_rows as rows_read};
+ghost use Rattle.tree_serve.specs.Notes.{notes_of, all_heard};
+
+use crate::kept::{Kept, given_by};
 use atomic_face::PortNo;
 use quantity::{OutOfMemory, Value};
 use std::alloc::{AllocError, Global};
@@ -11,7 +19,10 @@ pub(crate) fn read_rows(
     bag: &[(PortNo, Value)],
     kept: &[Kept],
     rows: &[Vec<Ref>],
-) -> Result<Vec<(PortNo, Value)>, OutOfMemory> {
+) -> Result<Vec<(PortNo, Value)>, OutOfMemory>
+    ensures { IfOk result (λ values. values.items
+        ≡ rows_read bag.now (all_heard (notes_of kept.now)) (map row_of rows.now)) }
+{
     let mut values = Vec::new(alloc);
     for (i, row) in rows.iter().enumerate() {
         let port = u16::try_from(i).map_err(|_| OutOfMemory)?;
@@ -27,7 +38,14 @@ fn read_row(
     kept: &[Kept],
     row: &[Ref],
     into: &mut Vec<(PortNo, Value)>,
-) -> Result<(), OutOfMemory> {
+) -> Result<(), OutOfMemory>
+    ensures { OnOk result (into.new.items ≡ into.old.items
+        ++ at_port (
+          port.0,
+          flat_map (read bag.now (all_heard (notes_of kept.now)))
+              (map ref_of row.now),
+        )) }
+{
     for begin in row {
         read_one(port, bag, kept, *begin, into)?;
     }
@@ -41,26 +59,16 @@ fn read_one(
     kept: &[Kept],
     begin: Ref,
     into: &mut Vec<(PortNo, Value)>,
-) -> Result<(), OutOfMemory> {
+) -> Result<(), OutOfMemory>
+    ensures { OnOk result (into.new.items ≡ into.old.items
+        ++ at_port (port.0, read bag.now (all_heard (notes_of kept.now)) (ref_of begin))) }
+{
     match begin {
         Ref::OwnInput(number) => put_at(port, bag, number, into),
         Ref::OutputOf {
             processor,
             port: number,
-        } => put_given(port, &kept[processor as usize], number, into),
-    }
-}
-
-/// What a processor gave at a port of its.
-fn put_given(
-    port: PortNo,
-    kept: &Kept,
-    number: u32,
-    into: &mut Vec<(PortNo, Value)>,
-) -> Result<(), OutOfMemory> {
-    match &kept.gave {
-        None => Ok(()),
-        Some(bag) => put_at(port, bag, number, into),
+        } => put_at(port, given_by(kept, processor), number, into),
     }
 }
 
@@ -70,7 +78,10 @@ fn put_at(
     bag: &[(PortNo, Value)],
     number: u32,
     into: &mut Vec<(PortNo, Value)>,
-) -> Result<(), OutOfMemory> {
+) -> Result<(), OutOfMemory>
+    ensures { OnOk result (into.new.items ≡ into.old.items
+        ++ at_port (port.0, at_number bag.now number)) }
+{
     for (at, value) in bag {
         if u32::from(at.0) == number {
             into.push((port, *value)).map_err(AllocError::from)?;

@@ -1,58 +1,142 @@
 // The records of a cycle that was served, from what is kept of the leaves and of top.
+ghost use Rattle.std.specs.Prelude.{◌≡◌, ◌≤◌, ◌++◌, map, length, OnOk};
+ghost use Rattle.std.specs.List.{filter};
+ghost use Rattle.std.specs.Option.{option_map};
+ghost use Rattle.run_model.specs.Run.{port_records, is_of_out};
+ghost use Rattle.record_text.specs.Held.{Holds, AreEmpty, y_at, x_at, s_at, out_at};
+ghost use Rattle.served_tree.specs.Service.{out_record};
+ghost use Rattle.tree_serve.specs.Notes.{note_of, notes_of, answer_in};
+ghost use Rattle.tree_serve.specs.Recorded.{given_records, taken_records, move_record, move_records, next_answered, of_leaf_at, is_further, cycle_by, Adds, EndsBy, stop_in};
+
 use crate::kept::{Became, Kept};
 use crate::mail::Mail;
+use crate::message::Answer;
+use crate::start::stop_of_leaf;
 use atomic_face::PortNo;
+use flat_run::Stop;
 use quantity::{OutOfMemory, Time, Value};
 use record_text::{OutRecord, Records, SRecord, XRecord, YRecord};
 use std::alloc::AllocError;
 use tree_tables::Entry;
 
-/// The records of the cycle at an instant, in place of none.
-pub(crate) fn record_all(
+/// The records of the cycle at an instant, in place of none; or why it stops.
+pub(crate) fn end_of(
     t: Time,
     entries: &[Entry],
     mail: &Mail,
     records: &mut Records,
-) -> Result<(), OutOfMemory> {
+) -> Result<(), Stop>
+    requires kept { length entries.now ≤ length mail.now.kept.items }
+    requires records { AreEmpty records.old }
+    ensures { let notes = notes_of mail.now.kept.items in
+        EndsBy t entries.now notes (stop_in notes) result records.new }
+{
+    if let Some((leaf, why)) = mail.answer(0).stop {
+        return Err(stop_of_leaf(leaf, why, t));
+    }
+    match record_all(t, entries, mail, records) {
+        Ok(()) => Ok(()),
+        Err(OutOfMemory) => Err(Stop::Memory),
+    }
+}
+
+/// The records of the cycle at an instant, in place of none.
+fn record_all(
+    t: Time,
+    entries: &[Entry],
+    mail: &Mail,
+    records: &mut Records,
+) -> Result<(), OutOfMemory>
+    requires kept { length entries.now ≤ length mail.now.kept.items }
+    requires records { AreEmpty records.old }
+    ensures { OnOk result
+        (Holds records.new (cycle_by t entries.now (notes_of mail.now.kept.items))) }
+{
     for (i, entry) in entries.iter().enumerate() {
-        if let Some(leaf) = entry.leaf {
-            record_leaf(t, leaf, &mail.kept[i], records)?;
-        }
+        record_entry(t, entry.leaf, &mail.kept[i], records)?;
     }
     record_out(t, mail.gave(0), &mut records.out)
 }
 
-/// Those of one leaf.
-fn record_leaf(t: Time, leaf: u32, kept: &Kept, records: &mut Records) -> Result<(), OutOfMemory> {
-    if let Some(bag) = &kept.gave {
-        record_given(t, leaf, bag, records)?;
+/// Those of a processor, which is a leaf or isn't.
+fn record_entry(
+    t: Time,
+    leaf: Option<u32>,
+    kept: &Kept,
+    records: &mut Records,
+) -> Result<(), OutOfMemory>
+    ensures { OnOk result (Adds t (of_leaf_at given_records leaf (note_of kept.now))
+        (of_leaf_at taken_records leaf (note_of kept.now))
+        (of_leaf_at move_records leaf (note_of kept.now)) records.old records.new) }
+{
+    match leaf {
+        None => Ok(()),
+        Some(leaf) => record_leaf(t, leaf, kept, records),
     }
-    record_taken(t, leaf, &kept.took, &mut records.x)?;
-    record_move(t, leaf, kept, &mut records.s)
 }
 
-/// What a leaf gave: at its port `out`, and at further ports.
-fn record_given(
+/// Those of one leaf.
+fn record_leaf(t: Time, leaf: u32, kept: &Kept, records: &mut Records) -> Result<(), OutOfMemory>
+    ensures { OnOk result (Adds t (given_records leaf (note_of kept.now))
+        (taken_records leaf (note_of kept.now)) (move_records leaf (note_of kept.now))
+        records.old records.new) }
+{
+    if let Some(bag) = &kept.gave {
+        record_out_port(t, leaf, bag, &mut records.y)?;
+        record_further_ports(t, leaf, bag, &mut records.n)?;
+    }
+    record_taken(t, leaf, &kept.took, &mut records.x)?;
+    record_move(t, leaf, kept.became, next_of(kept.answered), &mut records.s)
+}
+
+/// What a leaf gave at its port `out`.
+fn record_out_port(
     t: Time,
     leaf: u32,
     bag: &[(PortNo, Value)],
-    records: &mut Records,
-) -> Result<(), OutOfMemory> {
+    y: &mut Vec<YRecord>,
+) -> Result<(), OutOfMemory>
+    ensures { OnOk result (y.new.items ≡ y.old.items
+        ++ map (y_at t) (filter is_of_out (port_records (leaf, bag.now)))) }
+{
     for (port, value) in bag {
-        let record = YRecord {
-            time: t,
-            leaf,
-            port: *port,
-            value: *value,
-        };
-        let into = if port.0 == 0 {
-            &mut records.y
-        } else {
-            &mut records.n
-        };
-        into.push(record).map_err(AllocError::from)?;
+        if port.0 == 0 {
+            y.push(given_record(t, leaf, *port, *value))
+                .map_err(AllocError::from)?;
+        }
     }
     Ok(())
+}
+
+/// What a leaf gave at further ports.
+fn record_further_ports(
+    t: Time,
+    leaf: u32,
+    bag: &[(PortNo, Value)],
+    n: &mut Vec<YRecord>,
+) -> Result<(), OutOfMemory>
+    ensures { OnOk result (n.new.items ≡ n.old.items
+        ++ map (y_at t) (filter is_further (port_records (leaf, bag.now)))) }
+{
+    for (port, value) in bag {
+        if port.0 != 0 {
+            n.push(given_record(t, leaf, *port, *value))
+                .map_err(AllocError::from)?;
+        }
+    }
+    Ok(())
+}
+
+/// A value that a leaf gave.
+fn given_record(time: Time, leaf: u32, port: PortNo, value: Value) -> YRecord
+    ensures { result ≡ record { time = time; leaf = leaf; port = port; value = value } }
+{
+    YRecord {
+        time,
+        leaf,
+        port,
+        value,
+    }
 }
 
 /// What reached a leaf.
@@ -61,7 +145,10 @@ fn record_taken(
     leaf: u32,
     bag: &[(PortNo, Value)],
     x: &mut Vec<XRecord>,
-) -> Result<(), OutOfMemory> {
+) -> Result<(), OutOfMemory>
+    ensures { OnOk result (x.new.items ≡ x.old.items
+        ++ map (x_at t) (port_records (leaf, bag.now))) }
+{
     for (port, value) in bag {
         x.push(XRecord {
             time: t,
@@ -74,14 +161,29 @@ fn record_taken(
     Ok(())
 }
 
-/// That a leaf moved, if it did.
-fn record_move(t: Time, leaf: u32, kept: &Kept, s: &mut Vec<SRecord>) -> Result<(), OutOfMemory> {
-    let Became::Moved(value) = kept.became else {
-        return Ok(());
-    };
-    let next = match kept.answered {
+/// The next time that a leaf answered.
+fn next_of(answered: Option<Answer>) -> Option<Time>
+    ensures { result ≡ next_answered (option_map answer_in answered) }
+{
+    match answered {
         None => None,
         Some(answer) => answer.next,
+    }
+}
+
+/// That a leaf moved, if it did.
+fn record_move(
+    t: Time,
+    leaf: u32,
+    became: Became,
+    next: Option<Time>,
+    s: &mut Vec<SRecord>,
+) -> Result<(), OutOfMemory>
+    ensures { OnOk result
+        (s.new.items ≡ s.old.items ++ map (s_at t) (move_record leaf became next)) }
+{
+    let Became::Moved(value) = became else {
+        return Ok(());
     };
     s.push(SRecord {
         time: t,
@@ -94,11 +196,9 @@ fn record_move(t: Time, leaf: u32, kept: &Kept, s: &mut Vec<SRecord>) -> Result<
 }
 
 /// The values at the outputs of top.
-fn record_out(
-    t: Time,
-    bag: &[(PortNo, Value)],
-    out: &mut Vec<OutRecord>,
-) -> Result<(), OutOfMemory> {
+fn record_out(t: Time, bag: &[(PortNo, Value)], out: &mut Vec<OutRecord>) -> Result<(), OutOfMemory>
+    ensures { OnOk result (out.new.items ≡ out.old.items ++ map (out_at t) (map out_record bag.now)) }
+{
     for (port, value) in bag {
         out.push(OutRecord {
             time: t,
