@@ -1,6 +1,8 @@
 -- A cycle ends: the run stands where the reference run stands behind it, or has its stop.
-use Rattle.std.proofs.Common.{◌≡◌, ℕ, zero, suc, ◌+◌, ◌*◌, ◌<◌, ◌≤◌, Bool, true, false, Option, Some, None, List, [], ◌∷◌, map, length, refl, sym, ◌∙◌, ap, subst, arith}
+use Rattle.std.proofs.Common.{◌≡◌, inl, inr, ℕ, zero, suc, ◌+◌, ◌*◌, ◌<◌, ◌≤◌, Bool, true, false, Option, Some, None, List, [], ◌∷◌, map, length, refl, sym, ◌∙◌, ap, subst, arith}
 use Rattle.std.specs.Prelude.{slice_get, if◌then◌else◌}
+use Rattle.std.proofs.lemmas.Bool.{cases_eq}
+use Rattle.std.proofs.lemmas.List.{length-map}
 use Rattle.std.specs.declared.result.Result.{Result}
 use Rattle.std.specs.declared.result.Result.TheVariants.{Ok, Err}
 use Rattle.rule_tree.specs.declared.outcome.RuleStop.{RuleStop}
@@ -13,6 +15,7 @@ use Rattle.run_model.specs.Fitting.{FitsTree, CycleFits}
 use Rattle.run_model.specs.Run.{RunState, Cycle, Next, ended, cycled, stop, unless_stop, state_after, cycled_at, cycles_at, next_cycle}
 use Rattle.record_text.specs.declared.records.Records.{Records}
 use Rattle.record_text.specs.Held.{Holds, AreEmpty}
+use Rattle.cycle_steps.specs.declared.halt.Halt.{Halt}
 use Rattle.cycle_steps.specs.declared.halt.Halt.TheVariants as halt
 use Rattle.flat_run.specs.declared.progress.Progress.{Progress}
 use Rattle.flat_run.specs.declared.progress.Progress.TheVariants.{Cycled}
@@ -24,15 +27,19 @@ use Rattle.flat_run.specs.Standing.{Standing, next_of}
 use Rattle.flat_run.specs.Steps.{Keeps, Cycles, Stops, Steps}
 use Rattle.run_leaves.specs.Seated.{Seated, tree_at}
 use Rattle.tree_tables.specs.declared.entry.Entry.{Entry}
-use Rattle.served_tree.specs.Processors.{size}
-use Rattle.served_tree.specs.Service.{Stopped, Kept, instant_of, answer_of, of_leaves, kept_cycle, finished}
+use Rattle.served_tree.specs.Processors.{Processor, size, processors}
+use Rattle.served_tree.specs.Service.{Service, Stopped, Kept, instant_of, answer_of, of_leaves, kept_cycle, finished}
+use Rattle.served_tree.specs.Parts.{Part, parts, part_at}
+use Rattle.served_tree.specs.Course.{Counts, Stands, parent_in}
 use Rattle.served_tree.specs.Orders.{IsServable, EachServes}
+use Rattle.served_tree.proofs.Counting.{most-child, total-most}
+use Rattle.served_tree.proofs.Placing.{size-is}
 use Rattle.tree_serve.specs.declared.mail.Mail.{Mail}
 use Rattle.tree_serve.specs.declared.tables.Tables.{Tables}
 use Rattle.tree_serve.specs.Processing.{Processing, no_service, tree_on, standing_at}
 use Rattle.tree_serve.specs.InCycle.{InCycle}
 use Rattle.tree_serve.specs.Calls.{IsBetween, progress_of, FinishesBy}
-use Rattle.tree_serve.specs.Notes.{Note, notes_of}
+use Rattle.tree_serve.specs.Notes.{Note, note_of, notes_of}
 use Rattle.tree_serve.specs.Mail.{messages_in, all_kept}
 use Rattle.tree_serve.specs.Recorded.{cycle_by, EndsBy, stop_in}
 use Rattle.tree_serve.specs.Holds.{seen_as, IsServed, AtRest, IsCalm, IsBegun, InService, HoldsAt, HoldsServed}
@@ -67,6 +74,23 @@ stopped-holds leaves leaves' tables events events' end limit last count stopped 
       served = subst (λ x. IsServed x tables events' end limit count) (λ i. tree_at (sym model i) (sym settings i)) served;
       at = record { nothing_waits = waits; nothing_kept = kept; at_rest = λ goes. absurd cc };
     }
+
+-- ---- counts
+
+lt-by : (a b : ℕ) → a ≤ b → (a ≡ b → ⊥) → a < b
+lt-by zero zero le other = absurd (other refl)
+lt-by zero (suc b) le other = omega arith
+lt-by (suc a) zero le other = absurd (omega (arith, le))
+lt-by (suc a) (suc b) le other =
+    let h = lt-by a b (omega (arith, le)) (λ e. other (ap suc e)) in
+    omega (arith, h)
+
+-- four messages of each processor at most were served
+at-most : (ps : List Processor) (part : ℕ → Part) (c : Counts) (v : Service) → Stands ps part c v
+    → (n : ℕ) → n < length ps → c n ≤ 4
+at-most ps part c v stands zero lt = stands.top
+at-most ps part c v stands (suc n) lt =
+    most-child (c (parent_in ps (suc n))) (c (suc n)) (stands.in_step (parent_in ps (suc n)) (suc n) (omega arith, lt, refl))
 
 -- ---- a stop of a leaf, as that of a run
 
@@ -132,28 +156,109 @@ module _ (each : EachServes) (leaves : Seated) (tables : Tables) (events : List 
         count = ((λ j. (if is_at t (sym cycle.last j) then sym cycle.count j else 0) + 1) ∙ sym is) i;
       }
 
+  -- one instant is served
+  same-instant : (s : RunState) (t2 many : ℕ) → InCycle s t2 many p → t2 ≡ t
+  same-instant s t2 many cycle =
+      let both : ◌≡◌ {A = Option ℕ} (Some t2) (Some t) = sym cycle.instant ∙ instant_is in
+      cc
+
+  at-once : (s : RunState) (t2 : ℕ) → InCycle s t2 (4 * size tree) p → InCycle s t (4 * size tree) p
+  at-once s t2 cycle = subst (λ k. InCycle s k (4 * size tree) p) (same-instant s t2 (4 * size tree) cycle) cycle
+
   -- ---- the cycle
 
-  module _ (mail' : Mail) (count' : ℕ) (counts : count' ≡ (if is_at t last then count else 0) + 1)
-      (waits : mail'.waiting ≡ []) (kept-none : mail'.kept.items ≡ [])
-      (none : stop_in notes ≡ None) (records : Records) (record_all : Holds records (cycle_by t tables.entries.items notes))
-      (waiting_none : mail.waiting ≡ []) where
+  module _ (waiting_none : mail.waiting ≡ []) (none : stop_in notes ≡ None) (mail' : Mail) (count' : ℕ)
+      (counts : count' ≡ (if is_at t last then count else 0) + 1) (waits : mail'.waiting ≡ [])
+      (kept-none : mail'.kept.items ≡ []) where
     abbrev p' : Processing
     p' = seen_as leaves tables events end limit (Some t) count' stopped due None inputs mail'
 
-    finished-so : (s : RunState) (t2 : ℕ) → InCycle s t2 (4 * size tree) p → Steps (standing_at p s) (Ok (Cycled t)) p'.standing records
-    finished-so s t2 cycle =
-        let both : ◌≡◌ {A = Option ℕ} (Some t) (Some t2) = sym instant_is ∙ cycle.instant in
-        let same : t ≡ t2 = cc in
-        let here = subst (λ k. InCycle s k (4 * size tree) p) (sym same) cycle in
+    -- all messages of the cycle were served
+    all-served : in-service.many ≡ 4 * size tree
+    all-served =
+        let way = in-service.cycle.way in
+        let most = total-most way.0 (size tree) (λ n lt. at-most (processors tree) (part_at (parts tree t in-service.state)) way.0 p.service way.1 n (omega (arith, lt, size-is tree 0 (size tree) 0))) in
+        elim (cases_eq in-service.many (4 * size tree)) [
+          | inl e ↦ e
+          | inr other ↦
+              let one = each.waits tree t in-service.state in-service.many p.service in-service.cycle.servable way (lt-by in-service.many (4 * size tree) (omega (arith, most, way.2)) other) in
+              let zero-there : length (messages_in mail.waiting) ≡ 0 = ap (λ ms. length (messages_in ms)) waiting_none in
+              absurd (omega (arith, one, zero-there))
+        ]
+
+    whole : InCycle in-service.state t (4 * size tree) p
+    whole = subst (λ k. InCycle in-service.state t k p) all-served in-service.cycle
+
+    pub finishes : (records : Records) → Holds records (cycle_by t tables.entries.items notes) → FinishesBy p (Ok t) p' records
+    finishes records records_are s t2 cycle =
+        let here = at-once s t2 cycle in
         record {
           cycle = cycle_by t tables.entries.items notes;
           next = cycled-so s here none ∙ ap (cycled (cycle_by t tables.entries.items notes)) (state-so s here none count' counts);
           time = refl;
-          records_are = record_all;
+          records_are = records_are;
           keeps = record { model = refl; settings = refl; end = refl; limit = refl };
           goes_on = goes;
         }
 
-    pub finishes-cycle : (begun : (s : RunState) → InCycle s t (4 * size tree) p → ⊥ → ⊥) → FinishesBy p (Ok t) p' records
-    finishes-cycle begun s t2 cycle = finished-so s t2 cycle
+    fits-on : CycleFits → FitsTree tree leaves.states
+    fits-on fit =
+        subst (λ (x : RunState). FitsTree tree x.leaf_states) (state-so in-service.state whole none count' counts)
+        (fit tree end limit in-service.state (state_after t in-service.state (of_leaves (λ k. k.became) (instant_of tree t in-service.state) kept)) (cycle_by t tables.entries.items notes) in-service.begun.fits (cycled-so in-service.state whole none)).1
+
+    few-so : count' ≤ limit
+    few-so =
+        let few = in-service.begun.few in
+        let same : ◌≡◌ {A = ℕ} (if is_at t last then count else 0) (cycles_at t in-service.state) =
+        λ i. if is_at t (in-service.cycle.last i) then in-service.cycle.count i else 0 in
+        omega (arith, few, same, counts)
+
+    pub finished-holds : CycleFits → HoldsServed p' tables mail'
+    finished-holds fit =
+        record {
+          served = record {
+            tables_are = holds.served.tables_are;
+            sound = holds.served.sound;
+            ports = holds.served.ports;
+            counts = record { end_is = holds.served.counts.end_is; few = few-so; some = holds.served.counts.some };
+            at_inputs = holds.served.at_inputs;
+          };
+          at = record {
+            nothing_waits = waits;
+            nothing_kept = kept-none;
+            at_rest = λ goes. record { fits = fits-on fit; due_are = due-so in-service.state whole none };
+          };
+        }
+
+  -- ---- a stop, and no memory
+
+  module _ {U : Type 0} (why : Halt) (stop_is_made : Stop) (is_of : stop_is_made ≡ stop_of_halt t why) (mail' : Mail)
+      (old records : Records) (empty : AreEmpty records) where
+    abbrev stood : Processing
+    stood = seen_as leaves tables events end limit last count (Some stop_is_made) due None inputs mail'
+
+    keeps-on : (s : RunState) → Keeps (standing_at p s) stood.standing
+    keeps-on s = record { model = refl; settings = refl; end = refl; limit = refl }
+
+    by-first : (first : Stopped) → stop_in notes ≡ first → EndsBy {U = U} t tables.entries.items notes first (Err why) old
+        → FinishesBy p (Err stop_is_made) stood records
+    by-first None is ends s t2 cycle =
+        let made : stop_is_made ≡ Memory = is_of ∙ ap (stop_of_halt t) ends in
+        subst (λ (w : Stop). Steps (standing_at p s) (Err w) stood.standing records) (sym made) (keeps-on s, ap Some made, empty)
+    by-first (Some f) is ends s t2 cycle =
+        let made : stop_is_made ≡ stop_of_halt t (halt.Stopped f.0 f.1) = is_of ∙ ap (stop_of_halt t) ends in
+        subst (λ (w : Stop). Steps (standing_at p s) (Err w) stood.standing records) (sym made)
+        (stops-by (standing_at p s) f.0 t f.1 stood.standing records
+        (next-so s (at-once s t2 cycle) ∙ ap (λ o. unless_stop t o (cycle_by t tables.entries.items notes) (state_after t s (of_leaves (λ k. k.became) (instant_of tree t s) kept))) is)
+        empty (keeps-on s) (ap Some made))
+
+    pub finishes-stopped : EndsBy {U = U} t tables.entries.items notes (stop_in notes) (Err why) old
+        → FinishesBy p (Err stop_is_made) stood records
+    finishes-stopped ends = by-first (stop_in notes) refl ends
+
+  -- the records tell of the cycle only where no leaf stopped
+  pub no-stop : {U : Type 0} (u : U) (records : Records) (first : Stopped)
+      → EndsBy {U = U} t tables.entries.items notes first (Ok u) records
+      → (first ≡ None) × Holds records (cycle_by t tables.entries.items notes)
+  no-stop u records None ends = (refl, ends)
+  no-stop u records (Some f) ends = absurd ends

@@ -1,5 +1,5 @@
 -- Private: what is kept of processors while a cycle is served, without where it lies in memory.
-use Rattle.std.specs.Prelude.{ℕ, ◌+◌, ◌-◌, ◌==◌, Bool, false, Option, Some, None, List, [], ◌∷◌, map, length, slice_get, set, if◌then◌else◌}
+use Rattle.std.specs.Prelude.{◌≡◌, ℕ, ◌+◌, ◌-◌, ◌==◌, Bool, false, Option, Some, None, List, [], ◌∷◌, map, length, slice_get, set, if◌then◌else◌}
 use Rattle.std.specs.Option.{option_map, is_some}
 use Rattle.atomic_face.specs.Classes.{Bag}
 use Rattle.run_model.specs.Cycle.{stayed}

@@ -6,10 +6,8 @@ use Rattle.std.specs.declared.result.Result.TheVariants.{Ok, Err}
 use Rattle.run_model.specs.Run.{PortRecord, StateRecord, Cycle, port_records, is_of_out}
 use Rattle.record_text.specs.declared.records.Records.{Records}
 use Rattle.record_text.specs.Held.{Holds, y_at, x_at, s_at}
-use Rattle.cycle_steps.specs.declared.halt.Halt.TheVariants as halt
-use Rattle.flat_run.specs.declared.progress.Stop.{Stop}
-use Rattle.flat_run.specs.declared.progress.Stop.TheVariants.{Memory}
-use Rattle.flat_run.specs.Running.{stop_of_halt}
+use Rattle.cycle_steps.specs.declared.halt.Halt.{Halt}
+use Rattle.cycle_steps.specs.declared.halt.Halt.TheVariants.{Stopped as stopped_leaf, Memory}
 use Rattle.tree_tables.specs.declared.entry.Entry.{Entry}
 use Rattle.served_tree.specs.Service.{Stopped, gave_of, answer_of, out_record}
 use Rattle.tree_serve.specs.declared.kept.Became.{Became}
@@ -75,13 +73,12 @@ pub record Adds (t : ℕ) (given taken : List PortRecord) (moved : List StateRec
 -- ---- the end of a cycle
 
 -- by the first leaf that stopped, if there is one: the records, or its stop
-abbrev pub EndsBy : {U : Type 0} → ℕ → List Entry → List Note → Stopped → Result U Stop → Records
+abbrev pub EndsBy : {U : Type 0} → ℕ → List Entry → List Note → Stopped → Result U Halt → Records
     → Type 0
 EndsBy t entries notes None (Ok u) records = Holds records (cycle_by t entries notes)
 EndsBy t entries notes None (Err why) records = why ≡ Memory
 EndsBy t entries notes (Some s) (Ok u) records = ⊥
-EndsBy t entries notes (Some s) (Err why) records =
-    why ≡ stop_of_halt t (halt.Stopped s.0 s.1)
+EndsBy t entries notes (Some s) (Err why) records = why ≡ stopped_leaf s.0 s.1
 
 -- the stop of a cycle, by what top answered
 abbrev pub stop_in : List Note → Stopped

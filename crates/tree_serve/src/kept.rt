@@ -1,5 +1,5 @@
 // What is kept of processors while a cycle is served.
-ghost use Rattle.std.specs.Prelude.{◌≡◌, ◌<◌, ◌≤◌, ◌==◌, length, map, OnOk};
+ghost use Rattle.std.specs.Prelude.{◌≡◌, ◌<◌, ◌≤◌, ◌==◌, [], length, map, unwrap_or, OnOk};
 ghost use Rattle.served_tree.specs.Service.{gave_of, answer_of};
 ghost use Rattle.tree_serve.specs.Notes.{note_of, notes_of, nothing_noted, fresh_note, all_heard, answer_in, given_noted, answer_noted, move_noted, left_at, one_less as one_left_less, left_noted};
 
@@ -60,16 +60,23 @@ pub(crate) fn keep_nothing(
     Ok(())
 }
 
+/// What a processor gave of which this is kept, nothing where it hasn't given.
+pub(crate) fn gave_in(kept: &Kept) -> &[(PortNo, Value)]
+    ensures { result.now ≡ unwrap_or (note_of kept.now).gave [] }
+{
+    match &kept.gave {
+        None => &[],
+        Some(bag) => bag,
+    }
+}
+
 /// What a processor gave, if it is there and gave.
 pub(crate) fn given_by(kept: &[Kept], processor: u32) -> &[(PortNo, Value)]
     ensures { result.now ≡ gave_of (all_heard (notes_of kept.now)) processor }
 {
     match kept.get(processor as usize) {
         None => &[],
-        Some(k) => match &k.gave {
-            None => &[],
-            Some(bag) => bag,
-        },
+        Some(k) => gave_in(k),
     }
 }
 

@@ -82,9 +82,9 @@ fn put_at(
     ensures { OnOk result (into.new.items ≡ into.old.items
         ++ at_port (port.0, at_number bag.now number)) }
 {
-    for (at, value) in bag {
-        if u32::from(at.0) == number {
-            into.push((port, *value)).map_err(AllocError::from)?;
+    for there in bag {
+        if u32::from(there.0.0) == number {
+            into.push((port, there.1)).map_err(AllocError::from)?;
         }
     }
     Ok(())

@@ -42,7 +42,7 @@ pub(crate) fn move_on<M: AtomicModel, L: Ledger>(
     ensures stays { StaysAs leaves.old leaves.new }
 {
     let became = move_if(leaf, t, woken, &bag, due, leaves, steps)?;
-    let answer = leaf_answer(leaf, became, due[leaf as usize]);
+    let answer = leaf_answer(leaf, &became, due[leaf as usize]);
     has_moved(&mut mail.kept, processor, bag, became);
     mail.put(Message::Done(processor, answer))
 }
@@ -84,10 +84,10 @@ fn has_to_move(due: Option<Time>, t: Time, woken: bool, bag: &[(PortNo, Value)])
 }
 
 /// What a leaf answers that became this and is due then. One that has stopped has no next time.
-fn leaf_answer(leaf: u32, became: Became, due: Option<Time>) -> Answer
-    ensures { answer_in result ≡ leaf_answers leaf became due }
+fn leaf_answer(leaf: u32, became: &Became, due: Option<Time>) -> Answer
+    ensures { answer_in result ≡ leaf_answers leaf became.now due }
 {
-    match became {
+    match *became {
         Became::Stayed | Became::Moved(_) => Answer {
             next: due,
             stop: None,

@@ -3,19 +3,21 @@ ghost use Rattle.std.specs.Prelude.{◌≡◌, ◌≤◌, ◌++◌, map, length,
 ghost use Rattle.std.specs.List.{filter};
 ghost use Rattle.std.specs.Option.{option_map};
 ghost use Rattle.run_model.specs.Run.{port_records, is_of_out};
+ghost use Rattle.flat_run.specs.Running.{stop_of_halt};
 ghost use Rattle.record_text.specs.Held.{Holds, AreEmpty, y_at, x_at, s_at, out_at};
 ghost use Rattle.served_tree.specs.Service.{out_record};
 ghost use Rattle.tree_serve.specs.Notes.{note_of, notes_of, answer_in};
 ghost use Rattle.tree_serve.specs.Recorded.{given_records, taken_records, move_record, move_records, next_answered, of_leaf_at, is_further, cycle_by, Adds, EndsBy, stop_in};
 
-use crate::kept::{Became, Kept};
+use crate::kept::{Became, Kept, gave_in};
 use crate::mail::Mail;
 use crate::message::Answer;
-use crate::start::stop_of_leaf;
 use atomic_face::PortNo;
+use cycle_steps::halt::Halt;
 use flat_run::Stop;
 use quantity::{OutOfMemory, Time, Value};
 use record_text::{OutRecord, Records, SRecord, XRecord, YRecord};
+use rule_tree::RuleStop;
 use std::alloc::AllocError;
 use tree_tables::Entry;
 
@@ -25,18 +27,39 @@ pub(crate) fn end_of(
     entries: &[Entry],
     mail: &Mail,
     records: &mut Records,
-) -> Result<(), Stop>
+) -> Result<(), Halt>
     requires kept { length entries.now ≤ length mail.now.kept.items }
     requires records { AreEmpty records.old }
     ensures { let notes = notes_of mail.now.kept.items in
         EndsBy t entries.now notes (stop_in notes) result records.new }
 {
     if let Some((leaf, why)) = mail.answer(0).stop {
-        return Err(stop_of_leaf(leaf, why, t));
+        return Err(Halt::Stopped(leaf, why));
     }
     match record_all(t, entries, mail, records) {
         Ok(()) => Ok(()),
-        Err(OutOfMemory) => Err(Stop::Memory),
+        Err(OutOfMemory) => Err(Halt::Memory),
+    }
+}
+
+/// Why a run stops where a cycle does.
+pub(crate) fn stop_of(halt: &Halt, t: Time) -> Stop
+    ensures { result ≡ stop_of_halt t halt.now }
+{
+    match *halt {
+        Halt::Stopped(leaf, why) => stop_of_leaf(leaf, why, t),
+        Halt::Memory => Stop::Memory,
+    }
+}
+
+/// Why a run stops where a leaf does.
+fn stop_of_leaf(leaf: u32, why: RuleStop, t: Time) -> Stop
+    ensures { result ≡ stop_of_halt t (Halt.Stopped leaf why) }
+{
+    match why {
+        RuleStop::NoTrueRule => Stop::NoTrueRule(leaf, t),
+        RuleStop::Overflow => Stop::Overflow(leaf, t),
+        RuleStop::BadDelay(delay) => Stop::BadDelay(leaf, t, delay),
     }
 }
 
@@ -81,10 +104,9 @@ fn record_leaf(t: Time, leaf: u32, kept: &Kept, records: &mut Records) -> Result
         (taken_records leaf (note_of kept.now)) (move_records leaf (note_of kept.now))
         records.old records.new) }
 {
-    if let Some(bag) = &kept.gave {
-        record_out_port(t, leaf, bag, &mut records.y)?;
-        record_further_ports(t, leaf, bag, &mut records.n)?;
-    }
+    let bag = gave_in(kept);
+    record_out_port(t, leaf, bag, &mut records.y)?;
+    record_further_ports(t, leaf, bag, &mut records.n)?;
     record_taken(t, leaf, &kept.took, &mut records.x)?;
     record_move(t, leaf, kept.became, next_of(kept.answered), &mut records.s)
 }
@@ -99,9 +121,9 @@ fn record_out_port(
     ensures { OnOk result (y.new.items ≡ y.old.items
         ++ map (y_at t) (filter is_of_out (port_records (leaf, bag.now)))) }
 {
-    for (port, value) in bag {
-        if port.0 == 0 {
-            y.push(given_record(t, leaf, *port, *value))
+    for given in bag {
+        if given.0.0 == 0 {
+            y.push(given_record(t, leaf, given))
                 .map_err(AllocError::from)?;
         }
     }
@@ -118,9 +140,9 @@ fn record_further_ports(
     ensures { OnOk result (n.new.items ≡ n.old.items
         ++ map (y_at t) (filter is_further (port_records (leaf, bag.now)))) }
 {
-    for (port, value) in bag {
-        if port.0 != 0 {
-            n.push(given_record(t, leaf, *port, *value))
+    for given in bag {
+        if given.0.0 != 0 {
+            n.push(given_record(t, leaf, given))
                 .map_err(AllocError::from)?;
         }
     }
@@ -128,14 +150,15 @@ fn record_further_ports(
 }
 
 /// A value that a leaf gave.
-fn given_record(time: Time, leaf: u32, port: PortNo, value: Value) -> YRecord
-    ensures { result ≡ record { time = time; leaf = leaf; port = port; value = value } }
+fn given_record(time: Time, leaf: u32, given: &(PortNo, Value)) -> YRecord
+    ensures { result
+        ≡ record { time = time; leaf = leaf; port = given.now.0; value = given.now.1 } }
 {
     YRecord {
         time,
         leaf,
-        port,
-        value,
+        port: given.0,
+        value: given.1,
     }
 }
 
@@ -149,12 +172,12 @@ fn record_taken(
     ensures { OnOk result (x.new.items ≡ x.old.items
         ++ map (x_at t) (port_records (leaf, bag.now))) }
 {
-    for (port, value) in bag {
+    for taken in bag {
         x.push(XRecord {
             time: t,
             leaf,
-            port: *port,
-            value: *value,
+            port: taken.0,
+            value: taken.1,
         })
         .map_err(AllocError::from)?;
     }
@@ -199,11 +222,11 @@ fn record_move(
 fn record_out(t: Time, bag: &[(PortNo, Value)], out: &mut Vec<OutRecord>) -> Result<(), OutOfMemory>
     ensures { OnOk result (out.new.items ≡ out.old.items ++ map (out_at t) (map out_record bag.now)) }
 {
-    for (port, value) in bag {
+    for given in bag {
         out.push(OutRecord {
             time: t,
-            port: port.0,
-            value: *value,
+            port: given.0.0,
+            value: given.1,
         })
         .map_err(AllocError::from)?;
     }

@@ -15,7 +15,7 @@ ghost use Rattle.tree_serve.specs.Calls.{IsBetween, Starts, ServesBy, Finishes};
 use crate::mail::Mail;
 use crate::message::{Served, Started};
 use crate::moving::earlier;
-use crate::records::end_of;
+use crate::records::{end_of, stop_of};
 use crate::serving::{serve_message, served_by};
 use crate::start::{begin, cycles_had, least_time, start_times};
 use crate::tables::Tables;
@@ -236,10 +236,10 @@ impl<M: AtomicModel> TreeRun<M> {
                 self.last = Some(t);
                 Ok(t)
             }
-            Err(stop) => {
+            Err(halt) => {
                 records.clear();
-                self.stopped = Some(stop);
-                Err(stop)
+                self.stopped = Some(stop_of(&halt, t));
+                Err(stop_of(&halt, t))
             }
         }
     }

@@ -5,8 +5,6 @@ ghost use Rattle.std.specs.List.{All, filter};
 ghost use Rattle.atomic_face.specs.Classes.{is_at};
 ghost use Rattle.event_list.specs.Events.{Event as AnyEvent};
 ghost use Rattle.run_model.specs.Cycle.{leaf_next};
-ghost use Rattle.cycle_steps.specs.declared.halt.Halt.{Halt};
-ghost use Rattle.flat_run.specs.Running.{stop_of_halt};
 ghost use Rattle.run_leaves.specs.Waiting.{WaitsAtStart};
 ghost use Rattle.served_tree.specs.Service.{collect};
 ghost use Rattle.tree_serve.specs.Notes.{notes_of, fresh_note};
@@ -17,9 +15,7 @@ use crate::mail::Mail;
 use crate::moving::earlier;
 use atomic_face::{AtomicModel, PortNo};
 use event_list::Events;
-use flat_run::Stop;
 use quantity::{OutOfMemory, Time, Value};
-use rule_tree::RuleStop;
 use run_leaves::FlatLeaves;
 use std::alloc::{AllocError, Global};
 use tree_tables::Entry;
@@ -102,8 +98,8 @@ fn put_all(values: &[(u16, Value)], into: &mut Vec<(PortNo, Value)>) -> Result<(
     ensures { OnOk result (into.new.items ≡ map at_input values.now) }
 {
     into.clear();
-    for (port, value) in values {
-        into.push((PortNo(*port), *value))
+    for value in values {
+        into.push((PortNo(value.0), value.1))
             .map_err(AllocError::from)?;
     }
     Ok(())
@@ -117,15 +113,4 @@ pub(crate) fn cycles_had(last: Option<Time>, count: u32, t: Time) -> u32
         return 0;
     };
     if at.ms() == t.ms() { count } else { 0 }
-}
-
-/// Why a run stops where a leaf does.
-pub(crate) fn stop_of_leaf(leaf: u32, why: RuleStop, t: Time) -> Stop
-    ensures { result ≡ stop_of_halt t (Halt.Stopped leaf why) }
-{
-    match why {
-        RuleStop::NoTrueRule => Stop::NoTrueRule(leaf, t),
-        RuleStop::Overflow => Stop::Overflow(leaf, t),
-        RuleStop::BadDelay(delay) => Stop::BadDelay(leaf, t, delay),
-    }
 }
