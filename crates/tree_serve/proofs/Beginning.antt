@@ -149,7 +149,7 @@ module _ (sounds : SoundServes) (by-number : TopByNumber) (once : DistinctWhereO
     abbrev s : RunState
     s = p.standing.state
 
-    pub rest : AtRest (tree_at leaves.model leaves.settings) leaves.states due
+    pub rest : AtRest (tree_at leaves.model leaves.settings) events leaves.states due
     rest = holds.at.at_rest refl
 
     module _ (t : ℕ) (next : next_instant s ≡ Some t) (within : t ≤ end) (few : cycles_at t s < limit)
@@ -186,7 +186,7 @@ module _ (sounds : SoundServes) (by-number : TopByNumber) (once : DistinctWhereO
             at_instant = next;
             next = cycle-there tree end limit s t next within few;
             goes = refl;
-            inputs = inputs-are by-number tree t events inputs' (once (ins_of tree) (inputs-once tree (sound-parts tree holds.served.sound).parts)) holds.served.at_inputs inputs_are;
+            inputs = inputs-are by-number tree t events inputs' (once (ins_of tree) (inputs-once tree (sound-parts tree holds.served.sound).parts)) rest.at_inputs inputs_are;
             events = events_are;
             last = refl;
             count = refl;
@@ -212,18 +212,13 @@ module _ (sounds : SoundServes) (by-number : TopByNumber) (once : DistinctWhereO
       pub begun-holds : HoldsServed p' tables mail'
       begun-holds =
           record {
-            served = record {
-              tables_are = holds.served.tables_are;
-              sound = holds.served.sound;
-              ports = holds.served.ports;
-              counts = holds.served.counts;
-              at_inputs = subst (AreAtInputs (ins_of tree)) (sym events_are) (all-left (λ (e : Event). e.port < length (ins_of tree)) (λ (e : Event). not (e.time == t)) events holds.served.at_inputs);
-            };
+            served = holds.served;
             at = record {
               state = s;
               many = 0;
               cycle = cycle;
               begun = record { fits = rest.fits; within = within; few = few };
+              at_inputs = subst (AreAtInputs (ins_of tree)) (sym events_are) (all-left (λ (e : Event). e.port < length (ins_of tree)) (λ (e : Event). not (e.time == t)) events rest.at_inputs);
               kept = held;
             };
           }

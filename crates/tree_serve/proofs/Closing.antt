@@ -66,12 +66,11 @@ pub stopped-holds : (leaves leaves' : Seated) (tables : Tables) (events events' 
     (instant : Option ℕ) (inputs inputs' : Bag) (mail mail' : Mail)
     → HoldsServed (seen_as leaves tables events end limit last count stopped due instant inputs mail) tables mail
     → leaves'.model ≡ leaves.model → leaves'.settings ≡ leaves.settings
-    → IsServed (tree_at leaves.model leaves.settings) tables events' end limit count
     → mail'.waiting ≡ [] → mail'.kept.items ≡ []
     → HoldsServed (seen_as leaves' tables events' end limit last count (Some why) due' None inputs' mail') tables mail'
-stopped-holds leaves leaves' tables events events' end limit last count stopped why due due' instant inputs inputs' mail mail' holds model settings served waits kept =
+stopped-holds leaves leaves' tables events events' end limit last count stopped why due due' instant inputs inputs' mail mail' holds model settings waits kept =
     record {
-      served = subst (λ x. IsServed x tables events' end limit count) (λ i. tree_at (sym model i) (sym settings i)) served;
+      served = subst (λ x. IsServed x tables end limit count) (λ i. tree_at (sym model i) (sym settings i)) holds.served;
       at = record { nothing_waits = waits; nothing_kept = kept; at_rest = λ goes. absurd cc };
     }
 
@@ -221,12 +220,11 @@ module _ (each : EachServes) (leaves : Seated) (tables : Tables) (events : List 
             sound = holds.served.sound;
             ports = holds.served.ports;
             counts = record { end_is = holds.served.counts.end_is; few = few-so; some = holds.served.counts.some };
-            at_inputs = holds.served.at_inputs;
           };
           at = record {
             nothing_waits = waits;
             nothing_kept = kept-none;
-            at_rest = λ goes. record { fits = fits-on fit; due_are = due-so in-service.state whole none };
+            at_rest = λ goes. record { at_inputs = in-service.at_inputs; fits = fits-on fit; due_are = due-so in-service.state whole none };
           };
         }
 

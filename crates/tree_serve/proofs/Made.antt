@@ -62,12 +62,12 @@ module _ (m : Model) (stock : List Stocked) (leaves : Seated) (model : leaves.mo
           sound = subst (λ t. IsTrue (is_sound_model t)) tree-is sound;
           ports = model-ports leaves.model leaves.settings;
           counts = record { end_is = end_is; few = omega arith; some = some };
-          at_inputs = subst (λ (t : Tree). AreAtInputs (ins_of t) events) tree-is at_inputs;
         };
         at = record {
           nothing_waits = waits;
           nothing_kept = kept;
           at_rest = λ goes. record {
+            at_inputs = subst (λ (t : Tree). AreAtInputs (ins_of t) events) tree-is at_inputs;
             fits = subst (λ (t : Tree). FitsTree t leaves.states) tree-is (subst (FitsTree (tree_at m (settings_in stock))) (sym states) (fit (tree_at m (settings_in stock)) []));
             due_are = due_are;
           };

@@ -22,30 +22,34 @@ abbrev record_at : ℕ → PortNo × Value → PortRecord
 record_at l o = record { leaf = l; port = o.0.0; value = o.1 }
 
 -- at its port `out`, or not
-pub out-there : (t l : ℕ) (x : PortNo × Value) (rest : Bag) → (x.0.0 == 0) ≡ true
-    → map (y_at t) (filter is_of_out (port_records (l, x ∷ rest)))
-    ≡ y_at t (record_at l x) ∷ map (y_at t) (filter is_of_out (port_records (l, rest)))
-out-there t l x rest e = ap (map (y_at t)) (kept-first is_of_out (record_at l x) (port_records (l, rest)) e)
+pub out-there : (t l : ℕ) (x : PortNo × Value) → (x.0.0 == 0) ≡ true
+    → map (y_at t) (filter is_of_out (port_records (l, x ∷ []))) ≡ y_at t (record_at l x) ∷ []
+out-there t l x e = ap (map (y_at t)) (kept-first is_of_out (record_at l x) [] e)
 
-pub out-past : (t l : ℕ) (x : PortNo × Value) (rest : Bag) → (x.0.0 == 0) ≡ false
-    → map (y_at t) (filter is_of_out (port_records (l, x ∷ rest)))
-    ≡ map (y_at t) (filter is_of_out (port_records (l, rest)))
-out-past t l x rest e = ap (map (y_at t)) (left-first is_of_out (record_at l x) (port_records (l, rest)) e)
+pub out-past : (t l : ℕ) (x : PortNo × Value) → (x.0.0 == 0) ≡ false
+    → map (y_at t) (filter is_of_out (port_records (l, x ∷ []))) ≡ []
+out-past t l x e = ap (map (y_at t)) (left-first is_of_out (record_at l x) [] e)
 
 further-if : (r : PortRecord) (b : Bool) → is_of_out r ≡ b → is_further r ≡ (if b then false else true)
 further-if r b e = ap (λ c. if c then false else true) e
 
-pub further-there : (t l : ℕ) (x : PortNo × Value) (rest : Bag) → (x.0.0 == 0) ≡ false
-    → map (y_at t) (filter is_further (port_records (l, x ∷ rest)))
-    ≡ y_at t (record_at l x) ∷ map (y_at t) (filter is_further (port_records (l, rest)))
-further-there t l x rest e =
-    ap (map (y_at t)) (kept-first is_further (record_at l x) (port_records (l, rest)) (further-if (record_at l x) false e))
+pub further-there : (t l : ℕ) (x : PortNo × Value) → (x.0.0 == 0) ≡ false
+    → map (y_at t) (filter is_further (port_records (l, x ∷ []))) ≡ y_at t (record_at l x) ∷ []
+further-there t l x e =
+    ap (map (y_at t)) (kept-first is_further (record_at l x) [] (further-if (record_at l x) false e))
 
-pub further-past : (t l : ℕ) (x : PortNo × Value) (rest : Bag) → (x.0.0 == 0) ≡ true
-    → map (y_at t) (filter is_further (port_records (l, x ∷ rest)))
-    ≡ map (y_at t) (filter is_further (port_records (l, rest)))
-further-past t l x rest e =
-    ap (map (y_at t)) (left-first is_further (record_at l x) (port_records (l, rest)) (further-if (record_at l x) true e))
+pub further-past : (t l : ℕ) (x : PortNo × Value) → (x.0.0 == 0) ≡ true
+    → map (y_at t) (filter is_further (port_records (l, x ∷ []))) ≡ []
+further-past t l x e =
+    ap (map (y_at t)) (left-first is_further (record_at l x) [] (further-if (record_at l x) true e))
+
+-- the first before the others
+pub ports-first : (t l : ℕ) (p : PortRecord → Bool) (x : PortNo × Value) (rest : Bag)
+    → map (y_at t) (filter p (port_records (l, x ∷ rest)))
+    ≡ map (y_at t) (filter p (port_records (l, x ∷ []))) ++ map (y_at t) (filter p (port_records (l, rest)))
+ports-first t l p x rest =
+    ap (map (y_at t)) (filter-append p (record_at l x ∷ []) (port_records (l, rest)))
+    ∙ map-append (y_at t) (filter p (record_at l x ∷ [])) (filter p (port_records (l, rest)))
 
 -- ---- all leaves'
 

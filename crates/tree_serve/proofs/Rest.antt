@@ -45,22 +45,44 @@ pub left-first : {X : Type 0} (p : X → Bool) (x : X) (xs : List X) → p x ≡
     → filter p (x ∷ xs) ≡ filter p xs
 left-first p x xs e = ap (λ b. cond b (x ∷ filter p xs) (filter p xs)) e
 
--- ---- values at a number
-
-pub number-there : (p : ℕ) (n : ℕ) (x : PortNo × Value) (rest : Bag) → x.0.0 ≡ n
-    → at_port (p, at_number (x ∷ rest) n) ≡ (record { 0 = p }, x.1) ∷ at_port (p, at_number rest n)
-number-there p n x rest e =
-    ap (λ b. at_port (p, map (λ (o : PortNo × Value). o.1) b)) (kept-first (λ (o : PortNo × Value). o.0.0 == n) x rest (eq-eqb x.0.0 n e))
-
-pub number-past : (p : ℕ) (n : ℕ) (x : PortNo × Value) (rest : Bag) → (x.0.0 ≡ n → ⊥)
-    → at_port (p, at_number (x ∷ rest) n) ≡ at_port (p, at_number rest n)
-number-past p n x rest ne =
-    ap (λ b. at_port (p, map (λ (o : PortNo × Value). o.1) b)) (left-first (λ (o : PortNo × Value). o.0.0 == n) x rest (ne_eqb x.0.0 n ne))
-
--- ---- values at a port, and at all ports
+-- ---- values at a port, and at a number
 
 pub port-first : (p : ℕ) (a b : List Value) → at_port (p, a ++ b) ≡ at_port (p, a) ++ at_port (p, b)
 port-first p a b = map-append (λ (v : Value). (let o : PortNo = record { 0 = p } in o, v)) a b
+
+pub number-there : (p n : ℕ) (x : PortNo × Value) → x.0.0 ≡ n
+    → at_port (p, at_number (x ∷ []) n) ≡ (record { 0 = p }, x.1) ∷ []
+number-there p n x e =
+    ap (λ b. at_port (p, map (λ (o : PortNo × Value). o.1) b)) (kept-first (λ (o : PortNo × Value). o.0.0 == n) x [] (eq-eqb x.0.0 n e))
+
+pub number-past : (p n : ℕ) (x : PortNo × Value) → (x.0.0 ≡ n → ⊥)
+    → at_port (p, at_number (x ∷ []) n) ≡ []
+number-past p n x ne =
+    ap (λ b. at_port (p, map (λ (o : PortNo × Value). o.1) b)) (left-first (λ (o : PortNo × Value). o.0.0 == n) x [] (ne_eqb x.0.0 n ne))
+
+-- the first before the others
+pub number-first : (p n : ℕ) (x : PortNo × Value) (rest : Bag)
+    → at_port (p, at_number (x ∷ rest) n)
+    ≡ at_port (p, at_number (x ∷ []) n) ++ at_port (p, at_number rest n)
+number-first p n x rest =
+    ap (λ b. at_port (p, map (λ (o : PortNo × Value). o.1) b)) (filter-append (λ (o : PortNo × Value). o.0.0 == n) (x ∷ []) rest)
+    ∙ ap (λ vs. at_port (p, vs)) (map-append (λ (o : PortNo × Value). o.1) (filter (λ (o : PortNo × Value). o.0.0 == n) (x ∷ [])) (filter (λ (o : PortNo × Value). o.0.0 == n) rest))
+    ∙ port-first p (at_number (x ∷ []) n) (at_number rest n)
+
+-- the first port before the others
+pub rows-first : (i : ℕ) (vs : List Value) (rest : List (List Value))
+    → flat_map at_port (enumerate_from i (vs ∷ rest))
+    ≡ at_port (i, vs) ++ flat_map at_port (enumerate_from (i + 1) rest)
+rows-first i vs rest =
+    let on : suc i ≡ i + 1 = omega arith in
+    ap (λ k. at_port (i, vs) ++ flat_map at_port (enumerate_from k rest)) on
+
+-- the first of numbered items before the others
+pub numbered-first : {X Y : Type 0} (f : ℕ × X → Y) (i : ℕ) (x : X) (rest : List X)
+    → map f (enumerate_from i (x ∷ rest)) ≡ f (i, x) ∷ map f (enumerate_from (i + 1) rest)
+numbered-first f i x rest =
+    let on : suc i ≡ i + 1 = omega arith in
+    ap (λ k. f (i, x) ∷ map f (enumerate_from k rest)) on
 
 -- ---- the first that a test finds
 

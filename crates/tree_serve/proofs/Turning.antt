@@ -9,7 +9,7 @@ use Rattle.quantity.specs.declared.value.Value.{Value}
 use Rattle.atomic_face.specs.declared.class.PortNo.{PortNo}
 use Rattle.atomic_face.specs.Classes.{Bag}
 use Rattle.event_list.specs.Events.{Event}
-use Rattle.model_tree.specs.Tree.{Tree, Leaf, groups, leaves}
+use Rattle.model_tree.specs.Tree.{Tree, Leaf, groups, leaves, ins_of}
 use Rattle.run_model.specs.Cycle.{leaf_next}
 use Rattle.run_model.specs.Fitting.{FitsTree}
 use Rattle.run_model.specs.Run.{RunState, cycled_at}
@@ -22,6 +22,7 @@ use Rattle.run_leaves.specs.Seated.{Seated, ports_of, ports_at, tree_at}
 use Rattle.run_leaves.specs.Moving.{StaysAs}
 use Rattle.tree_tables.specs.declared.entry.Entry.{Entry}
 use Rattle.tree_tables.specs.Stations.{leaf_of as leaf_number, station_of, stations, entry_of}
+use Rattle.sparse_cycle.specs.Feed.{AreAtInputs}
 use Rattle.served_tree.specs.Processors.{Processor, size, processors}
 use Rattle.served_tree.specs.Service.{Message, collect, output, transition, done, Kept, Service, instant_of, keeps, causes, serves, serve}
 use Rattle.served_tree.specs.Rows.{RowsBring}
@@ -311,7 +312,7 @@ module _ (brings : RowsBring) (undue : UndueAreQuiet) (alike : BecomesTheSame) (
       holds-on =
           let begun = in-service.begun in
           record {
-            served = subst (λ x. IsServed x tables events end limit count) (sym tree-same) holds.served;
+            served = subst (λ x. IsServed x tables end limit count) (sym tree-same) holds.served;
             at = subst (λ o. HoldsAt o p' tables mail') (sym instant_is) (record {
               state = in-service.state;
               many = suc in-service.many;
@@ -321,6 +322,7 @@ module _ (brings : RowsBring) (undue : UndueAreQuiet) (alike : BecomesTheSame) (
                 within = begun.within;
                 few = begun.few;
               };
+              at_inputs = subst (λ (x : Tree). AreAtInputs (ins_of x) events) (sym tree-same) in-service.at_inputs;
               kept = (went in-service.state in-service.many in-service.cycle).held;
             });
           }

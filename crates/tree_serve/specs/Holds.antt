@@ -51,18 +51,18 @@ seen_as leaves tables events end limit last count stopped due instant inputs mai
 -- ---- in every moment
 
 -- what a run of its model needs in every cycle
-pub record IsServed (tree : Tree) (tables : Tables) (events : List Event) (end limit count : ℕ)
-    : Type 0 where
+pub record IsServed (tree : Tree) (tables : Tables) (end limit count : ℕ) : Type 0 where
   pub tables_are : AreTables tree tables
   pub sound : IsTrue (is_sound_model tree)
   pub ports : HasPorts tree
   pub counts : AreCounts end limit count
-  pub at_inputs : AreAtInputs (ins_of tree) events
 
 -- ---- between two cycles
 
--- each leaf waits for its next time
-pub record AtRest (tree : Tree) (states : List LeafState) (due : List (Option ℕ)) : Type 0 where
+-- each leaf waits for its next time, and events are for inputs that there are
+pub record AtRest (tree : Tree) (events : List Event) (states : List LeafState)
+    (due : List (Option ℕ)) : Type 0 where
+  pub at_inputs : AreAtInputs (ins_of tree) events
   pub fits : FitsTree tree states
   pub due_are : due ≡ map leaf_next states
 
@@ -71,7 +71,7 @@ pub record IsCalm (p : Processing) (mail : Mail) : Type 0 where
   pub nothing_waits : mail.waiting ≡ []
   pub nothing_kept : mail.kept.items ≡ []
   pub at_rest : p.standing.stopped ≡ None
-      → AtRest (tree_on p) p.standing.state.leaf_states p.due
+      → AtRest (tree_on p) p.standing.state.events p.standing.state.leaf_states p.due
 
 -- ---- in a cycle
 
@@ -101,6 +101,7 @@ pub record InService (p : Processing) (t : ℕ) (tables : Tables) (mail : Mail) 
   pub many : ℕ
   pub cycle : InCycle state t many p
   pub begun : IsBegun p state t
+  pub at_inputs : AreAtInputs (ins_of (tree_on p)) p.standing.state.events
   pub kept : AreKept p.standing.state.leaf_states tables.entries.items
       (notes_of mail.kept.items)
 
@@ -112,6 +113,5 @@ HoldsAt None p tables mail = IsCalm p mail
 HoldsAt (Some t) p tables mail = InService p t tables mail
 
 pub record HoldsServed (p : Processing) (tables : Tables) (mail : Mail) : Type 0 where
-  pub served : IsServed (tree_on p) tables p.standing.state.events p.standing.end
-      p.standing.limit p.standing.state.count
+  pub served : IsServed (tree_on p) tables p.standing.end p.standing.limit p.standing.state.count
   pub at : HoldsAt p.instant p tables mail

@@ -1,5 +1,5 @@
 // The lists at ports: what the links into them bring, as the rows of a processor say.
-ghost use Rattle.std.specs.Prelude.{◌≡◌, ◌++◌, map, IfOk, OnOk};
+ghost use Rattle.std.specs.Prelude.{◌≡◌, ◌++◌, ◌∷◌, [], map, IfOk, OnOk};
 ghost use Rattle.std.specs.List.{flat_map};
 ghost use Rattle.run_model.specs.Cycle.{at_port};
 ghost use Rattle.tree_tables.specs.Stations.{ref_of, row_of};
@@ -83,9 +83,24 @@ fn put_at(
         ++ at_port (port.0, at_number bag.now number)) }
 {
     for there in bag {
-        if u32::from(there.0.0) == number {
-            into.push((port, there.1)).map_err(AllocError::from)?;
-        }
+        put_one(port, there, number, into)?;
     }
+    Ok(())
+}
+
+/// One value at another port, where it stands at this number.
+fn put_one(
+    port: PortNo,
+    there: &(PortNo, Value),
+    number: u32,
+    into: &mut Vec<(PortNo, Value)>,
+) -> Result<(), OutOfMemory>
+    ensures { OnOk result (into.new.items ≡ into.old.items
+        ++ at_port (port.0, at_number (there.now ∷ []) number)) }
+{
+    if u32::from(there.0.0) != number {
+        return Ok(());
+    }
+    into.push((port, there.1)).map_err(AllocError::from)?;
     Ok(())
 }

@@ -1,5 +1,5 @@
 // The records of a cycle that was served, from what is kept of the leaves and of top.
-ghost use Rattle.std.specs.Prelude.{◌≡◌, ◌≤◌, ◌++◌, map, length, OnOk};
+ghost use Rattle.std.specs.Prelude.{◌≡◌, ◌≤◌, ◌++◌, ◌∷◌, [], map, length, OnOk};
 ghost use Rattle.std.specs.List.{filter};
 ghost use Rattle.std.specs.Option.{option_map};
 ghost use Rattle.run_model.specs.Run.{port_records, is_of_out};
@@ -104,62 +104,67 @@ fn record_leaf(t: Time, leaf: u32, kept: &Kept, records: &mut Records) -> Result
         (taken_records leaf (note_of kept.now)) (move_records leaf (note_of kept.now))
         records.old records.new) }
 {
-    let bag = gave_in(kept);
-    record_out_port(t, leaf, bag, &mut records.y)?;
-    record_further_ports(t, leaf, bag, &mut records.n)?;
+    record_ports(t, leaf, gave_in(kept), &mut records.y, &mut records.n)?;
     record_taken(t, leaf, &kept.took, &mut records.x)?;
     record_move(t, leaf, kept.became, next_of(kept.answered), &mut records.s)
 }
 
-/// What a leaf gave at its port `out`.
-fn record_out_port(
+/// What a leaf gave: at its port `out`, and at further ports.
+fn record_ports(
     t: Time,
     leaf: u32,
     bag: &[(PortNo, Value)],
     y: &mut Vec<YRecord>,
-) -> Result<(), OutOfMemory>
-    ensures { OnOk result (y.new.items ≡ y.old.items
-        ++ map (y_at t) (filter is_of_out (port_records (leaf, bag.now)))) }
-{
-    for given in bag {
-        if given.0.0 == 0 {
-            y.push(given_record(t, leaf, given))
-                .map_err(AllocError::from)?;
-        }
-    }
-    Ok(())
-}
-
-/// What a leaf gave at further ports.
-fn record_further_ports(
-    t: Time,
-    leaf: u32,
-    bag: &[(PortNo, Value)],
     n: &mut Vec<YRecord>,
 ) -> Result<(), OutOfMemory>
-    ensures { OnOk result (n.new.items ≡ n.old.items
+    ensures y { OnOk result (y.new.items ≡ y.old.items
+        ++ map (y_at t) (filter is_of_out (port_records (leaf, bag.now)))) }
+    ensures n { OnOk result (n.new.items ≡ n.old.items
         ++ map (y_at t) (filter is_further (port_records (leaf, bag.now)))) }
 {
     for given in bag {
-        if given.0.0 != 0 {
-            n.push(given_record(t, leaf, given))
-                .map_err(AllocError::from)?;
-        }
+        record_port(t, leaf, given, y, n)?;
     }
     Ok(())
 }
 
-/// A value that a leaf gave.
-fn given_record(time: Time, leaf: u32, given: &(PortNo, Value)) -> YRecord
-    ensures { result
-        ≡ record { time = time; leaf = leaf; port = given.now.0; value = given.now.1 } }
+/// One value that a leaf gave.
+fn record_port(
+    t: Time,
+    leaf: u32,
+    given: &(PortNo, Value),
+    y: &mut Vec<YRecord>,
+    n: &mut Vec<YRecord>,
+) -> Result<(), OutOfMemory>
+    ensures y { OnOk result (y.new.items ≡ y.old.items
+        ++ map (y_at t) (filter is_of_out (port_records (leaf, given.now ∷ [])))) }
+    ensures n { OnOk result (n.new.items ≡ n.old.items
+        ++ map (y_at t) (filter is_further (port_records (leaf, given.now ∷ [])))) }
 {
-    YRecord {
+    if given.0.0 == 0 {
+        return record_given(t, leaf, given, y);
+    }
+    record_given(t, leaf, given, n)
+}
+
+/// A value that a leaf gave, behind these.
+fn record_given(
+    time: Time,
+    leaf: u32,
+    given: &(PortNo, Value),
+    into: &mut Vec<YRecord>,
+) -> Result<(), OutOfMemory>
+    ensures { OnOk result (into.new.items ≡ into.old.items
+        ++ record { time = time; leaf = leaf; port = given.now.0; value = given.now.1 } ∷ []) }
+{
+    into.push(YRecord {
         time,
         leaf,
         port: given.0,
         value: given.1,
-    }
+    })
+    .map_err(AllocError::from)?;
+    Ok(())
 }
 
 /// What reached a leaf.
