@@ -7,7 +7,8 @@ use Rattle.std.proofs.lemmas.Option.{slice_get-map}
 use Rattle.served_tree.specs.Service as service
 use Rattle.served_tree.specs.Service.{gave_of, answer_of}
 use Rattle.tree_serve.specs.declared.kept.Kept.{Kept}
-use Rattle.tree_serve.specs.Notes.{Note, note_of, notes_of, heard, all_heard, noted, left_at}
+use Rattle.tree_serve.specs.declared.message.Answer.{Answer}
+use Rattle.tree_serve.specs.Notes.{Note, answer_in, note_of, notes_of, heard, all_heard, noted, left_at}
 
 -- ---- one is changed
 
@@ -48,6 +49,12 @@ answer-there kept n k is = ap (from_there (None, None) (λ k. unwrap_or k.answer
 pub answer-none : (kept : List Kept) (n : ℕ) → slice_get kept n ≡ None
     → answer_of (all_heard (map note_of kept)) n ≡ (None, None)
 answer-none kept n is = ap (from_there (None, None) (λ k. unwrap_or k.answered (None, None))) (heard-there kept n None is)
+
+-- what isn't there is read as nothing
+pub answered-or : (o : Option Answer) (a : Answer)
+    → unwrap_or (option_map answer_in o) (answer_in a) ≡ answer_in (unwrap_or o a)
+answered-or None a = refl
+answered-or (Some b) a = refl
 
 -- ---- how many are left
 

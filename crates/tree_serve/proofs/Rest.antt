@@ -73,28 +73,24 @@ number-first p n x rest =
 pub rows-first : (i : ℕ) (vs : List Value) (rest : List (List Value))
     → flat_map at_port (enumerate_from i (vs ∷ rest))
     ≡ at_port (i, vs) ++ flat_map at_port (enumerate_from (i + 1) rest)
-rows-first i vs rest =
-    let on : suc i ≡ i + 1 = omega arith in
-    ap (λ k. at_port (i, vs) ++ flat_map at_port (enumerate_from k rest)) on
+rows-first i vs rest = refl
 
 -- the first of numbered items before the others
 pub numbered-first : {X Y : Type 0} (f : ℕ × X → Y) (i : ℕ) (x : X) (rest : List X)
     → map f (enumerate_from i (x ∷ rest)) ≡ f (i, x) ∷ map f (enumerate_from (i + 1) rest)
-numbered-first f i x rest =
-    let on : suc i ≡ i + 1 = omega arith in
-    ap (λ k. f (i, x) ∷ map f (enumerate_from k rest)) on
+numbered-first f i x rest = refl
 
 -- ---- the first that a test finds
 
 pub any-here : {X : Type 0} (p : X → Bool) (xs : List X) (i : ℕ) (d x : X) → i < length xs
     → x ≡ get_or xs i d → p x ≡ true → list_any p (drop i xs) ≡ true
-any-here p xs i d x within is yes =
-    ap (list_any p) (rest-at xs i d x within is) ∙ ap (λ b. b || list_any p (drop (i + 1) xs)) yes
+any-here p xs i d x within is holds =
+    ap (list_any p) (rest-at xs i d x within is) ∙ ap (λ b. b || list_any p (drop (i + 1) xs)) holds
 
 pub any-further : {X : Type 0} (p : X → Bool) (xs : List X) (i : ℕ) (d x : X) → i < length xs
     → x ≡ get_or xs i d → p x ≡ false → list_any p (drop i xs) ≡ list_any p (drop (i + 1) xs)
-any-further p xs i d x within is no =
-    ap (list_any p) (rest-at xs i d x within is) ∙ ap (λ b. b || list_any p (drop (i + 1) xs)) no
+any-further p xs i d x within is fails =
+    ap (list_any p) (rest-at xs i d x within is) ∙ ap (λ b. b || list_any p (drop (i + 1) xs)) fails
 
 -- ---- answers joined from the first on
 
