@@ -160,6 +160,13 @@ run_rows =
     (field (number 1 1000000) (λ n d. record d { limit = n }))
     ∷ look_rows
 
+-- the seed of an order of service
+abbrev pub service_rows : List OptionRow
+service_rows =
+    row (codes "T") (codes " [-T SEED]") false
+    (field (number_between 10 0 2147483647) (λ n d. record d { seed = Some n }))
+    ∷ []
+
 -- where the state at the end is saved, and the state that a run goes on from
 abbrev pub state_rows : List OptionRow
 state_rows =
@@ -169,17 +176,7 @@ state_rows =
 
 -- the options that the simulator takes
 abbrev pub built_rows : List OptionRow
-built_rows = run_rows ++ state_rows
-
--- the one that is still to come: the order of service
-abbrev pub later_rows : List OptionRow
-later_rows =
-    row (codes "T") (codes " [-T SEED]") false
-    (field (number_between 10 0 2147483647) (λ n d. record d { seed = Some n }))
-    ∷ []
-
-abbrev pub all_rows : List OptionRow
-all_rows = run_rows ++ later_rows ++ state_rows
+built_rows = run_rows ++ service_rows ++ state_rows
 
 -- the options of the drawing program
 abbrev pub drawing_rows : List OptionRow
