@@ -54,6 +54,10 @@ letters_in text =
 abbrev pub number : ℕ → ℕ → Word → Option ℕ
 number low high text = number_between 7 low high text
 
+-- the seed of an order of service, of up to ten digits
+abbrev pub seed_in : Word → Option ℕ
+seed_in text = number_between 10 0 2147483647 text
+
 -- ---- what values ask for
 
 -- what options ask for, one by one
@@ -164,7 +168,7 @@ run_rows =
 abbrev pub service_rows : List OptionRow
 service_rows =
     row (codes "T") (codes " [-T SEED]") false
-    (field (number_between 10 0 2147483647) (λ n d. record d { seed = Some n }))
+    (field seed_in (λ n d. record d { seed = Some n }))
     ∷ []
 
 -- where the state at the end is saved, and the state that a run goes on from
