@@ -2,6 +2,7 @@ pub mod Processing
 pub mod InCycle
 pub mod Calls
 pub mod Ordered
+pub mod OrderedRun
 pub mod Notes
 pub mod Mail
 pub mod Puts

@@ -1,9 +1,10 @@
 // A served run as a run of which the next cycle can be asked for.
-ghost use Rattle.std.specs.Prelude.{◌≡◌, None};
+ghost use Rattle.std.specs.Prelude.{◌≡◌, Some};
 ghost use Rattle.record_text.specs.Held.{AreEmpty};
+ghost use Rattle.flat_run.specs.Marking.{at_seed, Marks};
 ghost use Rattle.flat_run.specs.Steps.{Goes};
 ghost use Rattle.tree_serve.specs.Calls.{IsBetween};
-ghost use Rattle.tree_serve.specs.Ordered.{HasBegun, EndsCycle};
+ghost use Rattle.tree_serve.specs.Ordered.{marking_of, HasBegun, EndsCycle, MarksCycle};
 
 use crate::message::Started;
 use crate::ordered::{Order, serve_all};
@@ -13,23 +14,37 @@ use cell_engine::Steps;
 use flat_run::{Cycles, Progress, Stop};
 use model_tree::Model as Tree;
 use record_text::Records;
+use std::marker::Model;
 use std::sync::ledger::Ledger;
 
-/// A run whose cycles are served in the order of a seed, with the mark of that order.
+/// A run whose messages are served in the order of a seed. It is seen as where it stands, with the
+/// seed that is left and the mark of that order.
 #[derive(Drop)]
 pub struct ServedRun<M: AtomicModel> {
     run: TreeRun<M>,
     order: Order,
-    ghost between: { IsBetween run },
+}
+
+impl<M: AtomicModel> Model for ServedRun<M> {
+    ghost use Rattle.model_tree.specs.contracts.component.Component as component;
+    ghost use Rattle.std.specs.Coded.{codes};
+    ghost use Rattle.tree_serve.specs.OrderedRun.{OrderedRun};
+
+    ghost Value = { OrderedRun };
+
+    ghost coded = { Prim.hlevel (codes, component.the_row.coded) };
+
+    ghost view = { λ r. record { standing = r.run.standing; marking = marking_of r.order } };
+
+    ghost invariant = { λ r. IsBetween r.run };
 }
 
 impl<M: AtomicModel> ServedRun<M> {
-    /// A run that is to be served in the order of this seed.
+    /// A run that is to be served in the order of this seed. Its mark is 0.
     pub fn new(run: TreeRun<M>, seed: u32) -> ServedRun<M>
         requires { IsBetween run }
-        ensures run { result.run ≡ run }
-        ensures seed { result.order.seed ≡ seed }
-        ensures mark { result.order.mark ≡ 0 }
+        ensures standing { result.standing ≡ run.standing }
+        ensures marking { result.marking ≡ at_seed seed }
     {
         ServedRun {
             run,
@@ -41,7 +56,9 @@ impl<M: AtomicModel> ServedRun<M> {
 impl<M: AtomicModel, L: Ledger> Cycles<L> for ServedRun<M> {
     ghost use Rattle.std.specs.Prelude.{false};
 
-    ghost standing = { λ r. r.run.standing };
+    ghost standing = { λ r. r.standing };
+
+    ghost marking = { λ r. Some r.marking };
 
     ghost is_counted = { false };
 
@@ -51,6 +68,10 @@ impl<M: AtomicModel, L: Ledger> Cycles<L> for ServedRun<M> {
 
     fn model(&self) -> &Tree {
         self.run.model()
+    }
+
+    fn mark(&self) -> Option<u32> {
+        Some(self.order.mark)
     }
 }
 
@@ -64,6 +85,8 @@ fn next_cycle<M: AtomicModel, L: Ledger>(
     requires between { IsBetween run.old }
     ensures goes { Goes run.old.standing.stopped run.old.standing result
         run.new.standing records.new }
+    ensures marks { Marks (Some (marking_of order.old)) run.old.standing.stopped run.old.standing
+        result (Some (marking_of order.new)) }
     ensures between { IsBetween run.new }
 {
     records.clear();
@@ -87,6 +110,7 @@ fn serve_cycle<M: AtomicModel, L: Ledger>(
     requires begun { HasBegun run.old }
     requires records { AreEmpty records.old }
     ensures goes { EndsCycle run.old result run.new records.new }
+    ensures marks { MarksCycle run.old order.old result order.new }
     ensures between { IsBetween run.new }
 {
     served_tree::laws::any_order_serves();
