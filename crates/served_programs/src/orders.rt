@@ -8,7 +8,7 @@ use std::test::Fail;
 /// A run: the files in the room, the words without a seed, the status, what is complained, the files
 /// that are made, and what is shown in each of the orders.
 #[derive(Clone, Copy)]
-struct Run<'a> {
+struct Row<'a> {
     files: &'a [(&'a str, &'a str)],
     words: &'a str,
     status: u8,
@@ -17,12 +17,12 @@ struct Run<'a> {
     shown: [&'a str; 3],
 }
 
-/// No order, and those of two seeds, as words.
-const ORDERS: [&[&str]; 3] = [&[], &["-T", "1"], &["-T", "2147483647"]];
+/// No order, and those of two seeds, as what stands behind the other words.
+const ORDERS: [&str; 3] = ["", " -T 1", " -T 2147483647"];
 
 /// The ring, a blinker from a file and one that is made, boxes, and a cell that stops.
-const RUNS: [Run<'static>; 5] = [
-    Run {
+const ROWS: [Row<'static>; 5] = [
+    Row {
         files: &[("m.ma", models::RING)],
         words: "cdpp -m m.ma -t 00:00:00:100 -l log.txt",
         status: 0,
@@ -34,7 +34,7 @@ const RUNS: [Run<'static>; 5] = [
             "end 00:00:00:100 cycles 2 mark 13412\n",
         ],
     },
-    Run {
+    Row {
         files: &[("m.ma", models::LIFE)],
         words: "cdpp -m m.ma -t 00:00:00:300 -l log.txt -d f.txt -g Life -w 2",
         status: 0,
@@ -46,7 +46,7 @@ const RUNS: [Run<'static>; 5] = [
             "end 00:00:00:300 cycles 4 mark 69324\n",
         ],
     },
-    Run {
+    Row {
         files: &[],
         words: "cdpp -G 5 -t 00:00:00:300 -l log.txt",
         status: 0,
@@ -58,7 +58,7 @@ const RUNS: [Run<'static>; 5] = [
             "made 5 cells 25 cycles 4 y 37 s 88 ones 3 mark 69324\n",
         ],
     },
-    Run {
+    Row {
         files: &[("m.ma", models::BOXES)],
         words: "cdpp -m m.ma -t 00:00:00:000 -l log.txt -o out.txt -L YXS",
         status: 0,
@@ -73,7 +73,7 @@ const RUNS: [Run<'static>; 5] = [
             "end 00:00:00:000 cycles 2 mark 133404\n",
         ],
     },
-    Run {
+    Row {
         files: &[("m.ma", models::LATE), ("e.txt", models::LATE_EVENTS)],
         words: "cdpp -m m.ma -t 00:00:00:200 -e e.txt -l log.txt",
         status: 10,
@@ -84,46 +84,47 @@ const RUNS: [Run<'static>; 5] = [
 ];
 
 /// Compares the files that were made.
-fn are_made(rt: &impl Abort, room: &MemoryRoom, run: &Run<'_>) {
-    let words = run.words;
-    for (name, text) in run.made {
+fn are_made(rt: &impl Abort, room: &MemoryRoom, row: &Row<'_>) {
+    let words = row.words;
+    for (name, text) in row.made {
         assert_eq!(rt; room.made(name), Some(text.as_bytes()), "{words}");
     }
 }
 
-/// Runs these words, and the order's behind them, in the room, and compares what is left.
+/// Runs these words, and those of the order behind them, in the room, and compares what is left.
 fn ends_in(
     rt: &(impl Abort + AllocGlobal),
     room: &mut MemoryRoom,
-    wanted: &Run<'_>,
-    order: &[&str],
+    row: &Row<'_>,
+    order: &str,
     shown: &str,
 ) -> Result<(), Fail> {
-    let words = wanted.words;
-    put_files(room, wanted.files)?;
-    let status = run(rt.alloc(), words, order, room)?;
+    let mut line = String::from_str(rt.alloc(), row.words)?;
+    line.push_str(order)?;
+    put_files(room, row.files)?;
+    let status = run(rt.alloc(), &line, room)?;
     assert_eq!(rt;
         (status, room.shown(), room.complained()),
-        (wanted.status, shown.as_bytes(), wanted.complained.as_bytes()),
-        "{words}"
+        (row.status, shown.as_bytes(), row.complained.as_bytes()),
+        "{line}"
     );
-    are_made(rt, room, wanted);
+    are_made(rt, room, row);
     Ok(())
 }
 
 /// Does so in each order, each time in a room of its own.
-fn ends_in_each_order(rt: &(impl Abort + AllocGlobal), wanted: &Run<'_>) -> Result<(), Fail> {
-    for (order, shown) in ORDERS.iter().zip(wanted.shown.iter()) {
+fn ends_in_each_order(rt: &(impl Abort + AllocGlobal), row: &Row<'_>) -> Result<(), Fail> {
+    for (order, shown) in ORDERS.iter().zip(row.shown.iter()) {
         let mut room = MemoryRoom::new(rt.alloc(), 4096);
-        ends_in(rt, &mut room, wanted, order, shown)?;
+        ends_in(rt, &mut room, row, order, shown)?;
     }
     Ok(())
 }
 
 #[test]
 fn any_order_makes_the_same(rt: HostRuntime) -> Result<(), Fail> {
-    for wanted in &RUNS {
-        ends_in_each_order(&rt, wanted)?;
+    for row in &ROWS {
+        ends_in_each_order(&rt, row)?;
     }
     Ok(())
 }

@@ -28,12 +28,13 @@ fn counted<L: Ledger>(
     cdpp(alloc, words, boxes, room, &mut steps).number()
 }
 
-/// Puts the words of a text behind the others.
-fn push_words(alloc: Global, words: &mut Vec<String>, text: &str) -> Result<(), Fail> {
+/// The words of a command line.
+fn words_of(alloc: Global, text: &str) -> Result<Vec<String>, Fail> {
+    let mut words: Vec<String> = Vec::new(alloc);
     for word in text.split(' ') {
         words.push(String::from_str(alloc, word)?)?;
     }
-    Ok(())
+    Ok(words)
 }
 
 /// A box of a class.
@@ -78,19 +79,9 @@ fn run_cdpp(alloc: Global, words: &[String], room: &mut MemoryRoom) -> Result<u8
     Ok(counted::<Brand>(alloc, words, boxes, room, blank))
 }
 
-/// Runs the simulator for the words of a command line, and these behind them, in the room. Answers
-/// the status.
-pub(crate) fn run(
-    alloc: Global,
-    text: &str,
-    more: &[&str],
-    room: &mut MemoryRoom,
-) -> Result<u8, Fail> {
-    let mut words: Vec<String> = Vec::new(alloc);
-    push_words(alloc, &mut words, text)?;
-    for &word in more {
-        words.push(String::from_str(alloc, word)?)?;
-    }
+/// Runs the simulator for the words of a command line, in the room. Answers the status.
+pub(crate) fn run(alloc: Global, text: &str, room: &mut MemoryRoom) -> Result<u8, Fail> {
+    let words = words_of(alloc, text)?;
     run_cdpp(alloc, &words, room)
 }
 
