@@ -6,7 +6,7 @@ use std::test::Fail;
 
 /// How words are refused.
 const USAGE: &str =
-    "usage: cdpp (-m MODEL | -G N) -t END [-e EVENTS] [-l LOG] [-o OUT] [-d FRAMES -g GROUP] [-L LETTERS] [-c LIMIT] [-w WIDTH] [-p DECIMALS] [-f PLANE] [-S SAVE] [-R STATE]\n";
+    "usage: cdpp (-m MODEL | -G N) -t END [-e EVENTS] [-l LOG] [-o OUT] [-d FRAMES -g GROUP] [-L LETTERS] [-c LIMIT] [-w WIDTH] [-p DECIMALS] [-f PLANE] [-T SEED] [-S SAVE] [-R STATE]\n";
 
 /// The files that are there.
 const FILES: [(&str, &str); 2] = [("ring.ma", models::RING), ("s.txt", models::RING_STATE)];

@@ -20,7 +20,7 @@ use std::test::Fail;
 
 /// How words are refused.
 pub(crate) const USAGE: &str =
-    "usage: cdpp (-m MODEL | -G N) -t END [-e EVENTS] [-l LOG] [-o OUT] [-d FRAMES -g GROUP] [-L LETTERS] [-c LIMIT] [-w WIDTH] [-p DECIMALS] [-f PLANE] [-S SAVE] [-R STATE]\n";
+    "usage: cdpp (-m MODEL | -G N) -t END [-e EVENTS] [-l LOG] [-o OUT] [-d FRAMES -g GROUP] [-L LETTERS] [-c LIMIT] [-w WIDTH] [-p DECIMALS] [-f PLANE] [-T SEED] [-S SAVE] [-R STATE]\n";
 
 /// A run: the files in the room, the words, and what is answered: the status, what is shown and
 /// complained, and the files that are made.
