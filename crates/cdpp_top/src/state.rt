@@ -31,7 +31,7 @@ pub(crate) fn read_state<R: Room, M: AtomicModel>(
     end: Time,
 ) -> Result<Way<FlatRun<LinkedQueue, M>, ServedRun<M>>, Unread>
     requires may_go_on { MayGoOn (standing_in run) }
-    requires unserved { IfSome (marking_in run) (λ m. text_of_name name.entry ≡ None) }
+    requires unserved { IfSome (marking_in run) (λ m. text_of_name name ≡ None) }
     ensures reads { IfSome (R.outside room.old).files (λ files. ReadsState
         (text_of_name name.entry) (standing_in run) end files
         (R.outside room.old) (R.outside room.new) (stands_read result)) }

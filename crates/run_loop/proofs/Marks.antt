@@ -1,5 +1,5 @@
 -- The mark of a run whose messages are served in an order, from cycle to cycle.
-use Rattle.std.proofs.Common.{◌≡◌, ℕ, zero, suc, ◌+◌, ◌-◌, ◌<◌, true, Option, Some, None, List, ◌++◌, refl, sym, ap, ◌∙◌, subst, arith}
+use Rattle.std.proofs.Common.{◌≡◌, ℕ, zero, suc, ◌+◌, ◌-◌, ◌<◌, true, false, Option, Some, None, List, [], ◌++◌, refl, sym, ap, ◌∙◌, subst, arith}
 use Rattle.std.specs.Prelude.{Result, Ok, Err, IfOk, IfSome, IsTrue, codes, decimal}
 use Rattle.std.specs.Borrow.{Bor}
 use Rattle.std.specs.Option.{is_some, option_map}
@@ -96,7 +96,8 @@ stop_no_mark halt (Err w) n s m m' how = tt
 none_asked : (name : Option (Bor Word)) (seed : Option ℕ) (m : Option Marking) → m ≡ option_map at_seed seed → IfSome seed (λ n. text_of_name name ≡ None) → is_some name ≡ true → m ≡ None
 none_asked name None m is unnamed given = is
 none_asked None (Some n) m is unnamed given = absurd (cc)
-none_asked (Some w) (Some n) m is unnamed given = absurd (cc)
+none_asked (Some w) (Some n) m is unnamed given =
+    let e : Some w.now ≡ None = unnamed in absurd (cc)
 
 pub none_read : (a : code.Asked) (m : Option Marking) → IsOrdered a m → IsTrue (is_some a.given.state) → m ≡ None
 none_read a m o given = none_asked a.given.state a.given.seed m o.marked (IfSome_then a.given.seed o.unsaved (λ n both. both.1)) given
@@ -110,7 +111,8 @@ still_none n s m m' none is = by m' (is ∙ ap (option_map (last_mark n s)) none
   where
     by : (x : Option Marking) → option_map (λ (y : Marking). y.mark) x ≡ None → x ≡ None
     by None e = refl
-    by (Some y) e = absurd (cc)
+    by (Some y) e =
+        let f : Some y.mark ≡ None = e in absurd (cc)
 
 -- ---- what is said
 
@@ -138,14 +140,17 @@ said_so a tree events cycles (stop leaf t why) mark is = refl
 at_start : (name : Option (Bor Word)) (tree : Tree) (events : List Event) (from : Option Saved) (s : RunState) → text_of_name name ≡ None → is_some (text_of_name name) ≡ is_some from → s ≡ begins tree events from → s ≡ start tree events
 at_start name tree events None s none asked is = is
 at_start name tree events (Some saved) s none asked is =
-    let e : is_some (text_of_name name) ≡ is_some None = ap is_some none in absurd (cc)
+    let e : is_some (text_of_name name) ≡ false = ap is_some none in
+    let f : is_some (text_of_name name) ≡ true = asked in
+    absurd (cc)
 
 marks_of : (a : code.Asked) (group : Option GroupAt) (s : Standing) (events : List Event) (from : Option Saved) (k : ℕ) (seed : Option ℕ) → MayRun a group s → BeginsFrom (asked_of a) events from s → k ≡ most_cycles a.end a.given.limit
     → IfSome seed (λ n. (text_of_name a.given.save ≡ None) × (text_of_name a.given.state ≡ None))
     → option_map (last_mark k s) (option_map at_seed seed) ≡ option_map (mark_of (tree_in s) events a.end a.given.limit) seed
 marks_of a group s events from k None may begun k_is unsaved = refl
 marks_of a group s events from k (Some seed) may begun k_is unsaved =
-    let state = at_start a.given.state (tree_in s) events from s.state unsaved.1 begun.asked begun.state in
+    let u : (text_of_name a.given.save ≡ None) × (text_of_name a.given.state ≡ None) = unsaved in
+    let state = at_start a.given.state (tree_in s) events from s.state u.1 begun.asked begun.state in
     ap (λ (n : ℕ). Some n) (λ i. mark_from (k_is i) (tree_in s) (may.end i) (may.limit i) (state i) (serving_from (at_seed seed)))
 
 -- what is said with the mark of a run is what the definitions say
