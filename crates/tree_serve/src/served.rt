@@ -28,6 +28,8 @@ pub struct ServedRun<M: AtomicModel> {
 impl<M: AtomicModel> Model for ServedRun<M> {
     ghost use Rattle.model_tree.specs.contracts.component.Component as component;
     ghost use Rattle.std.specs.Coded.{codes};
+    ghost use Rattle.tree_serve.specs.Calls.{IsBetween};
+    ghost use Rattle.tree_serve.specs.Ordered.{marking_of};
     ghost use Rattle.tree_serve.specs.OrderedRun.{OrderedRun};
 
     ghost Value = { OrderedRun };
@@ -54,7 +56,7 @@ impl<M: AtomicModel> ServedRun<M> {
 }
 
 impl<M: AtomicModel, L: Ledger> Cycles<L> for ServedRun<M> {
-    ghost use Rattle.std.specs.Prelude.{false};
+    ghost use Rattle.std.specs.Prelude.{Some, false};
 
     ghost standing = { λ r. r.standing };
 
