@@ -1,2 +1,1 @@
 mod Drawing
-mod Unsaved

@@ -99,8 +99,7 @@ fn frames_in<'a>(
 fn may_save(draft: &Draft<'_>) -> bool
     ensures { result ≡ A.may_save (draft_of draft.now) }
 {
-    (draft.save.is_none() & draft.state.is_none())
-        | (draft.seed.is_none() & draft.size.is_none())
+    (draft.save.is_none() & draft.state.is_none()) | (draft.seed.is_none() & draft.size.is_none())
 }
 
 /// What a draft asks for, where it has a model and an end.
