@@ -63,7 +63,7 @@ frames_in (Some name) (Some group) width decimals plane =
     Some (Some (record { name = name; drawing = drawing; width = width; decimals = decimals })))
 frames_in d g width decimals plane = None
 
--- a state is neither saved nor read of a made model or in a served run
+-- a state is neither saved nor read of a made model or of a run that is served in an order
 abbrev pub may_save : Draft → Bool
 may_save d = not (is_some d.save || is_some d.state) || not (is_some d.seed || is_some d.size)
 

@@ -50,6 +50,6 @@ answer_of r = by stop_answer r start_answer
 abbrev pub answer_by : List OptionRow → List Word → Files → List Class → Answer
 answer_by rows words files classes = answer_of (started_by rows words files classes)
 
--- of the program, with the options that it has by now
+-- of the program, with its options
 abbrev pub answer : List Word → Files → List Class → Answer
 answer words files classes = answer_by built_rows words files classes

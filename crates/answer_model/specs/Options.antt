@@ -54,6 +54,10 @@ letters_in text =
 abbrev pub number : ℕ → ℕ → Word → Option ℕ
 number low high text = number_between 7 low high text
 
+-- the seed of an order of service, of up to ten digits
+abbrev pub seed_in : Word → Option ℕ
+seed_in text = number_between 10 0 2147483647 text
+
 -- ---- what values ask for
 
 -- what options ask for, one by one; drawn is the file of frames, group and space are what they are
@@ -162,6 +166,13 @@ run_rows =
     (field (number 1 1000000) (λ n d. record d { limit = n }))
     ∷ look_rows
 
+-- the seed of an order of service
+abbrev pub service_rows : List OptionRow
+service_rows =
+    row (codes "T") (codes " [-T SEED]") false
+    (field seed_in (λ n d. record d { seed = Some n }))
+    ∷ []
+
 -- where the state at the end is saved, and the state that a run goes on from
 abbrev pub state_rows : List OptionRow
 state_rows =
@@ -171,18 +182,7 @@ state_rows =
 
 -- the options that the simulator takes
 abbrev pub built_rows : List OptionRow
-built_rows = run_rows ++ state_rows
-
--- the one that is still to come: the order of service
-abbrev pub later_rows : List OptionRow
-later_rows =
-    row (codes "T") (codes " [-T SEED]") false
-    (field (number_between 10 0 2147483647) (λ n d. record d { seed = Some n }))
-    ∷ []
-
--- the options that the simulator takes once it takes an order of service
-abbrev pub all_rows : List OptionRow
-all_rows = run_rows ++ later_rows ++ state_rows
+built_rows = run_rows ++ service_rows ++ state_rows
 
 -- the options of the drawing program
 abbrev pub drawing_rows : List OptionRow

@@ -161,6 +161,6 @@ unfoldable pub started_by : List OptionRow → List Word → Files → List Clas
 started_by rows words files classes =
     and_on (words_read rows words) (λ a. inputs_read a files classes)
 
--- with the options that the program has by now
+-- with the options of the program
 abbrev pub started : List Word → Files → List Class → Result Started Stopped
 started words files classes = started_by built_rows words files classes

@@ -24,6 +24,7 @@ mod state;
 mod sure;
 mod tell;
 mod unread;
+mod way;
 
 pub use program::cdpp;
 pub use sure::cdpp_surely;

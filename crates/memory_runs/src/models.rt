@@ -49,4 +49,4 @@ count : 1
 
 /// How words are refused of `cdpp`.
 pub const USAGE: &str =
-    "usage: cdpp (-m MODEL | -G N) -t END [-e EVENTS] [-l LOG] [-o OUT] [-d FRAMES -g GROUP] [-L LETTERS] [-c LIMIT] [-w WIDTH] [-p DECIMALS] [-f PLANE] [-S SAVE] [-R STATE]\n";
+    "usage: cdpp (-m MODEL | -G N) -t END [-e EVENTS] [-l LOG] [-o OUT] [-d FRAMES -g GROUP] [-L LETTERS] [-c LIMIT] [-w WIDTH] [-p DECIMALS] [-f PLANE] [-T SEED] [-S SAVE] [-R STATE]\n";

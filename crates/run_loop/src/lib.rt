@@ -16,9 +16,11 @@ mod ending;
 mod going;
 pub mod laws;
 mod lines;
+pub mod resumable;
 mod run;
 mod saved;
 mod shown;
 mod stage;
 
+pub use resumable::Resumable;
 pub use stage::run_and_tell;
