@@ -17,8 +17,9 @@ ghost use Rattle.rule_eval.specs.Evaluated.{Evaluates, Makes, GivesValues, SetsV
 ghost use Rattle.rule_eval.specs.Evaluated.{MayLend, filled, with_given};
 
 use crate::answers::{run, truth};
-use crate::apply::{number_in, truth_in};
+use crate::apply::truth_in;
 use crate::counts::Counts;
+use crate::numbers::run_number;
 use crate::stack::Stack;
 use crate::view::View;
 use quantity::{Time, Tri, Value};
@@ -356,8 +357,5 @@ fn number(
     if let Some(value) = plain_number(form) {
         return Ok(value);
     }
-    match run(form, view, variables, counts, answers) {
-        Ok(answer) => Ok(number_in(answer)),
-        Err(stop) => Err(stop),
-    }
+    run_number(form, view, variables, counts, answers)
 }

@@ -5,6 +5,7 @@ mod answers;
 mod apply;
 mod counts;
 mod evaluation;
+mod numbers;
 mod outs;
 mod seen;
 pub mod stack;
