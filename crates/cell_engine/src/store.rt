@@ -14,7 +14,7 @@ ghost use Rattle.cell_table.specs.Told.{cell_at, computed_of, Tells, bag_of_give
 ghost use Rattle.cell_table.specs.Saved.{cell_of_saved};
 ghost use Rattle.cell_engine.specs.Cells.{Cells, with_cell, computed_at, Computes, CanBePut};
 
-use crate::bag::advance;
+use crate::bag::{advance, wake};
 use crate::desk::{Desk, desk_for};
 use crate::make::{plan_of, table_of};
 use crate::plan::Plan;
@@ -158,6 +158,31 @@ impl CellStore {
             &mut self.table,
             &mut self.desk,
         )
+    }
+
+    /// The same of a cell without a bag: its ports have no part in it.
+    #[inline(always)]
+    pub fn compute_alone<L: Ledger>(
+        &mut self,
+        i: u32,
+        t: Time,
+        woken: bool,
+        steps: &mut Steps<L>,
+    ) -> Result<(), CellStop>
+        requires within { i < length self.old.cells }
+        requires time { t ≤ MAX_DELAY }
+        // For every group that the store stands for.
+        ensures computed { (g : Group) → StandsFor g self.old.layout → IsTrue (is_sound_group g)
+            → Computes i self.old.cells self.new.cells
+            (computed_at t g self.old.cells i woken []) result }
+        ensures layout { self.new.layout ≡ self.old.layout }
+        ensures only { OnlyCell i self.old.cells self.new.cells }
+        ensures steps { steps.new ≡ steps.old + (1 + length self.old.layout.offsets) }
+    {
+        steps.tick();
+        let places = self.desk.neighbours.len();
+        steps.count(places);
+        wake(&self.plan, i, t, woken, &mut self.table, &mut self.desk)
     }
 
     /// The state of a cell.

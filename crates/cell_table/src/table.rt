@@ -352,9 +352,7 @@ impl CellTable {
         if width == 1 {
             return self.take_given(i, 0, kind, at, given_at(given, 0));
         }
-        // Of a copy, so that what is given needs no place in memory where a cell has one port.
-        let all = *given;
-        self.take_ports(i, kind, at, &all)
+        self.take_ports(i, kind, at, given)
     }
 
     /// The same, port after port.

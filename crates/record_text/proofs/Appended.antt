@@ -19,7 +19,7 @@ use Rattle.text_forms.specs.declared.letter.Letter.TheVariants.{Y, N, X, S}
 use Rattle.text_forms.specs.Letters.{letter_byte}
 use Rattle.text_forms.specs.LogLine as log
 use Rattle.text_forms.specs.LogLine.{given, moved, state_text, next_text, with_strokes}
-use Rattle.text_forms.specs.Lines.{ended, leaf_name}
+use Rattle.text_forms.specs.Lines.{ended, leaf_name, out_port_name}
 use Rattle.record_text.specs.declared.records.Letters.{Letters}
 use Rattle.record_text.specs.declared.records.Records.{Records}
 use Rattle.record_text.specs.RecordTexts.{all_if, letter_text, log_text, text_at}
@@ -123,6 +123,47 @@ moved_joined old t l state next new1 new2 new3 new4 new5 a b c d e =
     e ∙ ap (λ x. x ++ codes "\n") (d ∙ ap (λ x. x ++ next_text next) (c ∙ ap (λ x. x ++ codes " / ") (b ∙ ap (λ x. x ++ state_text state) a)))
     ∙ moved_parts old (time_text t) (leaf_text l) (state_text state) (next_text next)
     ∙ ap (λ x. old ++ ended (join_with_byte 32 (with_strokes (codes "S" ∷ time_text t ∷ x ∷ state_text state ∷ next_text next ∷ [])))) (sym (same_name l))
+
+-- a line of a value behind the leaf
+pub given_told : (letter : Letter) (t : ℕ) (l : Leaf) (port : Bytes) (v : Value) → head_text letter t l ++ ((port ++ codes " / ") ++ (text5 v ++ codes "\n")) ≡ ended (log.line_text (given letter t (leaf_name l) port v))
+given_told letter t l port v =
+    let head = head_text letter t l in
+    sym (append_assoc head (port ++ codes " / ") (text5 v ++ codes "\n"))
+    ∙ given_joined [] letter t l port v head (head ++ (port ++ codes " / ")) ((head ++ (port ++ codes " / ")) ++ (text5 v ++ codes "\n")) refl refl refl
+
+four_parts : (head state next : Bytes) → head ++ (state ++ (codes " / " ++ (next ++ codes "\n"))) ≡ (((head ++ state) ++ codes " / ") ++ next) ++ codes "\n"
+four_parts head state next = simp append_assoc
+
+-- a line of a leaf that moved behind the leaf
+pub moved_told : (t : ℕ) (l : Leaf) (state : Option Value) (next : Option ℕ) → head_text S t l ++ (state_text state ++ (codes " / " ++ (next_text next ++ codes "\n"))) ≡ ended (log.line_text (moved t (leaf_name l) state next))
+moved_told t l state next =
+    let head = head_text S t l in
+    let s = state_text state in
+    four_parts head s (next_text next)
+    ∙ moved_joined [] t l state next head (head ++ s) ((head ++ s) ++ codes " / ") (((head ++ s) ++ codes " / ") ++ next_text next) ((((head ++ s) ++ codes " / ") ++ next_text next) ++ codes "\n") refl refl refl refl refl
+
+-- the same of a value at the port `out`
+pub out_told : (letter : Letter) (t : ℕ) (l : Leaf) (port : ℕ) (v : Value) (tail : Bytes) → port ≡ 0 → tail ≡ codes "out / " ++ (text5 v ++ codes "\n") → head_text letter t l ++ tail ≡ ended (log.line_text (given letter t (leaf_name l) (out_port_name l port) v))
+out_told letter t l port v tail is e =
+    ap (λ (x : Bytes). head_text letter t l ++ x) e ∙ given_told letter t l (codes "out") v
+    ∙ ap (λ (k : ℕ). ended (log.line_text (given letter t (leaf_name l) (out_port_name l k) v))) (sym is)
+
+-- a line of a leaf that moved, by its letter and what stands behind the state
+pub moved_line_told : (letter : Letter) (t : ℕ) (l : Leaf) (state : Option Value) (next : Option ℕ) (behind : Bytes) → letter ≡ S → behind ≡ codes " / " ++ (next_text next ++ codes "\n") → head_text letter t l ++ (state_text state ++ behind) ≡ ended (log.line_text (moved t (leaf_name l) state next))
+moved_line_told letter t l state next behind is e =
+    ap (λ (k : Letter). head_text k t l ++ (state_text state ++ behind)) is
+    ∙ ap (λ (x : Bytes). head_text S t l ++ (state_text state ++ x)) e ∙ moved_told t l state next
+
+-- more behind what stands behind the leaf
+pub line_more : (old new1 new2 head tail more : Bytes) → new1 ≡ old ++ (head ++ tail) → new2 ≡ new1 ++ more → new2 ≡ old ++ (head ++ (tail ++ more))
+line_more old new1 new2 head tail more a b = b ∙ ap (λ (x : Bytes). x ++ more) a ∙ three old head tail more
+  where
+    three : (old a b c : Bytes) → (old ++ (a ++ b)) ++ c ≡ old ++ (a ++ (b ++ c))
+    three old a b c = simp append_assoc
+
+-- nothing behind the leaf
+pub no_tail : (old new head tail : Bytes) → tail ≡ [] → new ≡ old ++ (head ++ tail) → new ≡ old ++ head
+no_tail old new head tail none h = h ∙ ap (λ (x : Bytes). old ++ (head ++ x)) none ∙ ap (λ (x : Bytes). old ++ x) (append-nil head)
 
 -- ---- texts of many leaves
 

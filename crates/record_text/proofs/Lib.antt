@@ -2,3 +2,4 @@ pub mod Cycles
 pub mod Appended
 pub mod NamedLeaves
 pub mod Starts
+pub mod Placing

@@ -1,5 +1,5 @@
 -- How lines begin: letter, time and leaf.
-use Rattle.std.proofs.Common.{◌≡◌, ℕ, zero, suc, ◌+◌, ◌-◌, ◌*◌, ◌<◌, Option, Some, None, List, [], ◌∷◌, ◌++◌, refl, sym, ap, ◌∙◌, subst, append_assoc, arith, lit<, length, map, take, drop, codes, decimal, slice_get}
+use Rattle.std.proofs.Common.{◌≡◌, ◌≢◌, ℕ, zero, suc, ◌+◌, ◌-◌, ◌*◌, ◌<◌, Option, Some, None, List, [], ◌∷◌, ◌++◌, refl, sym, ap, ◌∙◌, subst, append_assoc, arith, lit<, length, map, take, drop, codes, decimal, slice_get}
 use Rattle.std.specs.Prelude.{pos, Result, OnOk}
 use Rattle.std.specs.List.{join_with_byte}
 use Rattle.std.proofs.Math.Seq.{drop-append_seam}
@@ -30,7 +30,8 @@ use Rattle.model_tree.specs.Told.{Told}
 use Rattle.model_tree.proofs.Read.{rows-length, row-parts}
 use Rattle.text_forms.specs.declared.letter.Letter.{Letter}
 use Rattle.text_forms.specs.Letters.{letter_byte}
-use Rattle.record_text.specs.Begun.{begun, head_text, place_text, IsBeginning, IsOfGroup, IsStart, OfGroup}
+use Rattle.record_text.specs.Placed.{short_text}
+use Rattle.record_text.specs.Begun.{begun, cell_text, head_text, place_text, IsBeginning, IsOfGroup, IsStart, OfGroup}
 use Rattle.record_text.specs.declared.start.Begins.{Begins}
 use Rattle.record_text.specs.declared.start.Begins.TheVariants.{Nothing, Boxes, Cells}
 use Rattle.record_text.specs.declared.start.Start.{Start}
@@ -60,6 +61,15 @@ at_is s p = by s.planes
     by None = refl
     by (Some n) = refl
 
+-- the coordinates of a cell in two dimensions
+pub two_dims : (s : Space) (cell : ℕ) (p : Place) → dims_of s ≢ 3 → p ≡ place_of s cell → place_text s cell ≡ short_text p
+unfolding place_text
+two_dims s cell p not is = by s.planes not (place_of s cell) ∙ ap short_text (sym is)
+  where
+    by : (o : Option ℕ) → ◌≢◌ {A = ℕ} (elim o [ None ↦ 2 | Some n ↦ 3 ]) 3 → (q : Place) → join_with_byte 44 (map decimal (take (elim o [ None ↦ 2 | Some n ↦ 3 ]) (coordinates q))) ++ codes ") / " ≡ short_text q
+    by None two q = append_assoc (decimal q.row) (44 ∷ decimal q.column) (codes ") / ")
+    by (Some n) three q = absurd (three refl)
+
 parts_joined : (old a t s name places : Bytes) → old ++ ((a ++ t ++ s) ++ name ++ codes "(") ++ (places ++ codes ") / ") ≡ old ++ (a ++ t ++ s ++ (name ++ 40 ∷ (places ++ codes ")")) ++ codes " / ")
 parts_joined old a t s name places = simp append_assoc
 
@@ -71,16 +81,16 @@ group_head old letter time first cell g =
     parts_joined old (letter_byte letter ∷ codes " / ") (time_text time) (codes " / ") g.name (join_with_byte 44 (map decimal (take (dims_of g.space) (coordinates p))))
     ∙ ap (λ (x : Bytes). old ++ ((letter_byte letter ∷ codes " / ") ++ time_text time ++ codes " / " ++ (g.name ++ x) ++ codes " / ")) (sym (at_is g.space p))
 
--- letter, time and name of a cell
-pub cell_head : (old new : Bytes) (letter : Letter) (time number cell : ℕ) (gs : List Group) (l : Leaf) → IsCellIn (slice_get gs number) cell l → ((g : Group) → slice_get gs number ≡ Some g → new ≡ old ++ (begun letter time ++ g.name ++ codes "(") ++ place_text g.space cell) → new ≡ old ++ head_text letter time l
-cell_head old new letter time number cell gs l here is = by (slice_get gs number) refl l here
+-- letter, time and name of a cell, and what stands behind them
+pub cell_line : (old new tail : Bytes) (letter : Letter) (time number cell : ℕ) (gs : List Group) (l : Leaf) → IsCellIn (slice_get gs number) cell l → ((g : Group) → slice_get gs number ≡ Some g → new ≡ old ++ (cell_text letter time cell g ++ tail)) → new ≡ old ++ (head_text letter time l ++ tail)
+cell_line old new tail letter time number cell gs l here is = by (slice_get gs number) refl l here
   where
-    by : (o : Option Group) → slice_get gs number ≡ o → (l : Leaf) → IsCellIn o cell l → new ≡ old ++ head_text letter time l
+    by : (o : Option Group) → slice_get gs number ≡ o → (l : Leaf) → IsCellIn o cell l → new ≡ old ++ (head_text letter time l ++ tail)
     by o e (atomic_leaf n class settings) h = absurd h
     by None e (cell_leaf g first n) h = absurd h
     by (Some k) e (cell_leaf g first n) h =
-        is g (e ∙ ap (λ (x : Group). Some x) (sym h.0)) ∙ group_head old letter time first cell g
-        ∙ ap (λ (i : ℕ). old ++ head_text letter time (cell_leaf g first i)) (sym h.1)
+        is g (e ∙ ap (λ (x : Group). Some x) (sym h.0)) ∙ ap (λ (x : Bytes). old ++ (x ++ tail)) (group_head [] letter time first cell g)
+        ∙ ap (λ (i : ℕ). old ++ (head_text letter time (cell_leaf g first i) ++ tail)) (sym h.1)
 
 -- ---- a cell lies in the space of its group
 
@@ -179,11 +189,34 @@ group_inside m number cell grid there inside same =
     let g = group_at (groups (tree_of m no_settings)) number there in
     subst (λ (s : Space). cell < cell_count s) (sym (same no_settings g.0 g.1)) (inside no_settings g.0 g.1)
 
-pub cell_appended : (old new1 new2 start : Bytes) (cell : ℕ) (grid space : Space) → new1 ≡ old ++ start → new2 ≡ new1 ++ place_text grid cell → grid ≡ space → new2 ≡ old ++ start ++ place_text space cell
-cell_appended old new1 new2 start cell grid space a b s = b ∙ ap (λ (x : Bytes). x ++ place_text grid cell) a ∙ ap (λ (x : Space). (old ++ start) ++ place_text x cell) s
+pub cell_appended : (old new1 new2 new3 start tail : Bytes) (cell : ℕ) (grid space : Space) → new1 ≡ old ++ start → new2 ≡ new1 ++ place_text grid cell → new3 ≡ new2 ++ tail → grid ≡ space → new3 ≡ old ++ ((start ++ place_text space cell) ++ tail)
+cell_appended old new1 new2 new3 start tail cell grid space a b c s =
+    c ∙ ap (λ (x : Bytes). x ++ tail) (b ∙ ap (λ (x : Bytes). x ++ place_text grid cell) a) ∙ four_joined old start (place_text grid cell) tail
+    ∙ ap (λ (x : Space). old ++ ((start ++ place_text x cell) ++ tail)) s
+  where
+    four_joined : (old a b c : Bytes) → ((old ++ a) ++ b) ++ c ≡ old ++ ((a ++ b) ++ c)
+    four_joined old a b c = simp append_assoc
 
-pub digit_appended : (old new : Bytes) (v : Value) (d : ℕ) → d < 10 → v ≡ Num (pos (d * 100000)) → new ≡ old ++ (48 + d) ∷ codes ".00000" → new ≡ old ++ text5 v
-digit_appended old new v d small is h = h ∙ ap (λ (x : Bytes). old ++ x) (sym (digit_text d small) ∙ ap text5 (sym is))
+-- the same, where it was written as one
+pub line_appended : (old new kept start short tail : Bytes) (cell : ℕ) (grid space : Space) → new ≡ old ++ (kept ++ (short ++ tail)) → kept ≡ start → place_text grid cell ≡ short → grid ≡ space → new ≡ old ++ ((start ++ place_text space cell) ++ tail)
+line_appended old new kept start short tail cell grid space h k p s =
+    h ∙ ap (λ (x : Bytes). old ++ x) (sym (append_assoc kept short tail))
+    ∙ ap (λ (x : Bytes). old ++ ((x ++ short) ++ tail)) k
+    ∙ ap (λ (x : Bytes). old ++ ((start ++ x) ++ tail)) (sym p)
+    ∙ ap (λ (x : Space). old ++ ((start ++ place_text x cell) ++ tail)) s
+
+-- what is right stays so where the text stays
+pub start_same : (m : Model) (s : Start) (text : Bytes) → text ≡ s.text → IsStart m s → IsStart m (record { letter = s.letter; of = s.of; text = text })
+unfolding IsStart
+start_same m s text e right = subst (λ (x : Bytes). IsBeginning m s.letter s.of x) (sym e) right
+
+-- what a box's line begins with, and what stands behind its name
+pub box_line : (old new1 new2 head tail : Bytes) → new1 ≡ old ++ head → new2 ≡ new1 ++ tail → new2 ≡ old ++ (head ++ tail)
+box_line old new1 new2 head tail a b = b ∙ ap (λ (x : Bytes). x ++ tail) a ∙ append_assoc old head tail
 
 pub digit_ended : (old new : Bytes) (v : Value) (d : ℕ) → d < 10 → v ≡ Num (pos (d * 100000)) → new ≡ old ++ (48 + d) ∷ codes ".00000\n" → new ≡ old ++ (text5 v ++ codes "\n")
 digit_ended old new v d small is h = h ∙ ap (λ (x : Bytes). old ++ (x ++ codes "\n")) (sym (digit_text d small) ∙ ap text5 (sym is))
+
+-- a digit with five zeros is the text of its value
+pub digit_is : (v : Value) (d : ℕ) → d < 10 → v ≡ Num (pos (d * 100000)) → (48 + d) ∷ codes ".00000" ≡ text5 v
+digit_is v d small is = sym (digit_text d small) ∙ sym (ap text5 is)

@@ -36,6 +36,11 @@ coordinates_text s cell =
 unfoldable pub place_text : Space → ℕ → Bytes
 place_text s cell = coordinates_text s cell ++ codes ") / "
 
+-- letter, time and a cell of this group
+abbrev pub cell_text : Letter → ℕ → ℕ → Group → Bytes
+cell_text letter time cell g =
+    (begun letter time ++ g.name ++ codes "(") ++ place_text g.space cell
+
 -- this holds of the group of this number, whatever the settings
 abbrev pub OfGroup : Model → ℕ → (Group → Type 0) → Type 0
 OfGroup m number P =

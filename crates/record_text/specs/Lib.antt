@@ -4,3 +4,4 @@ pub mod Named
 pub mod RecordTexts
 pub mod CycleNames
 pub mod Begun
+pub mod Placed

@@ -4,7 +4,7 @@ ghost use Rattle.std.specs.Prelude.{◌≡◌, ◌++◌, codes, length, take, On
 ghost use Rattle.std.specs.List.{All};
 ghost use Rattle.model_tree.specs.Tree.{leaves};
 ghost use Rattle.model_tree.specs.LeafTexts.{in_ports, name_at, out_ports};
-ghost use Rattle.model_tree.specs.Leaves.{Appends, OfTree};
+ghost use Rattle.model_tree.specs.Leaves.{Appends, IsLeafOf, OfTree};
 ghost use Rattle.text_forms.specs.declared.letter.Letter.TheVariants.{X};
 ghost use Rattle.record_text.specs.declared.records.YRecord as y;
 ghost use Rattle.record_text.specs.declared.records.XRecord as x;
@@ -12,9 +12,10 @@ ghost use Rattle.record_text.specs.Begun.{IsStart};
 ghost use Rattle.record_text.specs.Named.{HasPort};
 ghost use Rattle.record_text.specs.RecordTexts.{x_text, x_texts, y_text, y_texts};
 
-use crate::pieces::{put, put_value};
+use crate::pieces::{one_digit, put, put_long_value, put_value};
 use crate::records::{XRecord, YRecord};
 use crate::start::Start;
+use crate::tail::Tail;
 use atomic_face::PortNo;
 use model_tree::Model;
 use quantity::OutOfMemory;
@@ -53,12 +54,46 @@ fn put_given_line(
         OnOk result (Appends model.now given.now.leaf text into.old.items into.new.items) }
     ensures kept { take (length into.old.items) into.new.items ≡ into.old.items }
 {
-    start.put_head(given.time, given.leaf, model, into)?;
+    if given.port.0 == 0 {
+        return put_out_line(given, start, model, into);
+    }
+    start.put_head(given.time, given.leaf, &Tail::none(), model, into)?;
     put_out_port(given.leaf, given.port, model, into)?;
     put_value(given.value, into)
 }
 
-/// Appends the name of a leaf's output port, and a stroke. The first port of each leaf is `out`.
+/// Appends the line of a value that was given at the port `out`.
+#[inline(always)]
+fn put_out_line(
+    given: &YRecord,
+    start: &mut Start,
+    model: &Model,
+    into: &mut Vec<u8>,
+) -> Result<(), OutOfMemory>
+    requires out { given.now.port.0 ≡ 0 }
+    requires there { IsLeafOf model.now given.now.leaf }
+    requires right { IsStart model.now start.old }
+    ensures right { IsStart model.now start.new }
+    ensures letter { start.new.letter ≡ start.old.letter }
+    ensures ok { let text = y_text start.old.letter given.now in
+        OnOk result (Appends model.now given.now.leaf text into.old.items into.new.items) }
+    ensures kept { take (length into.old.items) into.new.items ≡ into.old.items }
+{
+    match one_digit(&given.value) {
+        Some(digit) => {
+            let value = [b'0' + digit, b'.', b'0', b'0', b'0', b'0', b'0', b'\n'];
+            let tail = Tail::of(b"out / ", &value);
+            start.put_head(given.time, given.leaf, &tail, model, into)
+        }
+        None => {
+            let tail = Tail::of(b"out / ", b"");
+            start.put_head(given.time, given.leaf, &tail, model, into)?;
+            put_long_value(given.value, into)
+        }
+    }
+}
+
+/// Appends the name of a leaf's output port, and a stroke.
 fn put_out_port(
     leaf: u32,
     port: PortNo,
@@ -71,9 +106,6 @@ fn put_out_port(
         into.old.items into.new.items) }
     ensures kept { take (length into.old.items) into.new.items ≡ into.old.items }
 {
-    if port.0 == 0 {
-        return put(b"out / ", into);
-    }
     model.out_port_text(leaf, port, into)?;
     put(b" / ", into)
 }
@@ -111,7 +143,7 @@ fn put_reached_line(
         (Appends model.now reached.now.leaf (x_text reached.now) into.old.items into.new.items) }
     ensures kept { take (length into.old.items) into.new.items ≡ into.old.items }
 {
-    start.put_head(reached.time, reached.leaf, model, into)?;
+    start.put_head(reached.time, reached.leaf, &Tail::none(), model, into)?;
     put_in_port(reached.leaf, reached.port, model, into)?;
     put_value(reached.value, into)
 }

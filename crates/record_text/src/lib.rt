@@ -16,8 +16,10 @@ mod moved;
 mod output;
 mod pieces;
 mod place_text;
+mod placed;
 pub mod records;
 mod start;
+mod tail;
 mod text;
 
 pub use records::{Letters, OutRecord, Records, SRecord, XRecord, YRecord};

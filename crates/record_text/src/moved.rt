@@ -1,19 +1,20 @@
 // The lines of leaves that moved. A refusal may leave more behind what was there.
-ghost use Rattle.std.specs.Prelude.{◌≡◌, ◌++◌, length, take, OnOk};
+ghost use Rattle.std.specs.Prelude.{◌≡◌, ◌≤◌, ◌++◌, length, take, OnOk};
 ghost use Rattle.std.specs.List.{All};
-ghost use Rattle.model_tree.specs.Tree.{leaves};
+ghost use Rattle.model_tree.specs.Tree.{Leaf, leaves};
 ghost use Rattle.model_tree.specs.Leaves.{Appends, IsLeafOf, OfTree};
 ghost use Rattle.text_forms.specs.declared.letter.Letter.TheVariants.{S};
-ghost use Rattle.text_forms.specs.LogLine.{state_text, next_text};
+ghost use Rattle.text_forms.specs.LogLine.{state_text};
 ghost use Rattle.record_text.specs.declared.records.SRecord as s;
-ghost use Rattle.record_text.specs.Begun.{IsStart};
+ghost use Rattle.record_text.specs.Begun.{IsStart, head_text};
 ghost use Rattle.record_text.specs.RecordTexts.{s_text, s_texts};
 
-use crate::pieces::{put, put_number};
+use crate::pieces::{one_digit, put};
 use crate::records::SRecord;
 use crate::start::Start;
+use crate::tail::Tail;
 use model_tree::Model;
-use quantity::{OutOfMemory, Time, Value};
+use quantity::OutOfMemory;
 use text_forms::Letter;
 
 /// Appends the lines of leaves that moved.
@@ -49,31 +50,50 @@ fn put_moved_line(
         (Appends model.now moved.now.leaf (s_text moved.now) into.old.items into.new.items) }
     ensures kept { take (length into.old.items) into.new.items ≡ into.old.items }
 {
-    start.put_head(moved.time, moved.leaf, model, into)?;
-    put_state(&moved.value, into)?;
-    put(b" / ", into)?;
-    put_next(moved.next, into)?;
-    put(b"\n", into)
-}
-
-/// Appends the computed value of a cell, or `-`.
-fn put_state(value: &Option<Value>, into: &mut Vec<u8>) -> Result<(), OutOfMemory>
-    ensures ok { OnOk result (into.new.items ≡ into.old.items ++ state_text value.now) }
-    ensures kept { take (length into.old.items) into.new.items ≡ into.old.items }
-{
-    match value {
-        None => put(b"-", into),
-        Some(value) => put_number(*value, into),
+    match moved.next {
+        None => put_state(moved, b" / ...\n", start, model, into),
+        Some(next) => {
+            put_state(moved, b" / ", start, model, into)?;
+            next.text(into)?;
+            put(b"\n", into)
+        }
     }
 }
 
-/// Appends the next time of a leaf, or `...`.
-fn put_next(next: Option<Time>, into: &mut Vec<u8>) -> Result<(), OutOfMemory>
-    ensures ok { OnOk result (into.new.items ≡ into.old.items ++ next_text next) }
+/// Appends a line up to its state, which is the computed value of a cell, or `-`, and what stands
+/// behind it.
+#[inline(always)]
+fn put_state(
+    moved: &SRecord,
+    behind: &[u8],
+    start: &mut Start,
+    model: &Model,
+    into: &mut Vec<u8>,
+) -> Result<(), OutOfMemory>
+    requires short { length behind.now ≤ 8 }
+    requires there { IsLeafOf model.now moved.now.leaf }
+    requires right { IsStart model.now start.old }
+    ensures right { IsStart model.now start.new }
+    ensures letter { start.new.letter ≡ start.old.letter }
+    ensures ok { let text = λ (l : Leaf). head_text start.old.letter moved.now.time l
+        ++ (state_text moved.now.value ++ behind.now) in
+        OnOk result (Appends model.now moved.now.leaf text into.old.items into.new.items) }
     ensures kept { take (length into.old.items) into.new.items ≡ into.old.items }
 {
-    match next {
-        None => put(b"...", into),
-        Some(time) => time.text(into),
+    let Some(value) = moved.value else {
+        let tail = Tail::of(b"-", behind);
+        return start.put_head(moved.time, moved.leaf, &tail, model, into);
+    };
+    match one_digit(&value) {
+        Some(digit) => {
+            let state = [b'0' + digit, b'.', b'0', b'0', b'0', b'0', b'0'];
+            let tail = Tail::of(&state, behind);
+            start.put_head(moved.time, moved.leaf, &tail, model, into)
+        }
+        None => {
+            start.put_head(moved.time, moved.leaf, &Tail::none(), model, into)?;
+            value.text5(into)?;
+            put(behind, into)
+        }
     }
 }

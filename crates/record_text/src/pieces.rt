@@ -40,27 +40,22 @@ pub(crate) fn put_value(value: Value, into: &mut Vec<u8>) -> Result<(), OutOfMem
             let text = [b'0' + digit, b'.', b'0', b'0', b'0', b'0', b'0', b'\n'];
             put(&text, into)
         }
-        None => {
-            value.text5(into)?;
-            put(b"\n", into)
-        }
+        None => put_long_value(value, into),
     }
 }
 
-/// Appends a value. Most are whole numbers of one digit, whose text is known.
-pub(crate) fn put_number(value: Value, into: &mut Vec<u8>) -> Result<(), OutOfMemory>
-    ensures ok { OnOk result (into.new.items ≡ into.old.items ++ text5 value) }
+/// Appends the value at the end of a line, which may be any.
+pub(crate) fn put_long_value(value: Value, into: &mut Vec<u8>) -> Result<(), OutOfMemory>
+    ensures ok { OnOk result (into.new.items ≡ into.old.items ++ (text5 value ++ codes "\n")) }
     ensures kept { take (length into.old.items) into.new.items ≡ into.old.items }
 {
-    match one_digit(&value) {
-        Some(digit) => put(&[b'0' + digit, b'.', b'0', b'0', b'0', b'0', b'0'], into),
-        None => value.text5(into),
-    }
+    value.text5(into)?;
+    put(b"\n", into)
 }
 
 /// The digit of a whole number below 10.
 #[inline(always)]
-fn one_digit(value: &Value) -> Option<u8>
+pub(crate) fn one_digit(value: &Value) -> Option<u8>
     ensures { IfSome result (λ digit. (digit < 10) × (value.now ≡ Num (pos (digit * 100000)))) }
 {
     let Value::Num(raw) = value else {

@@ -1,8 +1,10 @@
 // The coordinates of a cell as a text, which is written from its right end on.
-ghost use Rattle.std.specs.Prelude.{◌≡◌, ◌+◌, ◌<◌, ◌≤◌, ◌∷◌, ◌++◌, length, codes, decimal, take, OnOk};
+ghost use Rattle.std.specs.Prelude.{◌≡◌, ◌+◌, ◌<◌, ◌≤◌, ◌∷◌, ◌++◌};
+ghost use Rattle.std.specs.Prelude.{length, codes, decimal, take, IfSome, OnOk};
 ghost use Rattle.quantity.specs.ByteNames.{comma};
 ghost use Rattle.cell_grid.specs.Space.{cell_count};
 ghost use Rattle.record_text.specs.Begun.{coordinates_text, place_text};
+ghost use Rattle.record_text.specs.Placed.{IsShort, short_text};
 
 use crate::pieces::put;
 use cell_grid::Grid;
@@ -115,4 +117,22 @@ pub(crate) fn put_place(grid: &Grid, cell: u32, into: &mut Vec<u8>) -> Result<()
     let mut text = PlaceText::new();
     text.put_place(grid, cell);
     put(text.as_bytes(), into)
+}
+
+/// The place of a cell, where it has two coordinates of at most three digits each.
+#[inline(always)]
+pub(crate) fn short_place(grid: &Grid, cell: u32) -> Option<Place>
+    requires { cell < cell_count grid.now }
+    ensures short { IfSome result (λ place. IsShort place) }
+    ensures text { IfSome result (λ place. place_text grid.now cell ≡ short_text place) }
+{
+    if grid.dims() == 3 {
+        return None;
+    }
+    let place = grid.position(cell);
+    if place.row < 1000 && place.column < 1000 {
+        Some(place)
+    } else {
+        None
+    }
 }

@@ -1,17 +1,18 @@
 // How lines begin. A refusal may leave more behind what was there.
 ghost use Rattle.std.specs.Prelude.{◌≡◌, ◌<◌, ◌++◌, codes, length, take, true, IfSome, IfOk, OnOk};
 ghost use Rattle.cell_grid.specs.Space.{cell_count};
-ghost use Rattle.model_tree.specs.Tree.{Group, groups};
+ghost use Rattle.model_tree.specs.Tree.{Group, Leaf, groups};
 ghost use Rattle.model_tree.specs.Models.{tree_of};
 ghost use Rattle.model_tree.specs.Leaves.{no_settings, Appends, IsLeafOf};
 ghost use Rattle.record_text.specs.declared.start.Begins.TheVariants.{Nothing, Boxes};
 ghost use Rattle.record_text.specs.declared.start.Begins.TheVariants.{Cells as cells};
 ghost use Rattle.model_tree.specs.declared.table.Model.{Model};
-ghost use Rattle.record_text.specs.Begun.{begun, head_text, place_text, IsBeginning, IsStart, OfGroup};
+ghost use Rattle.record_text.specs.Begun.{begun, cell_text, head_text, IsBeginning, IsStart, OfGroup};
 
 use crate::kept::Kept;
 use crate::pieces::{put, put_begun, put_leaf};
-use crate::place_text::put_place;
+use crate::place_text::{put_place, short_place};
+use crate::tail::Tail;
 use cell_grid::Grid;
 use model_tree::{CellGroup, LeafAt, Model};
 use quantity::{OutOfMemory, Time};
@@ -48,11 +49,12 @@ impl Start {
         }
     }
 
-    /// Appends letter, time and leaf of a line, and a stroke.
+    /// Appends letter, time and leaf of a line, a stroke, and what stands behind it.
     pub(crate) fn put_head(
         &mut self,
         time: Time,
         leaf: u32,
+        tail: &Tail,
         model: &Model,
         into: &mut Vec<u8>,
     ) -> Result<(), OutOfMemory>
@@ -60,26 +62,49 @@ impl Start {
         requires right { IsStart model.now self.old }
         ensures right { IsStart model.now self.new }
         ensures letter { self.new.letter ≡ self.old.letter }
-        ensures ok { let text = head_text self.old.letter time in
+        ensures ok { let text = λ (l : Leaf). head_text self.old.letter time l ++ tail.now in
             OnOk result (Appends model.now leaf text into.old.items into.new.items) }
         ensures kept { take (length into.old.items) into.new.items ≡ into.old.items }
     {
         match model.leaf_at(leaf) {
-            LeafAt::Atomic(_) => {
-                self.begin_box(time, into)?;
-                put_leaf(leaf, model, into)?;
-                put(b" / ", into)
-            }
-            LeafAt::Cell { group, cell } => self.put_cell(time, group, cell, model, into),
+            LeafAt::Atomic(_) => self.put_box(time, leaf, tail, model, into),
+            LeafAt::Cell { group, cell } => self.put_cell(time, group, cell, tail, model, into),
         }
     }
 
-    /// Appends letter and time, the name of a cell, and a stroke.
+    /// Appends letter and time, the name of a box, a stroke, and what stands behind it.
+    #[inline(always)]
+    fn put_box(
+        &mut self,
+        time: Time,
+        leaf: u32,
+        tail: &Tail,
+        model: &Model,
+        into: &mut Vec<u8>,
+    ) -> Result<(), OutOfMemory>
+        requires leaf { IsLeafOf model.now leaf }
+        requires right { IsStart model.now self.old }
+        ensures right { IsStart model.now self.new }
+        ensures letter { self.new.letter ≡ self.old.letter }
+        ensures ok { let text = λ (l : Leaf). head_text self.old.letter time l ++ tail.now in
+            OnOk result (Appends model.now leaf text into.old.items into.new.items) }
+        ensures kept { take (length into.old.items) into.new.items ≡ into.old.items }
+    {
+        self.begin_box(time, into)?;
+        put_leaf(leaf, model, into)?;
+        put(b" / ", into)?;
+        put(tail.as_bytes(), into)
+    }
+
+    /// Appends letter and time, the name of a cell, a stroke, and what stands behind it: as one
+    /// where all but the coordinates is kept and these are short.
+    #[inline(always)]
     fn put_cell(
         &mut self,
         time: Time,
         group: u32,
         cell: u32,
+        tail: &Tail,
         model: &Model,
         into: &mut Vec<u8>,
     ) -> Result<(), OutOfMemory>
@@ -88,12 +113,42 @@ impl Start {
         requires right { IsStart model.now self.old }
         ensures right { IsStart model.now self.new }
         ensures letter { self.new.letter ≡ self.old.letter }
-        ensures ok { OnOk result (OfGroup model.now group (λ g. into.new.items ≡ into.old.items
-            ++ (begun self.old.letter time ++ g.name ++ codes "(") ++ place_text g.space cell)) }
+        ensures ok { OnOk result (OfGroup model.now group (λ g. into.new.items
+            ≡ into.old.items ++ (cell_text self.old.letter time cell g ++ tail.now))) }
+        ensures kept { take (length into.old.items) into.new.items ≡ into.old.items }
+    {
+        let Some(grid) = self.grid_of(time.ms(), group) else {
+            return self.put_parts(time, group, cell, tail, model, into);
+        };
+        match short_place(&grid, cell) {
+            Some(place) => self.text.put_line(&place, tail, into),
+            None => self.put_parts(time, group, cell, tail, model, into),
+        }
+    }
+
+    /// The same, part by part.
+    #[inline(never)]
+    fn put_parts(
+        &mut self,
+        time: Time,
+        group: u32,
+        cell: u32,
+        tail: &Tail,
+        model: &Model,
+        into: &mut Vec<u8>,
+    ) -> Result<(), OutOfMemory>
+        requires group { group < length (groups (tree_of model.now no_settings)) }
+        requires cell { OfGroup model.now group (λ g. cell < cell_count g.space) }
+        requires right { IsStart model.now self.old }
+        ensures right { IsStart model.now self.new }
+        ensures letter { self.new.letter ≡ self.old.letter }
+        ensures ok { OnOk result (OfGroup model.now group (λ g. into.new.items
+            ≡ into.old.items ++ (cell_text self.old.letter time cell g ++ tail.now))) }
         ensures kept { take (length into.old.items) into.new.items ≡ into.old.items }
     {
         let grid = self.begin_cell(time, group, model, into)?;
-        put_place(&grid, cell, into)
+        put_place(&grid, cell, into)?;
+        put(tail.as_bytes(), into)
     }
 
     /// Appends letter and time of a line of a cell, and its group's name. The answer is the group's

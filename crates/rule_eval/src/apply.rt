@@ -5,6 +5,7 @@ ghost use Rattle.quantity.specs.declared.value.Value.{Value as AnyValue};
 ghost use Rattle.quantity.specs.Arithmetic.{test_of, is_even, is_odd, is_whole};
 ghost use Rattle.rule_tree.specs.Meaning.{Sight, number_answered, truth_in, as_answer, one_meaning};
 ghost use Rattle.rule_tree.specs.Meaning.{two_meaning, by_truth, is_undefined, call_meaning};
+ghost use Rattle.rule_eval.specs.Numbers.{number_of_two};
 ghost use Rattle.rule_eval.specs.Seen.{IsView, seen};
 
 use crate::outs::decided;
@@ -60,6 +61,20 @@ pub(crate) fn apply_binary(operator: Binary, a: Answer, b: Answer) -> Result<Ans
         Binary::Sub => as_answer(number_in(a).sub(number_in(b))),
         Binary::Mul => as_answer(number_in(a).mul(number_in(b))),
         Binary::Div => as_answer(number_in(a).div(number_in(b))),
+    }
+}
+
+/// The number that an operator between two numbers answers, `?` where that is a truth value.
+#[inline(always)]
+pub(crate) fn arithmetic(operator: Binary, a: Value, b: Value) -> Result<Value, Overflow>
+    ensures { result_ok result ≡ number_of_two operator a b }
+{
+    match operator {
+        Binary::Add => a.add(b),
+        Binary::Sub => a.sub(b),
+        Binary::Mul => a.mul(b),
+        Binary::Div => a.div(b),
+        _ => Ok(Value::Undefined),
     }
 }
 

@@ -1,6 +1,7 @@
+use Rattle.record_text.specs.Begun.{head_text}
 use Rattle.record_text.specs.RecordTexts.{y_text}
 use Rattle.text_forms.specs.Lines.{out_port_name}
-use Rattle.record_text.proofs.Appended.{given_joined, kept_on, on_ok}
+use Rattle.record_text.proofs.Appended.{given_joined, kept_on, no_tail, on_ok}
 use Rattle.record_text.proofs.given.put_given_line.Goals as goal
 
 pub returns-clause-ok : goal.returns-clause-ok
@@ -11,7 +12,8 @@ returns-clause-ok c =
     c.args.given.now.time l
     (out_port_name l c.args.given.now.port.0) c.args.given.now.value c.put_head.new.into.items
     c.put_out_port.new.into.items c.put_value.new.into.items
-    (c.in_ok-put_head.ensures.ok settings l e)
+    (no_tail c.args.into.now.items c.put_head.new.into.items (head_text c.args.start.now.letter c.args.given.now.time l) c.none.result c.none.ensures
+    (c.in_ok-put_head.ensures.ok settings l e))
     (c.in_ok-put_out_port.ensures.ok settings l e) last) c.put_value.ensures.ok
 
 pub returns-in_err-put_out_port-clause-kept : goal.returns-in_err-put_out_port-clause-kept

@@ -7,10 +7,10 @@ use Rattle.record_text.proofs.given.put_out_port.Goals as goal
 
 pub returns-clause-ok : goal.returns-clause-ok
 returns-clause-ok c =
-    on_ok c.put-2.result _ _ (λ last settings l e.
-    two_appended c.args.into.now.items c.out_port_text.new.into.items c.put-2.new.into.items (name_at (out_ports l) c.args.port.0) (codes " / ") (c.in_ok-out_port_text.ensures.ok settings l e) last) c.put-2.ensures.ok
+    on_ok c.put.result _ _ (λ last settings l e.
+    two_appended c.args.into.now.items c.out_port_text.new.into.items c.put.new.into.items (name_at (out_ports l) c.args.port.0) (codes " / ") (c.in_ok-out_port_text.ensures.ok settings l e) last) c.put.ensures.ok
 
 pub returns-clause-kept : goal.returns-clause-kept
 returns-clause-kept c =
-    kept_on c.args.into.now.items c.out_port_text.new.into.items c.put-2.new.into.items
-    (appended_keeps c.args.model.now c.args.leaf (λ (l : Leaf). name_at (out_ports l) c.args.port.0) _ _ c.requires.leaf_there c.in_ok-out_port_text.ensures.ok) c.put-2.ensures.kept
+    kept_on c.args.into.now.items c.out_port_text.new.into.items c.put.new.into.items
+    (appended_keeps c.args.model.now c.args.leaf (λ (l : Leaf). name_at (out_ports l) c.args.port.0) _ _ c.requires.leaf_there c.in_ok-out_port_text.ensures.ok) c.put.ensures.kept

@@ -4,7 +4,7 @@ use Rattle.text_forms.specs.declared.letter.Letter.TheVariants.{X}
 use Rattle.text_forms.specs.Lines.{in_port_name}
 use Rattle.record_text.specs.Begun.{head_text}
 use Rattle.record_text.specs.RecordTexts.{x_text}
-use Rattle.record_text.proofs.Appended.{given_joined, kept_on, on_ok}
+use Rattle.record_text.proofs.Appended.{given_joined, kept_on, no_tail, on_ok}
 use Rattle.record_text.proofs.given.put_reached_line.Goals as goal
 
 pub returns-clause-ok : goal.returns-clause-ok
@@ -17,7 +17,7 @@ returns-clause-ok c =
     given_joined before X r.time l
     (in_port_name l r.port.0) r.value head c.put_in_port.new.into.items c.put_value.new.into.items
     (subst (λ (n : Letter). head ≡ before ++ head_text n r.time l) c.requires.letter
-    (c.in_ok-put_head.ensures.ok settings l e))
+    (no_tail before head (head_text c.args.start.now.letter r.time l) c.none.result c.none.ensures (c.in_ok-put_head.ensures.ok settings l e)))
     (c.in_ok-put_in_port.ensures.ok settings l e) last) c.put_value.ensures.ok
 
 pub returns-in_err-put_in_port-clause-kept : goal.returns-in_err-put_in_port-clause-kept

@@ -1,42 +1,48 @@
-use Rattle.std.proofs.Common.{◌≡◌, ◌++◌, subst}
-use Rattle.text_forms.specs.declared.letter.Letter.{Letter}
+use Rattle.std.proofs.Common.{◌++◌, ◌∙◌, ℕ, Option, ap, append_assoc, codes, sym}
+use Rattle.quantity.specs.Bytes.{Bytes}
+use Rattle.quantity.specs.Times.{time_text}
+use Rattle.text_forms.specs.LogLine.{next_text, state_text}
 use Rattle.record_text.specs.Begun.{head_text}
 use Rattle.record_text.specs.RecordTexts.{s_text}
-use Rattle.record_text.proofs.Appended.{kept_on, moved_joined, on_ok}
+use Rattle.record_text.proofs.Appended.{kept_more, kept_on, kept_same, line_more, moved_line_told, on_ok}
+use Rattle.record_text.proofs.Starts.{two_appended}
 use Rattle.record_text.proofs.moved.put_moved_line.Goals as goal
 
-pub returns-clause-ok : goal.returns-clause-ok
+pub returns-in-None-clause-ok : goal.returns-in-None-clause-ok
 unfolding s_text
-returns-clause-ok c =
-    on_ok c.put-2.result _ _ (λ last settings l e.
-    moved_joined c.args.into.now.items c.args.moved.now.time l
-    c.args.moved.now.value c.args.moved.now.next c.put_head.new.into.items
-    c.put_state.new.into.items c.put.new.into.items c.put_next.new.into.items c.put-2.new.into.items
-    (subst (λ (n : Letter). c.put_head.new.into.items ≡ c.args.into.now.items
-    ++ head_text n c.args.moved.now.time l) c.requires.letter (c.in_ok-put_head.ensures.ok settings l e)) c.in_ok-put_state.ensures.ok c.in_ok-put.ensures.ok c.in_ok-put_next.ensures.ok last) c.put-2.ensures.ok
+returns-in-None-clause-ok c =
+    on_ok c.put_state.result _ _ (λ last settings l e.
+    let r = c.args.moved.now in
+    last settings l e
+    ∙ ap (λ (x : Bytes). c.args.into.now.items ++ x)
+    (moved_line_told c.args.start.now.letter r.time l r.value r.next (codes " / ...\n") c.requires.letter
+    (ap (λ (n : Option ℕ). codes " / " ++ (next_text n ++ codes "\n")) (sym c.in-None.is)))) c.put_state.ensures.ok
 
-pub returns-in_err-put_state-clause-kept : goal.returns-in_err-put_state-clause-kept
-returns-in_err-put_state-clause-kept c =
-    kept_on c.args.into.now.items c.put_head.new.into.items c.put_state.new.into.items
-    c.put_head.ensures.kept c.put_state.ensures.kept
+pub returns-in_ok-text-in-Some-clause-ok : goal.returns-in_ok-text-in-Some-clause-ok
+unfolding s_text
+returns-in_ok-text-in-Some-clause-ok c =
+    on_ok c.put.result _ _ (λ last settings l e.
+    let r = c.args.moved.now in
+    let old = c.args.into.now.items in
+    let state = state_text r.value in
+    let head = head_text c.args.start.now.letter r.time l in
+    let more = time_text c.in-Some.next ++ codes "\n" in
+    line_more old c.put_state-in-Some.new.into.items c.put.new.into.items head (state ++ codes " / ") more
+    (c.in_ok-put_state-in-Some.ensures.ok settings l e)
+    (two_appended c.put_state-in-Some.new.into.items c.text.new.into.items c.put.new.into.items (time_text c.in-Some.next) (codes "\n")
+    c.in_ok-text-in-Some.ensures.ok last)
+    ∙ ap (λ (x : Bytes). old ++ (head ++ x)) (append_assoc state (codes " / ") more)
+    ∙ ap (λ (x : Bytes). old ++ x)
+    (moved_line_told c.args.start.now.letter r.time l r.value r.next (codes " / " ++ more) c.requires.letter
+    (ap (λ (n : Option ℕ). codes " / " ++ (next_text n ++ codes "\n")) (sym c.in-Some.is)))) c.put.ensures.ok
 
-pub returns-in_err-put-clause-kept : goal.returns-in_err-put-clause-kept
-returns-in_err-put-clause-kept c =
-    kept_on c.args.into.now.items c.put_state.new.into.items c.put.new.into.items
-    (kept_on c.args.into.now.items c.put_head.new.into.items c.put_state.new.into.items
-    c.put_head.ensures.kept c.put_state.ensures.kept) c.put.ensures.kept
+pub returns-in_err-text-in-Some-clause-kept : goal.returns-in_err-text-in-Some-clause-kept
+returns-in_err-text-in-Some-clause-kept c =
+    kept_same c.args.into.now.items c.put_state-in-Some.new.into.items c.text.new.into.items
+    c.in_ok-put_state-in-Some.ensures.kept c.in_err-text-in-Some.ensures.err
 
-pub returns-in_err-put_next-clause-kept : goal.returns-in_err-put_next-clause-kept
-returns-in_err-put_next-clause-kept c =
-    kept_on c.args.into.now.items c.put.new.into.items c.put_next.new.into.items
-    (kept_on c.args.into.now.items c.put_state.new.into.items c.put.new.into.items
-    (kept_on c.args.into.now.items c.put_head.new.into.items c.put_state.new.into.items
-    c.put_head.ensures.kept c.put_state.ensures.kept) c.put.ensures.kept) c.put_next.ensures.kept
-
-pub returns-clause-kept : goal.returns-clause-kept
-returns-clause-kept c =
-    kept_on c.args.into.now.items c.put_next.new.into.items c.put-2.new.into.items
-    (kept_on c.args.into.now.items c.put.new.into.items c.put_next.new.into.items
-    (kept_on c.args.into.now.items c.put_state.new.into.items c.put.new.into.items
-    (kept_on c.args.into.now.items c.put_head.new.into.items c.put_state.new.into.items
-    c.put_head.ensures.kept c.put_state.ensures.kept) c.put.ensures.kept) c.put_next.ensures.kept) c.put-2.ensures.kept
+pub returns-in_ok-text-in-Some-clause-kept : goal.returns-in_ok-text-in-Some-clause-kept
+returns-in_ok-text-in-Some-clause-kept c =
+    kept_on c.args.into.now.items c.text.new.into.items c.put.new.into.items
+    (kept_more c.args.into.now.items c.put_state-in-Some.new.into.items c.text.new.into.items _
+    c.in_ok-put_state-in-Some.ensures.kept c.in_ok-text-in-Some.ensures.ok) c.put.ensures.kept
