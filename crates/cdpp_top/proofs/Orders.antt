@@ -1,11 +1,10 @@
 -- A run whose messages are served in an order.
-use Rattle.std.proofs.Common.{◌≡◌, ℕ, ◌+◌, ◌≤◌, Bool, true, false, Option, Some, None, refl, sym, ap, ◌∙◌, subst}
+use Rattle.std.proofs.Common.{◌≡◌, ℕ, Bool, true, false, Option, Some, None, sym, subst}
 use Rattle.std.specs.Prelude.{IfSome}
 use Rattle.std.specs.Bool.{OnTrue, then_some}
 use Rattle.std.specs.Option.{is_none, option_map}
 use Rattle.std.proofs.lemmas.Bool.{OnTrue_at, OnTrue_from}
 use Rattle.room_edge.specs.Outside.{Outside}
-use Rattle.model_tree.specs.Tree.{Word}
 use Rattle.run_model.specs.Run.{Run}
 use Rattle.asked_words.specs.declared.asked.Asked as code
 use Rattle.asked_words.specs.Shown.{text_of_name, asked_of}

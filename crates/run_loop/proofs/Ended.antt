@@ -20,7 +20,7 @@ use Rattle.room_edge.specs.Outside.{Outside}
 use Rattle.answer_model.specs.declared.status.Status.{Status}
 use Rattle.answer_model.specs.declared.status.Status.TheVariants as exit
 use Rattle.answer_model.specs.Status.{of_run, IsOf}
-use Rattle.answer_model.specs.Asked.{Source, file, made, Asked}
+use Rattle.answer_model.specs.Asked.{Source, made, Asked}
 use Rattle.answer_model.specs.Answer.{Answer}
 use Rattle.answer_model.specs.Endings.{Says, ShowsEnd, made_after, EndsWith}
 use Rattle.answer_model.specs.RunEnd.{Said, said, done_line, made_line, many_line, stop_line, stop_status}

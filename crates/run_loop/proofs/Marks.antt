@@ -11,7 +11,7 @@ use Rattle.served_tree.specs.Order.{Serving, serve_cycle, mark_from, mark_of}
 use Rattle.text_forms.specs.StateOf.{Saved}
 use Rattle.answer_model.specs.Asked.{Asked}
 use Rattle.answer_model.specs.Cdpp.{begins}
-use Rattle.answer_model.specs.RunEnd.{Said, shows, said, done_line}
+use Rattle.answer_model.specs.RunEnd.{shows, said, done_line}
 use Rattle.asked_words.specs.declared.asked.Asked as code
 use Rattle.asked_words.specs.declared.group.GroupAt.{GroupAt}
 use Rattle.asked_words.specs.Shown.{text_of_name, asked_of}

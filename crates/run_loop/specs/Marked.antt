@@ -1,5 +1,5 @@
 -- The mark of a run that is done, where its messages are served in an order.
-use Rattle.std.specs.Prelude.{◌≡◌, ℕ, Option, IfSome, IsTrue, ⊤, None}
+use Rattle.std.specs.Prelude.{◌≡◌, ℕ, Option, IfSome, ⊤, None}
 use Rattle.std.specs.Option.{option_map}
 use Rattle.served_tree.specs.Order.{mark_from}
 use Rattle.flat_run.specs.Marking.{Marking, at_seed, serving_from}

@@ -31,12 +31,7 @@ pub trait Resumable<L: Ledger>: Cycles<L> {
 
     /// Appends the text of the state in which the run stands, at this time. It takes at most one
     /// visit a leaf.
-    fn save(
-        &self,
-        at: Time,
-        into: &mut Vec<u8>,
-        steps: &mut Steps<L>,
-    ) -> Result<(), OutOfMemory>
+    fn save(&self, at: Time, into: &mut Vec<u8>, steps: &mut Steps<L>) -> Result<(), OutOfMemory>
         requires unserved { Self.marking self.now ≡ None }
         requires goes { (Self.standing self.now).stopped ≡ None }
         requires fits { let s = Self.standing self.now in
@@ -52,12 +47,7 @@ impl<Q: TimeQueue, M: AtomicModel, L: Ledger> Resumable<L> for FlatRun<Q, M> {
         last_emitted(self, leaf, steps)
     }
 
-    fn save(
-        &self,
-        at: Time,
-        into: &mut Vec<u8>,
-        steps: &mut Steps<L>,
-    ) -> Result<(), OutOfMemory> {
+    fn save(&self, at: Time, into: &mut Vec<u8>, steps: &mut Steps<L>) -> Result<(), OutOfMemory> {
         save_state(self, at, into, steps)
     }
 }

@@ -85,15 +85,7 @@ pub fn run_and_tell<R: Room, C: Resumable<L>, L: Ledger>(
     }
     let most = most_cycles(asked.end, asked.given.limit);
     match run_all(room, asked, &mut going, run, most, steps) {
-        Ok(ending) => tell_ending(
-            alloc,
-            room,
-            asked,
-            run.model(),
-            &going,
-            run.mark(),
-            ending,
-        ),
+        Ok(ending) => tell_ending(alloc, room, asked, run.model(), &going, run.mark(), ending),
         Err(why) => tell_unwritten(alloc, room, asked, why),
     }
 }

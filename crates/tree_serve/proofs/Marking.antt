@@ -1,5 +1,5 @@
 -- What a cycle that was served leaves of the seed and the mark.
-use Rattle.std.proofs.Common.{◌≡◌, ℕ, ◌*◌, Option, Some, None, [], refl, sym, ◌∙◌, ap, subst}
+use Rattle.std.proofs.Common.{◌≡◌, ℕ, ◌*◌, Option, Some, None, refl, sym, ◌∙◌, ap}
 use Rattle.std.specs.declared.result.Result.{Result}
 use Rattle.std.specs.declared.result.Result.TheVariants.{Ok, Err}
 use Rattle.rule_tree.specs.declared.outcome.RuleStop.{RuleStop}

@@ -1,4 +1,4 @@
-use Rattle.std.proofs.Common.{◌≡◌, inr, true, false, Some, None, refl, subst}
+use Rattle.std.proofs.Common.{inr, true, false, refl, subst}
 use Rattle.answer_model.specs.Answer.{Answer}
 use Rattle.answer_model.specs.Endings.{looked_for, EndsWith}
 use Rattle.flat_run.specs.Standing.{Standing}

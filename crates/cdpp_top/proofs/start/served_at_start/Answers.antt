@@ -1,4 +1,3 @@
-use Rattle.cdpp_top.specs.Starting.{IsMadeOf}
 use Rattle.cdpp_top.proofs.Started.{sound_with, inputs_with, made_as, may_go_on}
 use Rattle.cdpp_top.proofs.start.served_at_start.Goals as goal
 

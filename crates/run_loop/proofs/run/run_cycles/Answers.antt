@@ -16,9 +16,11 @@ use Rattle.run_loop.proofs.Stands.{stands_first, stands_next, names_due, breaks_
 use Rattle.run_loop.proofs.run.run_cycles.Goals as goal
 
 pub cycles-init : goal.cycles-init
-cycles-init g c =
-    (stands_first c.args.asked.now c.args.most (g.C.Cycles.standing c.args.run.now) c.args.going.now (g.R.Room.outside c.args.room.now) g.C.Cycles.is_counted c.args.steps.now
-    c.requires.goes c.requires.fit, refl)
+cycles-init g c = (
+  stands_first c.args.asked.now c.args.most (g.C.Cycles.standing c.args.run.now) c.args.going.now (g.R.Room.outside c.args.room.now) g.C.Cycles.is_counted c.args.steps.now
+      c.requires.goes c.requires.fit,
+  refl,
+)
 
 pub returns-in-Err-clause-runs : goal.returns-in-Err-clause-runs
 returns-in-Err-clause-runs g c =
@@ -142,11 +144,12 @@ cycles-preserved g c =
     let step = goes_on s m (Ok (progress.Cycled c.in-Cycled.at)) c.cycle.new.records was.goes (rw c.in-Cycled.is at c.in-Ok.ensures.goes) in
     let s0 = g.C.Cycles.standing c.args.run.now in
     let new = g.R.Room.outside c.write_next.new.room in
-    let e = c.in_ok-write_next.ensures in
-    (stands_next c.args.asked.now c.args.most c.cycles.left (g.C.Cycles.standing c.args.run.now) s c.args.going.now c.cycles.going.drawn c.cycles.going.counted c.cycles.going.cycles (g.R.Room.outside c.args.room.now) (g.R.Room.outside c.cycles.room) (spent g.C.Cycles.is_counted c.args.steps.now c.cycles.steps) was
-    m c.in-Cycled.at c.cycle.new.records c.model.result.now new c.write_next.new.going.drawn c.write_next.new.going.counted c.write_next.new.going.cycles c.cycle.new.steps (omega arith) step c.model.ensures
-    (e.texts step.cycle step.records_are step.time (settings_at s0.settings)) (e.drawn step.cycle step.records_are step.time) (e.counted step.cycle step.records_are) e.cycles c.cycle.ensures.visits,
-    marks_next c.cycles.left s m (g.C.Cycles.marking c.cycles.run) (g.C.Cycles.marking c.cycle.new.self) c.in-Cycled.at c.cycle.new.records (omega arith) was.goes step (rw c.in-Cycled.is at c.in-Ok.ensures.marks) ∙ c.cycles.invariant.1)
+    let e = c.in_ok-write_next.ensures in (
+      stands_next c.args.asked.now c.args.most c.cycles.left (g.C.Cycles.standing c.args.run.now) s c.args.going.now c.cycles.going.drawn c.cycles.going.counted c.cycles.going.cycles (g.R.Room.outside c.args.room.now) (g.R.Room.outside c.cycles.room) (spent g.C.Cycles.is_counted c.args.steps.now c.cycles.steps) was
+          m c.in-Cycled.at c.cycle.new.records c.model.result.now new c.write_next.new.going.drawn c.write_next.new.going.counted c.write_next.new.going.cycles c.cycle.new.steps (omega arith) step c.model.ensures
+          (e.texts step.cycle step.records_are step.time (settings_at s0.settings)) (e.drawn step.cycle step.records_are step.time) (e.counted step.cycle step.records_are) e.cycles c.cycle.ensures.visits,
+      marks_next c.cycles.left s m (g.C.Cycles.marking c.cycles.run) (g.C.Cycles.marking c.cycle.new.self) c.in-Cycled.at c.cycle.new.records (omega arith) was.goes step (rw c.in-Cycled.is at c.in-Ok.ensures.marks) ∙ c.cycles.invariant.1,
+    )
 
 pub returns-in-Err-clause-visits : goal.returns-in-Err-clause-visits
 returns-in-Err-clause-visits g c =
