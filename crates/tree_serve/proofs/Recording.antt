@@ -18,7 +18,7 @@ use Rattle.tree_serve.proofs.Rest.{rest-at, kept-first, left-first}
 
 -- ---- one leaf's
 
-abbrev record_at : ℕ → PortNo × Value → PortRecord
+abbrev pub record_at : ℕ → PortNo × Value → PortRecord
 record_at l o = record { leaf = l; port = o.0.0; value = o.1 }
 
 -- at its port `out`, or not
