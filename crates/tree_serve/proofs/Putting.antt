@@ -36,9 +36,8 @@ if-not b x y is = ap (λ c. if c then x else y) is
 
 -- ---- a child more of a component gave, or answered
 
-module _ (n : ℕ) (e : Entry) (children : List ℕ) (notes after : List Note)
-    (less : after ≡ one_less n notes) where
-  -- it was the last
+module _ (n : ℕ) (e : Entry) (notes after : List Note) (less : after ≡ one_less n notes) where
+  -- it was the last to give
   pub gives-on : is_last notes n ≡ true → output n (outs_read after e) ∷ [] ≡ component_gives n e notes
   gives-on last =
       ap (λ ks. output n (outs_read ks e) ∷ []) less
@@ -50,13 +49,7 @@ module _ (n : ℕ) (e : Entry) (children : List ℕ) (notes after : List Note)
       ap (left_noted n (length e.children.items)) less
       ∙ sym (if-so (is_last notes n) (left_noted n (length e.children.items) (one_less n notes)) (one_less n notes) last)
 
-  pub answers-on : is_last notes n ≡ true
-      → done_with n (joined_answer after children) ∷ [] ≡ component_answers n children notes
-  answers-on last =
-      ap (λ ks. done_with n (joined_answer ks children) ∷ []) less
-      ∙ sym (if-so (is_last notes n) (done_with n (joined_answer (one_less n notes) children) ∷ []) [] last)
-
-  -- others have still to
+  -- others have still to give
   pub gives-not : is_last notes n ≡ false → ◌≡◌ {A = List Message} [] (component_gives n e notes)
   gives-not last =
       sym (if-not (is_last notes n) (output n (outs_read (one_less n notes) e) ∷ []) [] last)
@@ -66,6 +59,15 @@ module _ (n : ℕ) (e : Entry) (children : List ℕ) (notes after : List Note)
       less
       ∙ sym (if-not (is_last notes n) (left_noted n (length e.children.items) (one_less n notes)) (one_less n notes) last)
 
+module _ (n : ℕ) (children : List ℕ) (notes after : List Note) (less : after ≡ one_less n notes) where
+  -- it was the last to answer
+  pub answers-on : is_last notes n ≡ true
+      → done_with n (joined_answer after children) ∷ [] ≡ component_answers n children notes
+  answers-on last =
+      ap (λ ks. done_with n (joined_answer ks children) ∷ []) less
+      ∙ sym (if-so (is_last notes n) (done_with n (joined_answer (one_less n notes) children) ∷ []) [] last)
+
+  -- others have still to answer
   pub answers-not : is_last notes n ≡ false
       → ◌≡◌ {A = List Message} [] (component_answers n children notes)
   answers-not last =
