@@ -79,10 +79,10 @@ not-moved l (leaf.Stopped why) next is = refl
 -- ---- the end of a cycle
 
 -- a leaf stopped
-pub ends-stopped : {U : Type 0} (t : ℕ) (es : List Entry) (ks : List Note) (stop : Stopped) (l : ℕ)
+pub ends-stopped : (U : Type 0) (t : ℕ) (es : List Entry) (ks : List Note) (stop : Stopped) (l : ℕ)
     (why : RuleStop) (records : Records) → stop ≡ Some (l, why)
     → EndsBy {U = U} t es ks stop (Err (stopped_leaf l why)) records
-ends-stopped {U} t es ks stop l why records is =
+ends-stopped U t es ks stop l why records is =
     subst (λ s. EndsBy {U = U} t es ks s (Err (stopped_leaf l why)) records) (sym is) refl
 
 -- none did

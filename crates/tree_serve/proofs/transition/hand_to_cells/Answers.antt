@@ -25,7 +25,7 @@ loop-i-preserved c =
           (hand (i, n) ∷ []) refl
           (messages_in c.loop-i.mail.waiting) (messages_in c.hand_to.new.mail.waiting) _
           (c.in_ok-hand_to.ensures.puts
-          ∙ ap (λ w. messages_in c.loop-i.mail.waiting ++ transition n (ins_read es (notes_of c.loop-i.mail.kept.items) bag n) w ∷ []) (c.woken-is_woken.ensures ∙ ap (λ cell. woken_in (notes_of c.loop-i.mail.kept.items) ns space.grid space.offsets.items cell) number)
+          ∙ ap (λ w. messages_in c.loop-i.mail.waiting ++ transition n (ins_read es (notes_of c.loop-i.mail.kept.items) bag n) w ∷ []) (c.is_woken-woken.ensures ∙ ap (λ ks. woken_in (notes_of ks) ns space.grid space.offsets.items c.in_ok-cell.cell) c.deref.ensures.value ∙ ap (λ cell. woken_in (notes_of c.loop-i.mail.kept.items) ns space.grid space.offsets.items cell) number)
           ∙ ap (λ ks. messages_in c.loop-i.mail.waiting ++ transition n (ins_read es ks bag n) (woken_in ks ns space.grid space.offsets.items i) ∷ []) same)
           c.loop-i.invariant.puts;
       kept = c.hand_to.ensures.kept ∙ c.loop-i.invariant.kept;
