@@ -1,5 +1,5 @@
 -- What the end of a cycle answers, from the parts of a run.
-use Rattle.std.proofs.Common.{◌≡◌, ℕ, zero, suc, ◌+◌, ◌*◌, ◌<◌, ◌≤◌, Option, Some, None, List, [], map, length, refl, sym, ◌∙◌, ap, subst, arith}
+use Rattle.std.proofs.Common.{◌≡◌, ℕ, zero, suc, ◌+◌, ◌*◌, ◌<◌, ◌≤◌, Option, Some, None, List, [], ◌∷◌, map, length, refl, sym, ◌∙◌, ap, subst, arith}
 use Rattle.std.specs.Prelude.{if◌then◌else◌}
 use Rattle.std.specs.declared.result.Result.{Result}
 use Rattle.std.specs.declared.result.Result.TheVariants.{Ok, Err}
@@ -70,31 +70,31 @@ module _ (leaves : Seated) (tables : Tables) (events : List Event) (end limit : 
           by [] e = refl
           by (m ∷ ms) e = absurd cc
 
-      module _ {U : Type 0} (u : U) (records : Records)
+      module _ (U : Type 0) (u : U) (records : Records)
           (ends : EndsBy {U = U} t tables.entries.items (notes_of mail.kept.items) (stop_in (notes_of mail.kept.items)) (Ok u) records)
           (count' : ℕ) (counts : count' ≡ (if is_at t last then count else 0) + 1) (mail' : Mail)
           (waits' : mail'.waiting ≡ []) (kept' : mail'.kept.items ≡ []) where
         pub cycle-finishes : Finishes now.standing.stopped now (Ok t) (seen_as leaves tables events end limit (Some t) count' stopped due None inputs mail') records
         cycle-finishes =
-            let told = no-stop each leaves tables events end limit last count stopped due instant inputs mail holds t some goes u records (stop_in (notes_of mail.kept.items)) ends in
+            let told = no-stop each leaves tables events end limit last count stopped due instant inputs mail holds t some goes U u records (stop_in (notes_of mail.kept.items)) ends in
             answers-by (Ok t) (seen_as leaves tables events end limit (Some t) count' stopped due None inputs mail') records
             (finishes each leaves tables events end limit last count stopped due instant inputs mail holds t some goes no-waits told.0 mail' count' counts waits' kept' records told.1)
             (nothing-kept leaves tables events end limit (Some t) count' stopped due inputs mail' waits' kept')
 
         pub cycle-holds : CycleFits → HoldsServed (seen_as leaves tables events end limit (Some t) count' stopped due None inputs mail') tables mail'
         cycle-holds fit =
-            let told = no-stop each leaves tables events end limit last count stopped due instant inputs mail holds t some goes u records (stop_in (notes_of mail.kept.items)) ends in
+            let told = no-stop each leaves tables events end limit last count stopped due instant inputs mail holds t some goes U u records (stop_in (notes_of mail.kept.items)) ends in
             finished-holds each leaves tables events end limit last count stopped due instant inputs mail holds t some goes no-waits told.0 mail' count' counts waits' kept' fit
 
     -- a stop
-    module _ (each : EachServes) {U : Type 0} (why : Halt) (old : Records)
+    module _ (each : EachServes) (U : Type 0) (why : Halt) (old : Records)
         (ends : EndsBy {U = U} t tables.entries.items (notes_of mail.kept.items) (stop_in (notes_of mail.kept.items)) (Err why) old)
         (stop : Stop) (stop_is : stop ≡ stop_of_halt t why) (mail' : Mail) (waits' : mail'.waiting ≡ [])
         (kept' : mail'.kept.items ≡ []) (records : Records) (empty : AreEmpty records) where
       pub stop-finishes : Finishes now.standing.stopped now (Err stop) (seen_as leaves tables events end limit last count (Some stop) due None inputs mail') records
       stop-finishes =
           answers-by (Err stop) (seen_as leaves tables events end limit last count (Some stop) due None inputs mail') records
-          (finishes-stopped each leaves tables events end limit last count stopped due instant inputs mail holds t some goes {U = U} why stop stop_is mail' old records empty ends)
+          (finishes-stopped each leaves tables events end limit last count stopped due instant inputs mail holds t some goes why stop stop_is mail' old records empty U ends)
           (nothing-kept leaves tables events end limit last count (Some stop) due inputs mail' waits' kept')
 
       pub stop-holds : HoldsServed (seen_as leaves tables events end limit last count (Some stop) due None inputs mail') tables mail'
