@@ -1,5 +1,6 @@
-use Rattle.std.proofs.Common.{◌≡◌, ◌<◌, ◌≤◌, arith}
+use Rattle.std.proofs.Common.{◌≡◌, ◌∙◌, ◌<◌, ◌≤◌, map, ap, arith}
 use Rattle.run_model.specs.CellStep.{least}
+use Rattle.tree_serve.specs.Notes.{fresh_note}
 use Rattle.tree_serve.specs.Starting.{least_among}
 use Rattle.tree_serve.proofs.StartSteps.{none-due, past-end, limit-reached, cycle-starts, cycle-holds}
 use Rattle.tree_serve.proofs.run.TreeRun.start.Goals as goal
@@ -47,7 +48,7 @@ invariant_of-self-in-Ok g c =
     c.cycles_had.result c.cycles_had.ensures
     c.any_order_serves.ensures.sound c.events_stand_by_number.ensures.inputs c.events_stand_by_number.ensures.distinct few
     c.begin.new.events c.begin.new.inputs.items c.begin.new.mail
-    c.in-Ok.ensures.inputs c.in-Ok.ensures.events c.in-Ok.ensures.waiting c.in-Ok.ensures.kept
+    c.in-Ok.ensures.inputs c.in-Ok.ensures.events c.in-Ok.ensures.waiting (c.in-Ok.ensures.kept ∙ ap (map fresh_note) c.deref-2.ensures.value)
 
 pub returns-in-Ok : goal.returns-in-Ok
 returns-in-Ok g c =
@@ -62,4 +63,4 @@ returns-in-Ok g c =
     c.cycles_had.result c.cycles_had.ensures
     c.any_order_serves.ensures.sound c.events_stand_by_number.ensures.inputs c.events_stand_by_number.ensures.distinct few
     c.begin.new.events c.begin.new.inputs.items c.begin.new.mail
-    c.in-Ok.ensures.inputs c.in-Ok.ensures.events c.in-Ok.ensures.waiting c.in-Ok.ensures.kept
+    c.in-Ok.ensures.inputs c.in-Ok.ensures.events c.in-Ok.ensures.waiting (c.in-Ok.ensures.kept ∙ ap (map fresh_note) c.deref-2.ensures.value)
