@@ -1,11 +1,10 @@
 -- A collect message is served.
-use Rattle.std.proofs.Common.{◌≡◌, ◌⊎◌, inl, inr, ℕ, zero, suc, ◌+◌, ◌<◌, ◌≤◌, Bool, true, false, Option, Some, None, List, [], ◌∷◌, ◌++◌, map, length, refl, sym, ◌∙◌, ap, subst, arith}
+use Rattle.std.proofs.Common.{◌≡◌, ◌⊎◌, inl, inr, ℕ, suc, ◌<◌, Bool, true, false, Option, Some, None, List, [], ◌∷◌, ◌++◌, map, length, refl, sym, ◌∙◌, ap, subst, arith}
 use Rattle.std.specs.Prelude.{slice_get, slice_set, if◌then◌else◌}
 use Rattle.std.proofs.lemmas.Bool.{cases_eq}
 use Rattle.std.proofs.lemmas.List.{length-set, set-get_or}
-use Rattle.quantity.specs.declared.value.Value.{Value}
 use Rattle.atomic_face.specs.Classes.{Bag, is_at}
-use Rattle.model_tree.specs.Tree.{Tree, Leaf}
+use Rattle.model_tree.specs.Tree.{Tree}
 use Rattle.run_model.specs.Cycle.{LeafState, leaf_next, leaf_emitted, collected_of}
 use Rattle.run_model.specs.Run.{RunState, next_instant, computed_of}
 use Rattle.sparse_cycle.specs.Sparse.{leaf_of, no_leaf}
@@ -14,12 +13,12 @@ use Rattle.run_leaves.specs.Seated.{Seated}
 use Rattle.run_leaves.specs.Moving.{with_state}
 use Rattle.tree_tables.specs.declared.entry.Entry.{Entry}
 use Rattle.tree_tables.specs.Stations.{leaf_of as leaf_number, station_of, stations, entry_of}
-use Rattle.served_tree.specs.Processors.{leaf_node, Processor, processors}
+use Rattle.served_tree.specs.Processors.{Processor, processors}
 use Rattle.served_tree.specs.Service.{Message, collect, output, Kept, instant_of, collect_from, causes}
 use Rattle.served_tree.specs.Parts.{parts, part_at}
 use Rattle.served_tree.specs.Course.{Counts, Stands}
 use Rattle.served_tree.specs.Orders.{IsServable}
-use Rattle.served_tree.proofs.Works.{is_leaf, InnerWorks, KindWorks}
+use Rattle.served_tree.proofs.Works.{InnerWorks, KindWorks}
 use Rattle.served_tree.proofs.Counting.{found-in}
 use Rattle.served_tree.proofs.Whole.{works}
 use Rattle.tree_serve.specs.declared.kept.Became.{Became}
@@ -27,7 +26,7 @@ use Rattle.tree_serve.specs.declared.kept.Became.TheVariants as leaf
 use Rattle.tree_serve.specs.InCycle.{due_at, Lies, LeavesLie}
 use Rattle.tree_serve.specs.Notes.{Note, AreLeft}
 use Rattle.tree_serve.specs.Mail.{messages_in, lies_at, became_in, kept_in, all_kept}
-use Rattle.tree_serve.specs.Puts.{Puts, Changing, leaf_gives, leaves_asked, asked_puts, asked_leaves, Asks, AsksAt}
+use Rattle.tree_serve.specs.Puts.{Puts, Changing, leaf_gives, asked_puts, asked_leaves, Asks, AsksAt}
 use Rattle.tree_serve.specs.Holds.{AreTold, AreKept}
 use Rattle.tree_serve.proofs.Entries.{many, entry-at, children-of, leaf-of}
 use Rattle.tree_serve.proofs.Keeping.{kept-same}

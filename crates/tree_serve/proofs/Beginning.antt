@@ -1,58 +1,45 @@
 -- A run before its first cycle, and a cycle that begins.
-use Rattle.std.proofs.Common.{◌≡◌, ℕ, ℤ, zero, suc, ◌+◌, ◌*◌, ◌<◌, ◌≤◌, Bool, true, false, Option, Some, None, List, [], ◌∷◌, ◌++◌, map, length, refl, sym, ◌∙◌, ap, subst, arith}
-use Rattle.std.specs.Prelude.{slice_get, nat_lt, nat_le, ◌==◌, not, if◌then◌else◌, IsTrue}
-use Rattle.std.specs.List.{All, filter}
+use Rattle.std.proofs.Common.{◌≡◌, ℕ, zero, suc, ◌<◌, ◌≤◌, Bool, true, false, Option, Some, None, List, [], ◌∷◌, ◌++◌, map, length, refl, sym, ◌∙◌, ap, subst, arith}
+use Rattle.std.specs.Prelude.{slice_get, nat_lt, nat_le, ◌==◌, not, if◌then◌else◌}
+use Rattle.std.specs.List.{filter}
 use Rattle.std.specs.Option.{option_map}
 use Rattle.std.proofs.lemmas.List.{length-map}
 use Rattle.std.proofs.lemmas.Option.{slice_get-map, get_or_from_slice_get}
-use Rattle.quantity.specs.declared.bounds.TheConstants.{MAX_DELAY}
-use Rattle.quantity.specs.declared.value.Value.{Value}
-use Rattle.quantity.specs.Bytes.{has_repeat}
 use Rattle.atomic_face.specs.Classes.{Bag}
 use Rattle.event_list.specs.Events.{Event}
-use Rattle.model_tree.specs.Tree.{Tree, ins_of, leaf_count, leaves}
-use Rattle.model_tree.specs.Sound.{is_sound_model}
+use Rattle.model_tree.specs.Tree.{Tree, ins_of}
 use Rattle.run_model.specs.CellStep.{least}
-use Rattle.run_model.specs.Cycle.{LeafState, leaf_next, next_of_all, initial_leaf}
-use Rattle.run_model.specs.Fitting.{FitsTree, StartFits}
-use Rattle.run_model.specs.Run.{RunState, start, first_event, next_instant, ended, done, too_many, next_at, next_cycle, cycled_at, cycles_at}
+use Rattle.run_model.specs.Cycle.{LeafState, leaf_next, next_of_all}
+use Rattle.run_model.specs.Run.{RunState, first_event, next_instant, ended, done, too_many, next_at, next_cycle, cycled_at, cycles_at}
 use Rattle.sparse_cycle.specs.Sparse.{leaf_of}
 use Rattle.sparse_cycle.specs.Feed.{AreAtInputs, DistinctWhereOnce, TopByNumber}
 use Rattle.run_leaves.specs.Seated.{Seated, tree_at}
 use Rattle.run_leaves.proofs.SoundParts.{sound-parts, inputs-once}
-use Rattle.flat_run.specs.Holds.{AreCounts}
-use Rattle.flat_run.specs.declared.progress.Stop.{Stop}
-use Rattle.flat_run.specs.Steps.{Keeps}
-use Rattle.flat_run.proofs.Ran.{leaves-counted}
 use Rattle.flat_run.proofs.Instants.{all-left}
 use Rattle.tree_tables.specs.declared.entry.Entry.{Entry}
-use Rattle.tree_tables.specs.Stations.{leaf_of as leaf_number, stations, entry_of}
 use Rattle.served_tree.specs.Processors.{Processor, size, processors}
-use Rattle.served_tree.specs.Service.{Message, collect, Kept, instant_of, nothing_kept, begun}
+use Rattle.served_tree.specs.Service.{collect, instant_of, nothing_kept, begun}
 use Rattle.served_tree.specs.Parts.{parts, part_at}
-use Rattle.served_tree.specs.Course.{Stands, total}
-use Rattle.served_tree.specs.Linked.{HasPorts}
+use Rattle.served_tree.specs.Course.{Stands}
 use Rattle.served_tree.specs.Orders.{IsServable, SoundServes}
-use Rattle.served_tree.proofs.Counting.{found-in, total-zero}
+use Rattle.served_tree.proofs.Counting.{total-zero}
 use Rattle.served_tree.proofs.Through.{begins}
 use Rattle.served_tree.proofs.Whole.{works}
 use Rattle.tree_serve.specs.declared.kept.Became.TheVariants.{Stayed, Moved}
 use Rattle.tree_serve.specs.declared.mail.Mail.{Mail}
 use Rattle.tree_serve.specs.declared.tables.Tables.{Tables}
-use Rattle.tree_serve.specs.Processing.{Processing, no_service, tree_on, standing_at}
-use Rattle.tree_serve.specs.InCycle.{due_at, LeavesLie, InCycle}
-use Rattle.tree_serve.specs.Calls.{IsBetween, Begins}
-use Rattle.tree_serve.specs.Notes.{Note, notes_of, nothing_noted, fresh_note, has_given, has_answered, lacking, still, AreLeft}
-use Rattle.tree_serve.specs.Mail.{messages_in, kept_in, all_kept, service_of}
+use Rattle.tree_serve.specs.Processing.{Processing}
+use Rattle.tree_serve.specs.InCycle.{LeavesLie, InCycle}
+use Rattle.tree_serve.specs.Calls.{Begins}
+use Rattle.tree_serve.specs.Notes.{Note, notes_of, fresh_note, has_given, has_answered, lacking, still}
+use Rattle.tree_serve.specs.Mail.{messages_in, all_kept}
 use Rattle.tree_serve.specs.Puts.{Puts}
 use Rattle.tree_serve.specs.Starting.{least_among, AreInputsOf}
-use Rattle.tree_serve.specs.Holds.{seen_as, IsServed, AtRest, IsCalm, AreTold, AreKept, IsBegun, InService, HoldsAt, HoldsServed}
+use Rattle.tree_serve.specs.Holds.{seen_as, AtRest, AreKept, HoldsServed}
 use Rattle.tree_serve.proofs.Entries.{many}
-use Rattle.tree_serve.proofs.Keeping.{none-kept}
 use Rattle.tree_serve.proofs.Left.{lacking-all}
 use Rattle.tree_serve.proofs.Inputs.{inputs-are}
-use Rattle.tree_serve.proofs.Within.{state-at, IsLeaf, as-leaf}
-use Rattle.tree_serve.proofs.Ordering.{keeps-itself}
+use Rattle.tree_serve.proofs.Within.{state-at, as-leaf}
 
 -- ---- times
 

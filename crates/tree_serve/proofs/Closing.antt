@@ -1,48 +1,43 @@
 -- A cycle ends: the run stands where the reference run stands behind it, or has its stop.
-use Rattle.std.proofs.Common.{◌≡◌, inl, inr, ℕ, zero, suc, ◌+◌, ◌*◌, ◌<◌, ◌≤◌, Bool, true, false, Option, Some, None, List, [], ◌∷◌, map, length, refl, sym, ◌∙◌, ap, subst, arith}
-use Rattle.std.specs.Prelude.{slice_get, if◌then◌else◌}
+use Rattle.std.proofs.Common.{◌≡◌, inl, inr, ℕ, zero, suc, ◌+◌, ◌*◌, ◌<◌, ◌≤◌, Option, Some, None, List, [], map, length, refl, sym, ◌∙◌, ap, subst, arith}
+use Rattle.std.specs.Prelude.{if◌then◌else◌}
 use Rattle.std.proofs.lemmas.Bool.{cases_eq}
 use Rattle.std.proofs.lemmas.List.{length-map}
-use Rattle.std.specs.declared.result.Result.{Result}
 use Rattle.std.specs.declared.result.Result.TheVariants.{Ok, Err}
 use Rattle.rule_tree.specs.declared.outcome.RuleStop.{RuleStop}
 use Rattle.rule_tree.specs.declared.outcome.RuleStop.TheVariants as rules
 use Rattle.atomic_face.specs.Classes.{Bag, is_at}
 use Rattle.event_list.specs.Events.{Event}
 use Rattle.model_tree.specs.Tree.{Tree}
-use Rattle.run_model.specs.Cycle.{LeafState, Moved, all_after, leaf_next}
+use Rattle.run_model.specs.Cycle.{all_after, leaf_next}
 use Rattle.run_model.specs.Fitting.{FitsTree, CycleFits}
-use Rattle.run_model.specs.Run.{RunState, Cycle, Next, ended, cycled, stop, unless_stop, state_after, cycled_at, cycles_at, next_cycle}
+use Rattle.run_model.specs.Run.{RunState, ended, cycled, stop, unless_stop, state_after, cycles_at}
 use Rattle.record_text.specs.declared.records.Records.{Records}
 use Rattle.record_text.specs.Held.{Holds, AreEmpty}
 use Rattle.cycle_steps.specs.declared.halt.Halt.{Halt}
 use Rattle.cycle_steps.specs.declared.halt.Halt.TheVariants as halt
-use Rattle.flat_run.specs.declared.progress.Progress.{Progress}
-use Rattle.flat_run.specs.declared.progress.Progress.TheVariants.{Cycled}
 use Rattle.flat_run.specs.declared.progress.Stop.{Stop}
 use Rattle.flat_run.specs.declared.progress.Stop.TheVariants.{Memory}
-use Rattle.flat_run.specs.Holds.{AreCounts}
 use Rattle.flat_run.specs.Running.{stop_of_halt}
 use Rattle.flat_run.specs.Standing.{Standing, next_of}
-use Rattle.flat_run.specs.Steps.{Keeps, Cycles, Stops, Steps}
+use Rattle.flat_run.specs.Steps.{Keeps, Steps}
 use Rattle.run_leaves.specs.Seated.{Seated, tree_at}
-use Rattle.tree_tables.specs.declared.entry.Entry.{Entry}
 use Rattle.served_tree.specs.Processors.{Processor, size, processors}
-use Rattle.served_tree.specs.Service.{Service, Stopped, Kept, instant_of, answer_of, of_leaves, kept_cycle, finished}
+use Rattle.served_tree.specs.Service.{Service, Stopped, Kept, instant_of, answer_of, of_leaves}
 use Rattle.served_tree.specs.Parts.{Part, parts, part_at}
 use Rattle.served_tree.specs.Course.{Counts, Stands, parent_in}
-use Rattle.served_tree.specs.Orders.{IsServable, EachServes}
+use Rattle.served_tree.specs.Orders.{EachServes}
 use Rattle.served_tree.proofs.Counting.{most-child, total-most}
 use Rattle.served_tree.proofs.Placing.{size-is}
 use Rattle.tree_serve.specs.declared.mail.Mail.{Mail}
 use Rattle.tree_serve.specs.declared.tables.Tables.{Tables}
-use Rattle.tree_serve.specs.Processing.{Processing, no_service, tree_on, standing_at}
+use Rattle.tree_serve.specs.Processing.{Processing, standing_at}
 use Rattle.tree_serve.specs.InCycle.{InCycle}
-use Rattle.tree_serve.specs.Calls.{IsBetween, progress_of, FinishesBy}
+use Rattle.tree_serve.specs.Calls.{IsBetween, FinishesBy}
 use Rattle.tree_serve.specs.Notes.{Note, note_of, notes_of}
 use Rattle.tree_serve.specs.Mail.{messages_in, all_kept}
 use Rattle.tree_serve.specs.Recorded.{cycle_by, EndsBy, stop_in}
-use Rattle.tree_serve.specs.Holds.{seen_as, IsServed, AtRest, IsCalm, IsBegun, InService, HoldsAt, HoldsServed}
+use Rattle.tree_serve.specs.Holds.{seen_as, IsServed, InService, HoldsAt, HoldsServed}
 use Rattle.tree_serve.proofs.Keeping.{none-kept}
 use Rattle.tree_serve.proofs.Finished.{states-are, due-are, cycle-is, stop-same}
 

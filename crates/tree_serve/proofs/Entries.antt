@@ -1,9 +1,9 @@
 -- The tables of a model have its processors.
-use Rattle.std.proofs.Common.{◌≡◌, ℕ, ◌<◌, ◌≤◌, Option, Some, None, List, [], map, length, refl, sym, ◌∙◌, ap, arith}
+use Rattle.std.proofs.Common.{◌≡◌, ℕ, Option, Some, None, List, [], map, length, refl, sym, ◌∙◌, ap}
 use Rattle.std.specs.Prelude.{slice_get}
 use Rattle.std.specs.Option.{option_map}
 use Rattle.std.proofs.lemmas.List.{length-map}
-use Rattle.std.proofs.lemmas.Option.{slice_get-map, slice_get_past}
+use Rattle.std.proofs.lemmas.Option.{slice_get-map}
 use Rattle.model_tree.specs.Tree.{Tree, Leaf}
 use Rattle.tree_tables.specs.declared.entry.Entry.{Entry}
 use Rattle.tree_tables.specs.Stations.{Station, leaf_of, row_of, rows_into, station_of, stations, entry_of}
@@ -12,10 +12,9 @@ use Rattle.served_tree.specs.Rows.{out_rows}
 use Rattle.served_tree.specs.Course.{parent_in}
 use Rattle.served_tree.specs.Order as order
 use Rattle.served_tree.specs.Service.{Message, collect, output, transition, done, Instant}
-use Rattle.served_tree.proofs.Counting.{found-in, found-within}
 use Rattle.served_tree.proofs.Placing.{size-is}
 use Rattle.tree_serve.specs.Mail.{parent_at, told_by}
-use Rattle.tree_serve.proofs.Leaves.{leaf_in, pair_of}
+use Rattle.tree_serve.proofs.Leaves.{pair_of}
 
 -- one that is made of another by a function is made of something
 mapped-from : {X Y : Type 0} (f : X → Y) (o : Option X) (y : Y) → option_map f o ≡ Some y

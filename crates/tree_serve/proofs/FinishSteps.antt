@@ -1,9 +1,8 @@
 -- What the end of a cycle answers, from the parts of a run.
-use Rattle.std.proofs.Common.{◌≡◌, ℕ, zero, suc, ◌+◌, ◌*◌, ◌<◌, ◌≤◌, Option, Some, None, List, [], ◌∷◌, map, length, refl, sym, ◌∙◌, ap, subst, arith}
+use Rattle.std.proofs.Common.{◌≡◌, ℕ, ◌+◌, ◌<◌, Option, Some, None, List, [], ◌∷◌, map, refl, sym, ◌∙◌, ap, subst, arith}
 use Rattle.std.specs.Prelude.{if◌then◌else◌}
 use Rattle.std.specs.declared.result.Result.{Result}
 use Rattle.std.specs.declared.result.Result.TheVariants.{Ok, Err}
-use Rattle.std.proofs.lemmas.List.{length-map}
 use Rattle.atomic_face.specs.Classes.{Bag, is_at}
 use Rattle.event_list.specs.Events.{Event}
 use Rattle.run_model.specs.Fitting.{CycleFits}
@@ -24,7 +23,7 @@ use Rattle.tree_serve.specs.Mail.{message_in}
 use Rattle.tree_serve.specs.Notes.{notes_of}
 use Rattle.tree_serve.specs.Recorded.{EndsBy, stop_in}
 use Rattle.tree_serve.specs.Holds.{seen_as, InService, HoldsAt, HoldsServed}
-use Rattle.tree_serve.proofs.Closing.{nothing-kept, stopped-holds, all-kept, finishes, finished-holds, finishes-stopped, no-stop}
+use Rattle.tree_serve.proofs.Closing.{nothing-kept, stopped-holds, finishes, finished-holds, finishes-stopped, no-stop}
 
 module _ (leaves : Seated) (tables : Tables) (events : List Event) (end limit : ℕ) (last : Option ℕ)
     (count : ℕ) (stopped : Option Stop) (due : List (Option ℕ)) (instant : Option ℕ) (inputs : Bag)

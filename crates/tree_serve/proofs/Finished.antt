@@ -1,5 +1,5 @@
 -- A cycle of which all messages were served: what is kept of its leaves, and its records.
-use Rattle.std.proofs.Common.{◌≡◌, ◌⊎◌, inl, inr, ℕ, zero, suc, ◌+◌, ◌*◌, ◌<◌, ◌≤◌, Bool, true, false, Option, Some, None, List, [], ◌∷◌, ◌++◌, map, length, refl, sym, ◌∙◌, ap, subst, arith}
+use Rattle.std.proofs.Common.{◌≡◌, ℕ, zero, suc, ◌+◌, ◌*◌, ◌<◌, ◌≤◌, Option, Some, None, List, [], ◌∷◌, ◌++◌, map, length, refl, sym, ◌∙◌, ap, subst, arith}
 use Rattle.std.specs.Prelude.{slice_get, unwrap_or}
 use Rattle.std.specs.List.{filter, filter_map, flat_map, enumerate_from, cons_option}
 use Rattle.std.specs.Option.{option_map}
@@ -7,16 +7,16 @@ use Rattle.std.proofs.lemmas.List.{length-map}
 use Rattle.std.proofs.lemmas.Option.{slice_get-map, slice_get-get_or}
 use Rattle.quantity.specs.declared.value.Value.{Value}
 use Rattle.atomic_face.specs.Classes.{Bag}
-use Rattle.model_tree.specs.Tree.{Word, Tree, Leaf, leaf_count, leaves}
-use Rattle.run_model.specs.Cycle.{LeafState, leaf_next, leaf_emitted, collected, Moved, stayed, moved, stopped, first_stop, after, all_after}
-use Rattle.run_model.specs.Run.{RunState, StateRecord, PortRecord, Cycle, at_top, port_records, records_of_bags, is_of_out, record_of_move, state_record, computed_of}
+use Rattle.model_tree.specs.Tree.{Word, Tree, Leaf, leaves}
+use Rattle.run_model.specs.Cycle.{LeafState, leaf_next, collected, Moved, stayed, moved, stopped, first_stop, after, all_after}
+use Rattle.run_model.specs.Run.{RunState, at_top, port_records, records_of_bags, is_of_out, state_record}
 use Rattle.sparse_cycle.specs.Sparse.{leaf_of}
 use Rattle.tree_tables.specs.declared.entry.Entry.{Entry}
 use Rattle.tree_tables.specs.Stations.{Station, leaf_of as leaf_number, station_of, stations, entry_of}
 use Rattle.served_tree.specs.Processors.{Node, coupled_node, group_node, leaf_node, Processor, size, processors}
-use Rattle.served_tree.specs.Service.{Message, Stopped, Kept, Service, Instant, instant_of, kept_of, gave_of, answer_of, leaf_done, transition_from, done, of_leaf, of_leaves, out_record, kept_cycle}
+use Rattle.served_tree.specs.Service.{Message, Stopped, Kept, Instant, instant_of, kept_of, answer_of, leaf_done, transition_from, done, of_leaf, of_leaves, out_record, kept_cycle}
 use Rattle.served_tree.specs.Parts.{Part, parts, part_at}
-use Rattle.served_tree.specs.Course.{Counts, kept_after, Stands, total}
+use Rattle.served_tree.specs.Course.{kept_after, total}
 use Rattle.served_tree.specs.Orders.{IsServable, IsOnItsWay}
 use Rattle.served_tree.proofs.Works.{LeafWorks, KindWorks}
 use Rattle.served_tree.proofs.Counting.{found-in, found-within}
@@ -29,17 +29,17 @@ use Rattle.served_tree.proofs.Finishing.{kept_last, leaves_of, of-leaves, leaf_p
 use Rattle.served_tree.proofs.Whole.{works}
 use Rattle.tree_serve.specs.declared.kept.Became.{Became}
 use Rattle.tree_serve.specs.declared.kept.Became.TheVariants as leaf
-use Rattle.tree_serve.specs.InCycle.{due_at, BecameSo, HasBecome, Lies, LeavesLie}
+use Rattle.tree_serve.specs.InCycle.{due_at, HasBecome, Lies, LeavesLie}
 use Rattle.tree_serve.specs.Notes.{Note, all_heard}
 use Rattle.tree_serve.specs.Mail.{lies_at, became_in, kept_in, all_kept}
 use Rattle.tree_serve.specs.Recorded.{given_records, taken_records, next_answered, move_record, move_records, of_leaf_at, by_leaf, is_further, cycle_by, stop_in}
-use Rattle.tree_serve.specs.Holds.{AreTold, AreKept}
+use Rattle.tree_serve.specs.Holds.{AreKept}
 use Rattle.tree_serve.proofs.Choosing.{more, place}
 use Rattle.tree_serve.proofs.Leaves.{leaf_in, pair_of, pairs, leaf-is}
-use Rattle.tree_serve.proofs.Entries.{many, processor-at, entry-at, leaf-of, leaf-node}
+use Rattle.tree_serve.proofs.Entries.{processor-at, leaf-of, leaf-node}
 use Rattle.tree_serve.proofs.Keeping.{kept-at, heard-alike, gave-same, answer-same}
-use Rattle.tree_serve.proofs.Went.{some-number, kept-part}
-use Rattle.tree_serve.proofs.Within.{state-at, state-is, IsLeaf, as-leaf, leaf-processor}
+use Rattle.tree_serve.proofs.Went.{some-number}
+use Rattle.tree_serve.proofs.Within.{state-at, as-leaf, leaf-processor}
 
 -- ---- what is kept of the leaves among processors
 

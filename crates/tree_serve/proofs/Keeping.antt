@@ -1,11 +1,10 @@
 -- What is kept of processors, in code and in the definitions.
-use Rattle.std.proofs.Common.{◌≡◌, ◌⊎◌, inl, inr, ℕ, zero, suc, ◌+◌, ◌<◌, ◌≤◌, Bool, true, false, ◌||◌, Option, Some, None, List, [], ◌∷◌, ◌++◌, map, length, set, refl, sym, ◌∙◌, ap, arith}
-use Rattle.std.specs.Prelude.{slice_get, unwrap_or, if◌then◌else◌}
-use Rattle.std.specs.List.{list_any, list_all, flat_map}
+use Rattle.std.proofs.Common.{◌≡◌, ◌⊎◌, inl, inr, ℕ, zero, suc, ◌<◌, Bool, false, ◌||◌, Option, Some, None, List, [], ◌∷◌, ◌++◌, map, length, set, refl, sym, ◌∙◌, ap, arith}
+use Rattle.std.specs.Prelude.{slice_get, unwrap_or}
+use Rattle.std.specs.List.{list_any, flat_map}
 use Rattle.std.specs.Option.{option_map, is_some}
 use Rattle.std.proofs.lemmas.Bool.{cases_eq}
 use Rattle.std.proofs.lemmas.List.{length-set}
-use Rattle.quantity.specs.declared.value.Value.{Value}
 use Rattle.quantity.specs.declared.place.Offset.{Offset}
 use Rattle.cell_grid.specs.Space.{Space, neighbour}
 use Rattle.atomic_face.specs.Classes.{Bag}
@@ -15,7 +14,7 @@ use Rattle.tree_tables.specs.declared.entry.Entry.{Entry}
 use Rattle.served_tree.specs.Service as service
 use Rattle.served_tree.specs.Service.{Stopped, kept_of, gave_of, changed, cell_gave, gave_output, all_gave, all_answered, answer_of, least_of, first_of, at_number}
 use Rattle.served_tree.specs.Rows.{Ref, own_input, output_of, read, read_rows}
-use Rattle.served_tree.proofs.Counting.{found-in, found-within, changed-same, changed-other, changed-long}
+use Rattle.served_tree.proofs.Counting.{found-in, changed-same, changed-other, changed-long}
 use Rattle.served_tree.proofs.Lists.{same-by-places}
 use Rattle.tree_serve.specs.Notes.{Note, heard, all_heard, noted, has_given, has_answered, left_at}
 use Rattle.tree_serve.specs.Mail.{kept_in, all_kept}

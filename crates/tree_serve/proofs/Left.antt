@@ -1,5 +1,5 @@
 -- How many children of each processor have still to give, or to answer.
-use Rattle.std.proofs.Common.{◌≡◌, ◌⊎◌, inl, inr, ℕ, zero, suc, ◌+◌, ◌-◌, ◌<◌, ◌≤◌, Bool, true, false, Option, Some, None, List, [], ◌∷◌, map, length, set, refl, sym, ◌∙◌, ap, subst, arith, eq-eqb, ne_eqb}
+use Rattle.std.proofs.Common.{◌≡◌, ◌⊎◌, inl, inr, ℕ, zero, suc, ◌+◌, ◌-◌, ◌<◌, ◌≤◌, Bool, true, false, Option, Some, None, List, [], ◌∷◌, length, set, refl, sym, ◌∙◌, ap, subst, arith, eq-eqb, ne_eqb}
 use Rattle.std.specs.Prelude.{slice_get, ◌==◌, ◌&&◌, if◌then◌else◌}
 use Rattle.std.specs.List.{list_all}
 use Rattle.std.specs.Option.{is_some}
@@ -8,13 +8,13 @@ use Rattle.std.proofs.lemmas.List.{set-set}
 use Rattle.atomic_face.specs.Classes.{Bag}
 use Rattle.tree_tables.specs.declared.entry.Entry.{Entry}
 use Rattle.served_tree.specs.Service.{Stopped}
-use Rattle.served_tree.specs.Course.{one_if, times}
+use Rattle.served_tree.specs.Course.{times}
 use Rattle.served_tree.proofs.Times.{one_if-same, one_if-other}
 use Rattle.served_tree.proofs.Counting.{found-in, found-within}
 use Rattle.tree_serve.specs.declared.kept.Became.{Became}
 use Rattle.tree_serve.specs.Notes.{Note, noted, given_noted, answer_noted, move_noted, left_at, one_less, left_noted, has_given, has_answered, lacking, still, AreLeft}
 use Rattle.tree_serve.specs.Mail.{parent_at}
-use Rattle.tree_serve.specs.Puts.{at_parent, is_last, component_gave, after_given, after_answered}
+use Rattle.tree_serve.specs.Puts.{is_last, component_gave, after_given, after_answered}
 use Rattle.tree_serve.proofs.Keeping.{noted-is, noted-same, noted-other, noted-long, left-is}
 
 -- ---- how many lack something

@@ -1,5 +1,5 @@
 -- A served run before its first cycle.
-use Rattle.std.proofs.Common.{◌≡◌, ℕ, ℤ, ◌≤◌, Option, None, List, [], map, refl, sym, ◌∙◌, ap, subst, arith}
+use Rattle.std.proofs.Common.{◌≡◌, ℕ, ℤ, ◌≤◌, Option, None, List, [], map, sym, ◌∙◌, ap, subst, arith}
 use Rattle.std.specs.Prelude.{IsTrue}
 use Rattle.std.specs.List.{All}
 use Rattle.quantity.specs.declared.bounds.TheConstants.{MAX_DELAY}
@@ -22,7 +22,7 @@ use Rattle.served_tree.specs.Linked.{HasPorts}
 use Rattle.tree_serve.specs.declared.mail.Mail.{Mail}
 use Rattle.tree_serve.specs.declared.tables.Tables.{Tables}
 use Rattle.tree_tables.specs.declared.entry.Entry.{Entry}
-use Rattle.tree_serve.specs.Processing.{Processing, no_service, tree_on}
+use Rattle.tree_serve.specs.Processing.{no_service}
 use Rattle.tree_serve.specs.Notes.{notes_of}
 use Rattle.tree_serve.specs.Mail.{messages_in, all_kept, service_of}
 use Rattle.tree_serve.specs.Tabled.{AreTables}

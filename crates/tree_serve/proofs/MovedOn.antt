@@ -1,5 +1,5 @@
 -- A transition message to a leaf is served.
-use Rattle.std.proofs.Common.{◌≡◌, ◌⊎◌, inl, inr, ℕ, ℤ, zero, suc, ◌+◌, ◌<◌, ◌≤◌, Bool, true, false, ◌||◌, Option, Some, None, List, [], ◌∷◌, ◌++◌, map, length, set, refl, sym, ◌∙◌, ap, subst, arith}
+use Rattle.std.proofs.Common.{◌≡◌, ◌⊎◌, inl, inr, ℕ, zero, suc, ◌<◌, ◌≤◌, Bool, true, false, ◌||◌, Option, Some, None, List, [], ◌∷◌, ◌++◌, map, length, refl, sym, ◌∙◌, ap, subst, arith}
 use Rattle.std.specs.Prelude.{slice_get, slice_set, if◌then◌else◌}
 use Rattle.std.specs.Option.{option_map}
 use Rattle.std.proofs.lemmas.Bool.{cases_eq, cases_lt}
@@ -8,19 +8,18 @@ use Rattle.std.proofs.lemmas.Option.{slice_get-map, slice_get_past}
 use Rattle.quantity.specs.declared.value.Value.{Value}
 use Rattle.rule_tree.specs.declared.outcome.RuleStop.{RuleStop}
 use Rattle.atomic_face.specs.Classes.{Bag, is_at}
-use Rattle.model_tree.specs.declared.table.Model.{Model}
 use Rattle.model_tree.specs.Tree.{Tree, Leaf, leaves}
-use Rattle.run_model.specs.Cycle.{LeafState, leaf_next, leaf_emitted, emitted_values, emitted_in, has_values, Moved, stayed, moved, stopped, leaf_moved}
+use Rattle.run_model.specs.Cycle.{LeafState, leaf_next, leaf_emitted, emitted_values, has_values, Moved, stayed, moved, stopped, leaf_moved}
 use Rattle.run_model.specs.Run.{RunState, next_instant, computed_of}
 use Rattle.sparse_cycle.specs.Sparse.{leaf_of, no_leaf, move_to}
-use Rattle.sparse_cycle.specs.AnyOrder.{SeeAlike, BecomesTheSame, UndueAreQuiet, IsQuiet}
-use Rattle.run_leaves.specs.Seated.{Seated, tree_at}
-use Rattle.run_leaves.specs.Moving.{StaysAs, OnlyLeaf}
+use Rattle.sparse_cycle.specs.AnyOrder.{SeeAlike, BecomesTheSame, UndueAreQuiet}
+use Rattle.run_leaves.specs.Seated.{tree_at}
+use Rattle.run_leaves.specs.Moving.{OnlyLeaf}
 use Rattle.tree_tables.specs.declared.entry.Entry.{Entry}
 use Rattle.tree_tables.specs.Stations.{leaf_of as leaf_number, station_of, stations, entry_of}
-use Rattle.served_tree.specs.Processors.{Node, leaf_node, Processor, processors, at_processor}
-use Rattle.served_tree.specs.Service.{Stopped, Message, transition, done, Kept, Instant, instant_of, kept_of, leaf_became, became_of, leaf_done, transition_from, keeps, causes}
-use Rattle.served_tree.specs.Parts.{Part, parts, part_at}
+use Rattle.served_tree.specs.Processors.{leaf_node, Processor, processors}
+use Rattle.served_tree.specs.Service.{Message, transition, done, Kept, instant_of, kept_of, became_of, leaf_done, transition_from, keeps, causes}
+use Rattle.served_tree.specs.Parts.{parts, part_at}
 use Rattle.served_tree.specs.Course.{Counts, Stands}
 use Rattle.served_tree.specs.Orders.{IsServable}
 use Rattle.served_tree.proofs.Works.{LeafWorks, KindWorks}
@@ -32,14 +31,14 @@ use Rattle.tree_serve.specs.declared.kept.Became.TheVariants as leaf
 use Rattle.tree_serve.specs.InCycle.{due_at, HasBecome, Lies, LeavesLie}
 use Rattle.tree_serve.specs.Notes.{Note, move_noted, AreLeft}
 use Rattle.tree_serve.specs.Mail.{messages_in, lies_at, became_in, kept_in, all_kept}
-use Rattle.tree_serve.specs.Puts.{Puts, Changing, has_to_move, Moves, MovesIf, move_in, Becomes, leaf_answers, done_with, MovesOn}
+use Rattle.tree_serve.specs.Puts.{Changing, has_to_move, MovesIf, move_in, leaf_answers, done_with, MovesOn}
 use Rattle.tree_serve.specs.Holds.{AreTold, AreKept}
 use Rattle.tree_serve.proofs.Choosing.{get-same}
 use Rattle.tree_serve.proofs.Entries.{processor-at, leaf-of}
 use Rattle.tree_serve.proofs.Keeping.{noted-same, noted-other, noted-length, Before, before, kept-at, kept-changed}
 use Rattle.tree_serve.proofs.Left.{left-after-move}
 use Rattle.tree_serve.proofs.Staying.{transition-waits}
-use Rattle.tree_serve.proofs.Within.{state-at, state-is, state-set, state-beside, due-set, due-beside, IsLeaf, as-leaf, same-leaf, leaf-processor, family, lie-on}
+use Rattle.tree_serve.proofs.Within.{state-at, state-set, state-beside, due-set, due-beside, IsLeaf, as-leaf, same-leaf, leaf-processor, family, lie-on}
 use Rattle.tree_serve.proofs.Went.{at-is, Went, some-number, kept-beside, told-beside}
 
 -- ---- what all leaves have emitted

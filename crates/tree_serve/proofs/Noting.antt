@@ -8,7 +8,7 @@ use Rattle.served_tree.specs.Service as service
 use Rattle.served_tree.specs.Service.{gave_of, answer_of}
 use Rattle.tree_serve.specs.declared.kept.Kept.{Kept}
 use Rattle.tree_serve.specs.declared.message.Answer.{Answer}
-use Rattle.tree_serve.specs.Notes.{Note, answer_in, note_of, notes_of, heard, all_heard, noted, left_at}
+use Rattle.tree_serve.specs.Notes.{Note, answer_in, note_of, heard, all_heard, noted, left_at}
 
 -- ---- one is changed
 

@@ -1,5 +1,5 @@
 -- A transition message to a component is served.
-use Rattle.std.proofs.Common.{◌≡◌, ◌⊎◌, inl, inr, ℕ, ℤ, zero, suc, ◌+◌, ◌<◌, ◌≤◌, Bool, true, false, Option, Some, None, List, [], ◌∷◌, ◌++◌, map, length, refl, sym, ◌∙◌, ap, subst, arith}
+use Rattle.std.proofs.Common.{◌≡◌, ◌⊎◌, inl, inr, ℕ, ℤ, zero, suc, ◌+◌, ◌<◌, ◌≤◌, Bool, false, Option, Some, None, List, [], ◌∷◌, ◌++◌, map, length, refl, sym, ◌∙◌, ap, subst, arith}
 use Rattle.std.specs.Prelude.{slice_get, IfSome}
 use Rattle.std.specs.List.{flat_map, enumerate_from, range_with_len, list_any}
 use Rattle.std.specs.Option.{option_map}
@@ -10,26 +10,25 @@ use Rattle.atomic_face.specs.Classes.{Bag}
 use Rattle.model_tree.specs.declared.table.Model.{Model}
 use Rattle.model_tree.specs.declared.leaves.LeafAt.{LeafAt}
 use Rattle.model_tree.specs.declared.leaves.LeafAt.TheVariants as sits
-use Rattle.model_tree.specs.Tree.{Tree, Group, Leaf, atomic_leaf, cell_leaf, groups, leaves, leaf_count}
-use Rattle.model_tree.specs.Leaves.{IsPlaceOf, StandsAt, IsCellIn, IsLeafOf, no_settings}
-use Rattle.model_tree.specs.Models.{tree_of}
+use Rattle.model_tree.specs.Tree.{Tree, Group, Leaf, atomic_leaf, cell_leaf, groups, leaves}
+use Rattle.model_tree.specs.Leaves.{StandsAt, IsCellIn, IsLeafOf, no_settings}
 use Rattle.model_tree.proofs.Read.{rows-length}
-use Rattle.run_model.specs.Cycle.{LeafState, stayed}
+use Rattle.run_model.specs.Cycle.{stayed}
 use Rattle.run_model.specs.Run.{RunState}
 use Rattle.sparse_cycle.specs.Sparse.{leaf_of}
 use Rattle.run_leaves.specs.Seated.{Seated, settings_at, tree_at}
 use Rattle.tree_tables.specs.declared.entry.Entry.{Entry}
-use Rattle.tree_tables.specs.Stations.{leaf_of as leaf_number, row_of, rows_of_cell, rows_into, station_of, stations, entry_of}
+use Rattle.tree_tables.specs.Stations.{leaf_of as leaf_number, row_of, rows_into, station_of, stations, entry_of}
 use Rattle.served_tree.specs.Processors.{Node, coupled_node, group_node, leaf_node, Processor, processors, at_processor}
-use Rattle.served_tree.specs.Service.{Message, transition, Kept, Instant, instant_of, handed, handed_cell, is_woken, gave_output, became_of, transition_from, keeps, causes}
-use Rattle.served_tree.specs.Rows.{Ref, read_rows, in_rows, cell_rows, RowsBring}
+use Rattle.served_tree.specs.Service.{Message, transition, Kept, instant_of, handed, handed_cell, is_woken, gave_output, became_of, transition_from, keeps, causes}
+use Rattle.served_tree.specs.Rows.{read_rows, RowsBring}
 use Rattle.served_tree.specs.Parts.{parts, part_at}
 use Rattle.served_tree.specs.Course.{Counts, IsChild, times, Stands}
 use Rattle.served_tree.specs.Orders.{IsServable}
 use Rattle.served_tree.proofs.Times.{one_if-same}
 use Rattle.served_tree.proofs.Works.{InnerWorks, KindWorks}
 use Rattle.served_tree.proofs.Counting.{found-in, found-within, parent-is}
-use Rattle.served_tree.proofs.Lists.{get-range, length-range}
+use Rattle.served_tree.proofs.Lists.{length-range}
 use Rattle.served_tree.proofs.Placing.{cell_processor}
 use Rattle.served_tree.proofs.Finishing.{leaves-many}
 use Rattle.served_tree.proofs.Whole.{works}
@@ -37,18 +36,17 @@ use Rattle.tree_serve.specs.declared.kept.Became.TheVariants as leaf
 use Rattle.tree_serve.specs.declared.tables.GroupSpace.{GroupSpace}
 use Rattle.tree_serve.specs.InCycle.{due_at, LeavesLie}
 use Rattle.tree_serve.specs.Notes.{Note, heard, all_heard, move_noted, AreLeft}
-use Rattle.tree_serve.specs.Mail.{messages_in, lies_at, became_in, kept_in, all_kept}
-use Rattle.tree_serve.specs.Puts.{Puts, Changing, ins_at, ins_read, handed_on, woken_in, handed_to, handed_to_cells, first_leaf, group_at, IsGroupOf, space_at, passed_on, Passes}
+use Rattle.tree_serve.specs.Mail.{messages_in, kept_in, all_kept}
+use Rattle.tree_serve.specs.Puts.{Changing, ins_read, woken_in, handed_to, first_leaf, group_at, IsGroupOf, space_at, passed_on, Passes}
 use Rattle.tree_serve.specs.Ready.{CanPass}
 use Rattle.tree_serve.specs.Tabled.{IsSpaceOf, AreSpacesOf}
 use Rattle.tree_serve.specs.Holds.{AreTold, AreKept}
 use Rattle.tree_serve.proofs.KindAt.{NoCell, KindOf, kind-at}
 use Rattle.tree_serve.proofs.Leaves.{leaf-is}
 use Rattle.tree_serve.proofs.Entries.{processor-at, entry-at, children-of, leaf-of, ins-of}
-use Rattle.tree_serve.proofs.Keeping.{noted-same, noted-other, noted-length, Before, before, kept-changed, Alike, heard-alike, alike-sym, alike-both, reads-same, woken-same}
-use Rattle.tree_serve.proofs.Left.{Family, left-after-move}
-use Rattle.tree_serve.proofs.Staying.{transition-waits}
-use Rattle.tree_serve.proofs.Within.{IsLeaf, as-leaf, family, lie-on}
+use Rattle.tree_serve.proofs.Keeping.{noted-same, noted-other, noted-length, before, kept-changed, Alike, heard-alike, alike-both, reads-same, woken-same}
+use Rattle.tree_serve.proofs.Left.{left-after-move}
+use Rattle.tree_serve.proofs.Within.{as-leaf, family, lie-on}
 use Rattle.tree_serve.proofs.Went.{no-number, at-is, Went}
 
 -- ---- lists

@@ -1,5 +1,5 @@
 -- Loops over lists: what stands behind the place of a loop is still to be done.
-use Rattle.std.proofs.Common.{◌≡◌, ℕ, zero, suc, ◌+◌, ◌<◌, ◌≤◌, Bool, true, false, cond, ◌||◌, Option, Some, None, List, [], ◌∷◌, ◌++◌, map, drop, length, get_or, refl, sym, ◌∙◌, ap, subst, arith, append_assoc, append-nil, eq-eqb, ne_eqb}
+use Rattle.std.proofs.Common.{◌≡◌, ℕ, ◌+◌, ◌<◌, ◌≤◌, Bool, true, false, cond, ◌||◌, Option, Some, None, List, [], ◌∷◌, ◌++◌, map, drop, length, get_or, refl, sym, ◌∙◌, ap, arith, append_assoc, append-nil, eq-eqb, ne_eqb}
 use Rattle.std.specs.Prelude.{◌==◌}
 use Rattle.std.specs.List.{filter, flat_map, enumerate_from, list_any}
 use Rattle.std.proofs.lemmas.List.{drop_more, drop_all, map-append}
@@ -8,7 +8,7 @@ use Rattle.quantity.specs.declared.value.Value.{Value}
 use Rattle.atomic_face.specs.declared.class.PortNo.{PortNo}
 use Rattle.atomic_face.specs.Classes.{Bag}
 use Rattle.run_model.specs.CellStep.{least}
-use Rattle.run_model.specs.Cycle.{at_port, bag_of}
+use Rattle.run_model.specs.Cycle.{at_port}
 use Rattle.served_tree.specs.Service.{Stopped, Kept, at_number, answer_of, least_of, first_of}
 use Rattle.served_tree.specs.Parts.{joined, or_else}
 

@@ -1,5 +1,5 @@
 -- What the start of a cycle answers, from the parts of a run that is between two cycles.
-use Rattle.std.proofs.Common.{◌≡◌, ℕ, ◌+◌, ◌<◌, ◌≤◌, Option, Some, None, List, [], ◌∷◌, map, refl, sym, ◌∙◌, ap, subst, arith}
+use Rattle.std.proofs.Common.{◌≡◌, ℕ, ◌<◌, ◌≤◌, Option, Some, None, List, [], ◌∷◌, map, refl, sym, ◌∙◌, ap, subst}
 use Rattle.std.specs.Prelude.{◌==◌, not, if◌then◌else◌, IfSome}
 use Rattle.std.specs.List.{All, filter}
 use Rattle.std.specs.declared.result.Result.{Result}
@@ -7,7 +7,6 @@ use Rattle.std.specs.declared.result.Result.TheVariants.{Ok, Err}
 use Rattle.atomic_face.specs.Classes.{Bag, is_at}
 use Rattle.event_list.specs.Events.{Event}
 use Rattle.event_list.specs.Shown.{first_event_time}
-use Rattle.model_tree.specs.Tree.{Tree}
 use Rattle.run_model.specs.CellStep.{least}
 use Rattle.run_model.specs.Run.{RunState, next_instant}
 use Rattle.sparse_cycle.specs.Feed.{DistinctWhereOnce, TopByNumber}

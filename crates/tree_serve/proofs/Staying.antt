@@ -1,16 +1,15 @@
 -- What is known of a message that waits, of its processor and of those beside it.
-use Rattle.std.proofs.Common.{◌≡◌, ◌⊎◌, inl, inr, ℕ, zero, suc, ◌+◌, ◌<◌, ◌≤◌, Bool, true, false, Option, Some, None, List, [], ◌∷◌, map, length, remove, refl, sym, ◌∙◌, ap, subst, arith}
+use Rattle.std.proofs.Common.{◌≡◌, ◌⊎◌, inl, inr, ℕ, zero, suc, ◌<◌, ◌≤◌, Bool, Option, Some, None, List, length, remove, refl, ap, subst, arith}
 use Rattle.std.specs.Prelude.{slice_get}
-use Rattle.std.specs.Option.{is_some}
 use Rattle.std.proofs.lemmas.Bool.{cases_eq}
 use Rattle.atomic_face.specs.Classes.{Bag}
 use Rattle.served_tree.specs.Processors.{Processor}
-use Rattle.served_tree.specs.Service.{Stopped, Message, collect, output, transition, done, Kept, Instant, Service, serves}
+use Rattle.served_tree.specs.Service.{Stopped, Message, collect, output, transition, done, Instant, Service, serves}
 use Rattle.served_tree.specs.Parts.{Part}
-use Rattle.served_tree.specs.Course.{Counts, owner, message_of, kept_after, parent_in, IsChild, CausedAfter, InStep, times, WaitsAt, Stands}
+use Rattle.served_tree.specs.Course.{Counts, owner, message_of, kept_after, parent_in, IsChild, CausedAfter, InStep, WaitsAt, Stands}
 use Rattle.served_tree.proofs.Times.{each-remove}
 use Rattle.served_tree.proofs.Works.{Works}
-use Rattle.served_tree.proofs.Counting.{bump, found-in, parent-is, parent-at}
+use Rattle.served_tree.proofs.Counting.{bump, found-in, parent-at}
 use Rattle.served_tree.proofs.Stepping.{lower}
 use Rattle.served_tree.proofs.Serving.{message-served}
 

@@ -1,26 +1,25 @@
 -- A done message is served.
-use Rattle.std.proofs.Common.{◌≡◌, ◌⊎◌, inl, inr, ℕ, zero, suc, ◌+◌, ◌-◌, ◌<◌, ◌≤◌, Bool, true, false, Option, Some, None, List, [], ◌∷◌, ◌++◌, map, length, refl, sym, ◌∙◌, ap, subst, arith}
+use Rattle.std.proofs.Common.{◌≡◌, inr, ℕ, suc, ◌-◌, ◌<◌, ◌≤◌, Bool, true, false, Option, Some, None, List, [], ◌∷◌, ◌++◌, map, length, refl, sym, ◌∙◌, ap, subst, arith}
 use Rattle.std.specs.Prelude.{slice_get, if◌then◌else◌}
 use Rattle.std.specs.List.{list_all}
 use Rattle.std.specs.Option.{is_some}
 use Rattle.model_tree.specs.Tree.{Tree}
-use Rattle.run_model.specs.Cycle.{LeafState}
 use Rattle.run_model.specs.Run.{RunState}
 use Rattle.sparse_cycle.specs.Sparse.{leaf_of}
 use Rattle.run_leaves.specs.Seated.{Seated}
 use Rattle.tree_tables.specs.declared.entry.Entry.{Entry}
-use Rattle.tree_tables.specs.Stations.{leaf_of as leaf_number, station_of, stations, entry_of}
+use Rattle.tree_tables.specs.Stations.{station_of, stations, entry_of}
 use Rattle.served_tree.specs.Processors.{Processor, processors, at_processor}
 use Rattle.served_tree.specs.Service.{Stopped, Message, done, Kept, instant_of, kept_of, least_of, first_of, all_answered, keeps, causes}
 use Rattle.served_tree.specs.Parts.{parts, part_at}
-use Rattle.served_tree.specs.Course.{Counts, IsChild, parent_in, kept_after, times, Stands}
+use Rattle.served_tree.specs.Course.{Counts, IsChild, times, Stands}
 use Rattle.served_tree.specs.Orders.{IsServable}
 use Rattle.served_tree.proofs.Counting.{found-in, parent-is}
 use Rattle.served_tree.proofs.Whole.{works}
 use Rattle.tree_serve.specs.InCycle.{due_at, Lies, LeavesLie}
 use Rattle.tree_serve.specs.Notes.{Note, all_heard, answer_noted, one_less, left_at, has_given, has_answered, AreLeft}
 use Rattle.tree_serve.specs.Mail.{messages_in, parent_at, kept_in, all_kept}
-use Rattle.tree_serve.specs.Puts.{Puts, Changing, is_last, done_with, joined_answer, component_answers, answered_puts, after_answered, Answers}
+use Rattle.tree_serve.specs.Puts.{Changing, is_last, done_with, joined_answer, component_answers, answered_puts, after_answered, Answers}
 use Rattle.tree_serve.specs.Holds.{AreTold, AreKept}
 use Rattle.tree_serve.proofs.Entries.{many, processor-at, entry-at, no-processor, parent-same, children-of}
 use Rattle.tree_serve.proofs.Keeping.{noted-same, noted-other, noted-length, kept-changed, unseen, Alike, heard-alike, least-same, first-same, has-answered-same}

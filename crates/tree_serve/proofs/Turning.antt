@@ -1,15 +1,13 @@
 -- A message of a run is served: it can be, and the run is in its cycle after one message more.
-use Rattle.std.proofs.Common.{◌≡◌, ◌⊎◌, inl, inr, ℕ, ℤ, zero, suc, ◌+◌, ◌%◌, ◌<◌, ◌≤◌, Bool, Option, Some, None, List, [], ◌∷◌, ◌++◌, map, length, remove, refl, sym, ◌∙◌, ap, subst, arith}
+use Rattle.std.proofs.Common.{◌≡◌, ℕ, zero, suc, ◌%◌, ◌<◌, Bool, Option, Some, None, List, [], ◌∷◌, ◌++◌, map, length, remove, refl, sym, ◌∙◌, ap, subst, arith}
 use Rattle.std.specs.Prelude.{slice_get}
 use Rattle.std.specs.List.{All}
 use Rattle.std.specs.Option.{option_map}
 use Rattle.std.proofs.lemmas.List.{length-map}
 use Rattle.std.proofs.lemmas.Option.{slice_get-map}
-use Rattle.quantity.specs.declared.value.Value.{Value}
-use Rattle.atomic_face.specs.declared.class.PortNo.{PortNo}
 use Rattle.atomic_face.specs.Classes.{Bag}
 use Rattle.event_list.specs.Events.{Event}
-use Rattle.model_tree.specs.Tree.{Tree, Leaf, groups, leaves, ins_of}
+use Rattle.model_tree.specs.Tree.{Tree, Leaf, ins_of}
 use Rattle.run_model.specs.Cycle.{leaf_next}
 use Rattle.run_model.specs.Fitting.{FitsTree}
 use Rattle.run_model.specs.Run.{RunState, cycled_at}
@@ -18,20 +16,20 @@ use Rattle.sparse_cycle.specs.AnyOrder.{BecomesTheSame, UndueAreQuiet}
 use Rattle.flat_run.specs.declared.progress.Stop.{Stop}
 use Rattle.flat_run.specs.Standing.{next_of}
 use Rattle.flat_run.specs.Steps.{Keeps}
-use Rattle.run_leaves.specs.Seated.{Seated, ports_of, ports_at, tree_at}
+use Rattle.run_leaves.specs.Seated.{Seated, ports_of, tree_at}
 use Rattle.run_leaves.specs.Moving.{StaysAs}
 use Rattle.tree_tables.specs.declared.entry.Entry.{Entry}
 use Rattle.tree_tables.specs.Stations.{leaf_of as leaf_number, station_of, stations, entry_of}
 use Rattle.sparse_cycle.specs.Feed.{AreAtInputs}
 use Rattle.served_tree.specs.Processors.{Processor, size, processors}
-use Rattle.served_tree.specs.Service.{Message, collect, output, transition, done, Kept, Service, instant_of, keeps, causes, serves, serve}
+use Rattle.served_tree.specs.Service.{Message, collect, output, transition, done, Service, instant_of, keeps, causes, serves}
 use Rattle.served_tree.specs.Rows.{RowsBring}
 use Rattle.served_tree.specs.Order as order
 use Rattle.served_tree.specs.Order.{chosen}
 use Rattle.served_tree.specs.Parts.{parts, part_at}
 use Rattle.served_tree.specs.Course.{Counts, owner, Stands, total}
 use Rattle.served_tree.specs.Orders.{IsServable}
-use Rattle.served_tree.proofs.Counting.{bump, found-in, found-within, total-bump}
+use Rattle.served_tree.proofs.Counting.{bump, found-in, total-bump}
 use Rattle.served_tree.proofs.Through.{serve-is}
 use Rattle.served_tree.proofs.Placing.{size-is}
 use Rattle.served_tree.proofs.Whole.{works}
@@ -39,17 +37,17 @@ use Rattle.tree_serve.specs.declared.message.Message as code
 use Rattle.tree_serve.specs.declared.message.Served.{Served}
 use Rattle.tree_serve.specs.declared.mail.Mail.{Mail}
 use Rattle.tree_serve.specs.declared.tables.Tables.{Tables}
-use Rattle.tree_serve.specs.Processing.{Processing, tree_on, standing_at}
+use Rattle.tree_serve.specs.Processing.{Processing, tree_on}
 use Rattle.tree_serve.specs.InCycle.{due_at, Lies, LeavesLie, InCycle}
 use Rattle.tree_serve.specs.Calls.{served_of, Serves}
 use Rattle.tree_serve.specs.Notes.{notes_of}
-use Rattle.tree_serve.specs.Mail.{message_in, messages_in, parent_at, all_kept, told_by}
-use Rattle.tree_serve.specs.Puts.{Changing, changing, AsksAt, Transits, Changes}
-use Rattle.tree_serve.specs.Ready.{CanAsk, CanTake, CanMove, CanPass, CanTransit, CanServe}
-use Rattle.tree_serve.specs.Holds.{seen_as, IsServed, AreKept, IsBegun, InService, HoldsAt, HoldsServed}
+use Rattle.tree_serve.specs.Mail.{message_in, messages_in, all_kept, told_by}
+use Rattle.tree_serve.specs.Puts.{Changing, changing, Transits, Changes}
+use Rattle.tree_serve.specs.Ready.{CanAsk, CanTransit, CanServe}
+use Rattle.tree_serve.specs.Holds.{seen_as, IsServed, AreKept, InService, HoldsAt, HoldsServed}
 use Rattle.tree_serve.proofs.Entries.{many, processor-at, leaf-of, told-same}
 use Rattle.tree_serve.proofs.Bounds.{IsBelow, takes-few}
-use Rattle.tree_serve.proofs.Staying.{collect-waits, output-waits, transition-waits, done-waits, waits, then-stands}
+use Rattle.tree_serve.proofs.Staying.{collect-waits, transition-waits, waits, then-stands}
 use Rattle.tree_serve.proofs.Within.{IsLeaf, as-leaf}
 use Rattle.tree_serve.proofs.Went.{Went}
 use Rattle.tree_serve.proofs.Asked.{asked-went}

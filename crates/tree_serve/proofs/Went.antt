@@ -1,22 +1,20 @@
 -- What one served message makes of a cycle, and what it leaves of other processors.
-use Rattle.std.proofs.Common.{◌≡◌, ◌⊎◌, inl, inr, ℕ, zero, suc, ◌+◌, ◌<◌, ◌≤◌, true, false, Option, Some, None, List, [], ◌∷◌, ◌++◌, map, length, refl, sym, ◌∙◌, ap, arith}
+use Rattle.std.proofs.Common.{◌≡◌, inl, inr, ℕ, zero, suc, ◌<◌, ◌≤◌, true, false, Option, Some, None, List, map, length, refl, sym, ◌∙◌, ap, arith}
 use Rattle.std.specs.Prelude.{slice_get, slice_set}
-use Rattle.std.proofs.lemmas.Bool.{cases_eq}
-use Rattle.std.proofs.lemmas.List.{length-set}
 use Rattle.quantity.specs.declared.value.Value.{Value}
 use Rattle.model_tree.specs.Tree.{Tree}
-use Rattle.run_model.specs.Cycle.{LeafState, Moved, stayed, moved, stopped}
+use Rattle.run_model.specs.Cycle.{LeafState, stayed}
 use Rattle.run_model.specs.Run.{RunState, computed_of}
 use Rattle.sparse_cycle.specs.Sparse.{leaf_of}
 use Rattle.tree_tables.specs.declared.entry.Entry.{Entry}
-use Rattle.tree_tables.specs.Stations.{leaf_of as leaf_number, station_of, stations, entry_of}
+use Rattle.tree_tables.specs.Stations.{leaf_of as leaf_number, stations, entry_of}
 use Rattle.served_tree.specs.Processors.{Node, coupled_node, group_node, leaf_node, Processor, processors, at_processor}
-use Rattle.served_tree.specs.Service.{Message, Kept, Service, instant_of, keeps, causes}
+use Rattle.served_tree.specs.Service.{Message, Kept, instant_of, keeps, causes}
 use Rattle.served_tree.specs.Parts.{parts, part_at}
-use Rattle.served_tree.specs.Course.{Counts, owner, kept_after, Stands}
+use Rattle.served_tree.specs.Course.{Counts, owner, kept_after}
 use Rattle.served_tree.specs.Orders.{IsServable}
 use Rattle.served_tree.proofs.Works.{is_leaf}
-use Rattle.served_tree.proofs.Counting.{bump, found-in, found-within}
+use Rattle.served_tree.proofs.Counting.{bump}
 use Rattle.tree_serve.specs.declared.kept.Became.{Became}
 use Rattle.tree_serve.specs.declared.kept.Became.TheVariants as leaf
 use Rattle.tree_serve.specs.InCycle.{LeavesLie}
@@ -24,10 +22,10 @@ use Rattle.tree_serve.specs.Notes.{Note, noted}
 use Rattle.tree_serve.specs.Mail.{lies_at, became_in, kept_in, all_kept}
 use Rattle.tree_serve.specs.Puts.{Puts, Changing}
 use Rattle.tree_serve.specs.Holds.{AreTold, AreKept}
-use Rattle.tree_serve.proofs.Choosing.{get-same, get-other}
-use Rattle.tree_serve.proofs.Entries.{many, processor-at, entry-at, leaf-of}
-use Rattle.tree_serve.proofs.Keeping.{kept-at, Before, before}
-use Rattle.tree_serve.proofs.Within.{state-at, state-is, state-beside, same-leaf}
+use Rattle.tree_serve.proofs.Choosing.{get-other}
+use Rattle.tree_serve.proofs.Entries.{processor-at, leaf-of}
+use Rattle.tree_serve.proofs.Keeping.{kept-at, before}
+use Rattle.tree_serve.proofs.Within.{state-at, state-beside, same-leaf}
 
 -- ---- nodes
 

@@ -1,29 +1,28 @@
 -- In a cycle of a model: its tables, its leaves and its processors.
-use Rattle.std.proofs.Common.{◌≡◌, ◌⊎◌, inl, inr, ℕ, zero, suc, ◌+◌, ◌<◌, ◌≤◌, Option, Some, None, List, [], ◌∷◌, map, length, get_or, set, refl, sym, ◌∙◌, ap, subst, arith}
+use Rattle.std.proofs.Common.{◌≡◌, inl, inr, ℕ, zero, suc, ◌<◌, ◌≤◌, Option, Some, None, List, [], ◌∷◌, map, length, get_or, set, refl, sym, ◌∙◌, ap, subst, arith}
 use Rattle.std.specs.Prelude.{slice_get, slice_set}
 use Rattle.std.proofs.lemmas.Bool.{cases_eq}
-use Rattle.std.proofs.lemmas.List.{length-set}
 use Rattle.std.proofs.lemmas.Option.{slice_get-get_or, get_or_from_slice_get}
-use Rattle.model_tree.specs.Tree.{Tree, Leaf, leaf_count, leaves}
-use Rattle.run_model.specs.Cycle.{LeafState, leaf_next, Moved}
+use Rattle.model_tree.specs.Tree.{Tree, Leaf, leaves}
+use Rattle.run_model.specs.Cycle.{LeafState}
 use Rattle.run_model.specs.Run.{RunState}
 use Rattle.sparse_cycle.specs.Sparse.{leaf_of, no_leaf}
 use Rattle.tree_tables.specs.declared.entry.Entry.{Entry}
-use Rattle.tree_tables.specs.Stations.{leaf_of as leaf_number, station_of, stations, entry_of}
-use Rattle.served_tree.specs.Processors.{Node, leaf_node, Processor, processors}
+use Rattle.tree_tables.specs.Stations.{leaf_of as leaf_number, stations, entry_of}
+use Rattle.served_tree.specs.Processors.{leaf_node, Processor, processors}
 use Rattle.served_tree.specs.Service.{Instant, instant_of}
 use Rattle.served_tree.specs.Parts.{Part, parts, part_at}
-use Rattle.served_tree.specs.Course.{Counts, IsChild, parent_in, times}
+use Rattle.served_tree.specs.Course.{Counts, IsChild, times}
 use Rattle.served_tree.specs.Orders.{IsServable}
-use Rattle.served_tree.proofs.Works.{Placed, Works}
-use Rattle.served_tree.proofs.Counting.{bump, bump-same, bump-other, found-in, found-within}
+use Rattle.served_tree.proofs.Works.{Works}
+use Rattle.served_tree.proofs.Counting.{bump, bump-same, bump-other, found-within}
 use Rattle.served_tree.proofs.Stepping.{once}
 use Rattle.served_tree.proofs.Finishing.{leaves-many}
 use Rattle.served_tree.proofs.Whole.{works}
 use Rattle.tree_serve.specs.InCycle.{due_at, Lies, LeavesLie}
 use Rattle.tree_serve.specs.Mail.{parent_at}
-use Rattle.tree_serve.proofs.Leaves.{leaf_in, leaf-is, one-processor, processor-of}
-use Rattle.tree_serve.proofs.Entries.{many, processor-at, entry-at, parent-same, children-of, leaf-of, leaf-node, pair-leaf, pair-node}
+use Rattle.tree_serve.proofs.Leaves.{leaf-is, one-processor, processor-of}
+use Rattle.tree_serve.proofs.Entries.{many, processor-at, parent-same, children-of, leaf-node, pair-leaf, pair-node}
 use Rattle.tree_serve.proofs.Left.{Family}
 
 -- ---- lists of states

@@ -12,7 +12,7 @@ use Rattle.sparse_cycle.specs.Feed.{AreAtInputs}
 use Rattle.sparse_cycle.specs.Sparse.{leaf_of}
 use Rattle.flat_run.specs.declared.progress.Stop.{Stop}
 use Rattle.flat_run.specs.Holds.{AreCounts}
-use Rattle.run_leaves.specs.Seated.{Seated, tree_at}
+use Rattle.run_leaves.specs.Seated.{Seated}
 use Rattle.tree_tables.specs.declared.entry.Entry.{Entry}
 use Rattle.served_tree.specs.Linked.{HasPorts}
 use Rattle.tree_serve.specs.declared.kept.Became.TheVariants.{Moved}

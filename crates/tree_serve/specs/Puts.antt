@@ -10,7 +10,7 @@ use Rattle.model_tree.specs.declared.leaves.LeafAt.{LeafAt}
 use Rattle.model_tree.specs.declared.leaves.LeafAt.TheVariants.{Atomic, Cell}
 use Rattle.model_tree.specs.Tree.{leaves}
 use Rattle.model_tree.specs.Leaves.{IsPlaceOf}
-use Rattle.run_model.specs.Cycle.{LeafState, leaf_next, leaf_emitted, collected_of, has_values, Moved, stayed, moved, stopped}
+use Rattle.run_model.specs.Cycle.{LeafState, leaf_next, leaf_emitted, collected_of, has_values, Moved, moved, stopped}
 use Rattle.run_model.specs.Run.{computed_of}
 use Rattle.sparse_cycle.specs.Sparse.{leaf_of, move_to}
 use Rattle.run_leaves.specs.Seated.{Seated, tree_at}

@@ -1,5 +1,5 @@
 -- Private: what has to hold where a message is served, so that it can be.
-use Rattle.std.specs.Prelude.{◌≡◌, ℕ, ◌<◌, ◌≤◌, Bool, Option, Some, None, List, length, slice_get, IfSome}
+use Rattle.std.specs.Prelude.{◌≡◌, ℕ, ◌<◌, ◌≤◌, Option, Some, None, List, length, slice_get, IfSome}
 use Rattle.std.specs.List.{All}
 use Rattle.quantity.specs.declared.bounds.TheConstants.{MAX_DELAY}
 use Rattle.quantity.specs.declared.value.Value.{Value}

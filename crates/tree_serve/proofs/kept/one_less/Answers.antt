@@ -1,4 +1,4 @@
-use Rattle.std.proofs.Common.{◌≡◌, ◌-◌, length, refl, sym, ap}
+use Rattle.std.proofs.Common.{◌≡◌, ◌-◌, length, refl, ap}
 use Rattle.std.proofs.lemmas.Option.{slice_get_read}
 use Rattle.tree_serve.specs.declared.kept.Kept.{Kept}
 use Rattle.tree_serve.specs.Notes.{note_of}

@@ -1,4 +1,4 @@
-use Rattle.std.proofs.Common.{[], ◌∷◌, ◌+◌, List, map, drop, refl}
+use Rattle.std.proofs.Common.{◌+◌, List, map, drop, refl}
 use Rattle.tree_tables.specs.declared.entry.Ref.{Ref}
 use Rattle.std.specs.List.{flat_map}
 use Rattle.run_model.specs.Cycle.{at_port}

@@ -1,7 +1,5 @@
 use Rattle.std.proofs.Common.{[], ◌∷◌, ◌++◌, false, get_or, refl, ◌∙◌, ap}
-use Rattle.std.proofs.lemmas.List.{map-append}
 use Rattle.served_tree.specs.Service.{transition}
-use Rattle.tree_serve.specs.declared.kept.Kept.{Kept}
 use Rattle.tree_serve.specs.Notes.{notes_of}
 use Rattle.tree_serve.specs.Mail.{messages_in}
 use Rattle.tree_serve.specs.Puts.{ins_read, handed_on}

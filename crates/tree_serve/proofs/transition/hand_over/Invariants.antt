@@ -1,4 +1,4 @@
-use Rattle.std.proofs.Common.{◌≡◌, ◌++◌, map, drop}
+use Rattle.std.proofs.Common.{◌≡◌, ◌++◌, drop}
 use Rattle.tree_serve.specs.Notes.{notes_of}
 use Rattle.tree_serve.specs.Mail.{messages_in}
 use Rattle.tree_serve.specs.Puts.{handed_on}

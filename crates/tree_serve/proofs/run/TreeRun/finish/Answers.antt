@@ -1,5 +1,4 @@
-use Rattle.std.proofs.Common.{◌≡◌, ◌+◌, ◌∙◌, Ok, Err, ap, sym, subst}
-use Rattle.flat_run.specs.declared.progress.Stop.{Stop}
+use Rattle.std.proofs.Common.{◌+◌, ◌∙◌, Ok, Err, ap, sym}
 use Rattle.tree_serve.specs.Notes.{notes_of}
 use Rattle.tree_serve.specs.Recorded.{EndsBy, stop_in}
 use Rattle.tree_serve.proofs.FinishSteps.{cycle-finishes, cycle-holds, stop-finishes}
