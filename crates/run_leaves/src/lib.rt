@@ -5,6 +5,7 @@ mod blocks;
 mod boxes;
 mod cells;
 pub mod leaves;
+mod names;
 mod start;
 pub mod watchers;
 
