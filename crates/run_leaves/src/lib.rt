@@ -14,6 +14,7 @@ mod blocks;
 mod boxes;
 mod cells;
 pub mod leaves;
+mod names;
 mod start;
 pub mod watchers;
 
