@@ -4,6 +4,7 @@
 mod blocks;
 mod boxes;
 mod cells;
+mod gathered;
 pub mod leaves;
 mod start;
 pub mod watchers;
