@@ -13,6 +13,7 @@
 mod blocks;
 mod boxes;
 mod cells;
+mod gathered;
 pub mod leaves;
 mod names;
 mod start;
