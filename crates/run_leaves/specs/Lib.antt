@@ -3,4 +3,5 @@ pub mod Moving
 pub mod Watching
 pub mod Saved
 pub mod Placed
+pub mod Grouped
 pub mod Waiting

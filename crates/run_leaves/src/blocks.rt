@@ -5,6 +5,7 @@ ghost use Rattle.std.specs.List.{All};
 ghost use Rattle.model_tree.specs.Stands.{group_of};
 ghost use Rattle.model_tree.specs.Leaves.{AtLeaf, IsLeafOf, OfTree};
 ghost use Rattle.sparse_cycle.specs.Collect.{is_among};
+ghost use Rattle.run_leaves.specs.Grouped.{AreGroupsOf};
 ghost use Rattle.run_leaves.specs.Watching.{watches_in, end_of, block_of, IsSeatOf, AreSeated};
 
 use cell_reach::Reach;
@@ -26,10 +27,12 @@ pub(crate) struct Block {
 pub(crate) fn seat_at(
     alloc: Global,
     model: &Tree,
+    groups: &[&CellGroup],
     leaf: u32,
     seats: &[Option<u32>],
     blocks: &mut Vec<Block>,
 ) -> Result<Option<u32>, OutOfMemory>
+    requires groups { AreGroupsOf model.now groups.now }
     requires leaf { IsLeafOf model.now leaf }
     requires long { length seats.now ≡ leaf }
     requires few { length blocks.old.items ≤ leaf }
@@ -43,7 +46,7 @@ pub(crate) fn seat_at(
         LeafAt::Atomic(_) => Ok(None),
         LeafAt::Cell { group, cell } => {
             if cell == 0 {
-                let number = begin(alloc, leaf, model.group(group), blocks)?;
+                let number = begin(alloc, leaf, groups[group as usize], blocks)?;
                 return Ok(Some(number));
             }
             Ok(seats[leaf as usize - 1])

@@ -11,9 +11,9 @@ ghost use Rattle.model_tree.specs.Sound.{is_sound_group};
 ghost use Rattle.run_model.specs.CellStep.{cell_next, cell_emitted, cell_output};
 ghost use Rattle.cell_engine.specs.Layout.{StandsFor};
 ghost use Rattle.cell_table.specs.Told.{cell_at, bag_of_given, if_given, OnlyCell};
-ghost use Rattle.cell_engine.specs.Cells.{with_cell, computed_at};
+ghost use Rattle.cell_engine.specs.Cells.{with_cell, computed_at, Computes};
 ghost use Rattle.run_leaves.specs.Seated.{HasPort};
-ghost use Rattle.run_leaves.specs.Moving.{MovesCell, leaf_stop};
+ghost use Rattle.run_leaves.specs.Moving.{AreNamesFor, MovesCell, leaf_stop};
 
 use atomic_face::PortNo;
 use cell_engine::{CellStop, CellStore, Computed, Given, Steps};
@@ -75,7 +75,8 @@ fn append_one(
     Ok(())
 }
 
-/// A cell after its emission moves: its computed value and its next time.
+/// A cell after its emission moves: its computed value and its next time. The names of its ports
+/// are those that its bag needs.
 pub(crate) fn move_cell<L: Ledger>(
     store: &mut CellStore,
     cell: u32,
@@ -90,16 +91,45 @@ pub(crate) fn move_cell<L: Ledger>(
     requires time { t ≤ MAX_DELAY }
     requires ports { All (λ (o : AnyPort × AnyValue). o.0.0 < length ports.now) bag.now }
     ensures moves { (g : Group) → StandsFor g store.old.layout → IsTrue (is_sound_group g)
-        → ports.now ≡ cell_ports g cell
+        → AreNamesFor bag.now ports.now (cell_ports g cell)
         → MovesCell store.old.cells store.new.cells cell
         (computed_at t g store.old.cells cell woken bag.now) result }
     ensures layout { store.new.layout ≡ store.old.layout }
     ensures only { OnlyCell cell store.old.cells store.new.cells }
     ensures steps { steps.new ≤ steps.old + (length store.old.layout.offsets + 2) }
 {
-    match store.compute(cell, t, woken, bag, ports, steps) {
+    match step_cell(store, cell, t, woken, bag, ports, steps) {
         Ok(()) => Ok(told_of(store.computed(cell, steps))),
         Err(why) => Err(stop_of_leaf(why)),
+    }
+}
+
+/// The step of a cell after its emission; without a bag its ports have no part in it.
+#[inline(always)]
+fn step_cell<L: Ledger>(
+    store: &mut CellStore,
+    cell: u32,
+    t: Time,
+    woken: bool,
+    bag: &[(PortNo, Value)],
+    ports: &[Name],
+    steps: &mut Steps<L>,
+) -> Result<(), CellStop>
+    requires within { cell < length store.old.cells }
+    requires time { t ≤ MAX_DELAY }
+    requires ports { All (λ (o : AnyPort × AnyValue). o.0.0 < length ports.now) bag.now }
+    ensures computed { (g : Group) → StandsFor g store.old.layout → IsTrue (is_sound_group g)
+        → AreNamesFor bag.now ports.now (cell_ports g cell)
+        → Computes cell store.old.cells store.new.cells
+        (computed_at t g store.old.cells cell woken bag.now) result }
+    ensures layout { store.new.layout ≡ store.old.layout }
+    ensures only { OnlyCell cell store.old.cells store.new.cells }
+    ensures steps { steps.new ≡ steps.old + (1 + length store.old.layout.offsets) }
+{
+    if bag.is_empty() {
+        store.compute_alone(cell, t, woken, steps)
+    } else {
+        store.compute(cell, t, woken, bag, ports, steps)
     }
 }
 

@@ -13,7 +13,9 @@
 mod blocks;
 mod boxes;
 mod cells;
+mod gathered;
 pub mod leaves;
+mod names;
 mod start;
 pub mod watchers;
 

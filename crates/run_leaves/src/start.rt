@@ -1,10 +1,8 @@
 // What the leaves of a run start with.
-ghost use Rattle.std.specs.Prelude.{◌≡◌, ◌<◌, ◌++◌, [], ◌∷◌, length, IfOk, OnOk};
-ghost use Rattle.model_tree.specs.Tree.{groups};
-ghost use Rattle.model_tree.specs.Models.{tree_of};
-ghost use Rattle.model_tree.specs.Leaves.{no_settings};
-ghost use Rattle.run_leaves.specs.Placed.{ArePlacesOf, IsStoreOf, AreStoresOf, HasSoundGroups};
+ghost use Rattle.std.specs.Prelude.{◌≡◌, ◌++◌, [], ◌∷◌, IfOk, OnOk};
+ghost use Rattle.run_leaves.specs.Placed.{ArePlacesOf, AreStoresOf, HasSoundGroups};
 
+use crate::gathered::groups_of;
 use cell_engine::CellStore;
 use model_tree::{LeafAt, Model as Tree};
 use quantity::OutOfMemory;
@@ -34,22 +32,13 @@ pub(crate) fn stores_of(alloc: Global, model: &Tree) -> Result<Vec<CellStore>, O
     requires { HasSoundGroups model.now }
     ensures { IfOk result (λ stores. AreStoresOf model.now stores.items) }
 {
-    let count = model.groups();
-    let mut stores = Vec::with_capacity(alloc, count as usize)?;
-    for number in 0..count {
-        let store = store_of(alloc, model, number)?;
+    let groups = groups_of(alloc, model)?;
+    let mut stores = Vec::with_capacity(alloc, groups.len())?;
+    for group in &groups {
+        let store = CellStore::new(alloc, group)?;
         add_store(&mut stores, store)?;
     }
     Ok(stores)
-}
-
-/// A store for the group of this number.
-fn store_of(alloc: Global, model: &Tree, number: u32) -> Result<CellStore, OutOfMemory>
-    requires sound { HasSoundGroups model.now }
-    requires number { number < length (groups (tree_of model.now no_settings)) }
-    ensures { IfOk result (λ store. IsStoreOf model.now number store) }
-{
-    CellStore::new(alloc, model.group(number))
 }
 
 fn add_store(stores: &mut Vec<CellStore>, store: CellStore) -> Result<(), OutOfMemory>

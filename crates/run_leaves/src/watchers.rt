@@ -3,6 +3,7 @@ ghost use Rattle.std.specs.Prelude.{◌≡◌, ◌++◌, [], ◌∷◌, IfOk, On
 ghost use Rattle.model_tree.specs.Leaves.{OfTree};
 
 use crate::blocks::{Block, seat_at};
+use crate::gathered::groups_of;
 use cycle_steps::wake::Watched;
 use model_tree::Model as Tree;
 use quantity::OutOfMemory;
@@ -37,10 +38,11 @@ impl Watchers {
     pub fn new(alloc: Global, model: &Tree) -> Result<Watchers, OutOfMemory>
         ensures { IfOk result (λ w. OfTree model.now (λ tree. IsWatchingOf tree w)) }
     {
+        let groups = groups_of(alloc, model)?;
         let mut seats = Vec::new(alloc);
         let mut blocks = Vec::new(alloc);
         for leaf in 0..model.leaves() {
-            let seat = seat_at(alloc, model, leaf, &seats, &mut blocks)?;
+            let seat = seat_at(alloc, model, &groups, leaf, &seats, &mut blocks)?;
             add_seat(&mut seats, seat)?;
         }
         Ok(Watchers { seats, blocks })

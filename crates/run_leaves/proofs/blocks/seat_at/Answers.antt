@@ -7,30 +7,38 @@ use Rattle.model_tree.specs.Leaves.{no_settings}
 use Rattle.model_tree.proofs.Read.{leaf-there}
 use Rattle.run_leaves.specs.declared.blocks.Block.{Block}
 use Rattle.run_leaves.specs.Watching.{block_of, IsSeatOf, AreSeated}
+use Rattle.run_leaves.proofs.Grouping.{as-many, group-at}
 use Rattle.run_leaves.proofs.Seats.{seated-begun, box-seat, group-within, some-before, first-seat, next-seat}
 use Rattle.run_leaves.proofs.blocks.seat_at.Goals as goal
 
-pub group-requires : goal.group-requires
-group-requires c =
+pub bounds-groups-group : goal.bounds-groups-group
+bounds-groups-group c =
     let m = c.args.model.now in
+    let gs = groups (tree_of m no_settings) in
     let there = leaf-there m c.args.leaf c.requires.leaf in
-    group-within (groups (tree_of m no_settings)) c.in-Cell.group c.in-Cell.cell there.0 (c.in-Cell.ensures no_settings there.0 there.1)
+    let within = group-within gs c.in-Cell.group c.in-Cell.cell there.0 (c.in-Cell.ensures no_settings there.0 there.1) in
+    let many = as-many c.args.groups.now gs (c.requires.groups no_settings) in
+    omega (arith, within, many)
 
 pub returns-then-cell-eq0-clause-seated : goal.returns-then-cell-eq0-clause-seated
 returns-then-cell-eq0-clause-seated c = λ settings.
     let t = tree_of c.args.model.now settings in
     subst (λ (bs : List Block). AreSeated t c.args.seats.now bs) (sym c.in_ok-number-in-Cell.ensures.begun)
-    (seated-begun t c.args.seats.now c.args.blocks.now.items (block_of (group_of c.group.result.now) c.args.leaf) (c.requires.seated settings))
+    (seated-begun t c.args.seats.now c.args.blocks.now.items (block_of (group_of c.index-groups-group.result.now) c.args.leaf) (c.requires.seated settings))
 
 pub returns-then-cell-eq0-clause-seat : goal.returns-then-cell-eq0-clause-seat
 returns-then-cell-eq0-clause-seat c = λ settings l is.
     let t = tree_of c.args.model.now settings in
     let gs = groups t in
     let blocks = c.args.blocks.now.items in
-    let h = group_of c.group.result.now in
+    let group = c.index-groups-group.result in
+    let h = group_of group.now in
+    let within = group-within gs c.in-Cell.group c.in-Cell.cell l (c.in-Cell.ensures settings l is) in
+    let many = as-many c.args.groups.now gs (c.requires.groups settings) in
+    let there = group-at c.args.groups.now gs c.in-Cell.group group (c.requires.groups settings) (omega (arith, within, many)) c.index-groups-group.is in
     subst (λ (bs : List Block). IsSeatOf bs l (Some c.in_ok-number-in-Cell.number)) (sym c.in_ok-number-in-Cell.ensures.begun)
     (subst (λ (n : ℕ). IsSeatOf (blocks ++ block_of h c.args.leaf ∷ []) l (Some n)) (sym c.in_ok-number-in-Cell.ensures.number)
-    (first-seat t (slice_get gs c.in-Cell.group) h c.in-Cell.cell c.args.leaf blocks l is (c.in-Cell.ensures settings l is) (c.group.ensures settings) c.if-cell-eq0.true))
+    (first-seat t (slice_get gs c.in-Cell.group) h c.in-Cell.cell c.args.leaf blocks l is (c.in-Cell.ensures settings l is) there c.if-cell-eq0.true))
 
 pub overflow_sub-result : goal.overflow_sub-result
 overflow_sub-result c =

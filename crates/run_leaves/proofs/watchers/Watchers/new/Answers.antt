@@ -1,7 +1,8 @@
-use Rattle.std.proofs.Common.{◌≡◌, ◌+◌, Option, List, [], ◌∷◌, length, ℕ, sym, subst, arith, length-append}
+use Rattle.std.proofs.Common.{◌≡◌, ◌+◌, Option, List, [], ◌∷◌, length, ℕ, ap, ◌∙◌, sym, subst, arith, length-append}
 use Rattle.model_tree.specs.Tree.{leaf_count}
 use Rattle.model_tree.specs.Models.{tree_of}
 use Rattle.model_tree.specs.Leaves.{no_settings, OfTree}
+use Rattle.run_leaves.specs.Grouped.{groups_shown}
 use Rattle.run_leaves.specs.Watching.{AreSeated}
 use Rattle.run_leaves.proofs.Seats.{seated-more}
 use Rattle.run_leaves.proofs.WhoWatches.{is-watching, stand-in-blocks}
@@ -31,7 +32,7 @@ loop-leaf-preserved c =
     let long = c.loop-leaf.invariant.long in
     let longer = length-append seats (seat ∷ []) in
     let seated : OfTree m (λ tree. AreSeated tree seats blocks) =
-    subst (λ (all : List (Option ℕ)). OfTree m (λ tree. AreSeated tree all blocks)) c.deref.ensures.value c.in_ok-seat.ensures.seated
+    subst (λ (all : List (Option ℕ)). OfTree m (λ tree. AreSeated tree all blocks)) c.deref-in-loop-leaf.ensures.value c.in_ok-seat.ensures.seated
     in
     let here = c.in_ok-seat.ensures.seat in
     record {
@@ -41,3 +42,6 @@ loop-leaf-preserved c =
           subst (λ (all : List (Option ℕ)). AreSeated (tree_of m settings) all blocks) (sym c.in_ok-add_seat.ensures)
           (seated-more (tree_of m settings) seats blocks n seat long (seated settings) (here settings));
     }
+
+pub seat_at-requires-clause-groups : goal.seat_at-requires-clause-groups
+seat_at-requires-clause-groups c = λ settings. ap groups_shown c.deref.ensures.value ∙ c.in_ok-groups.ensures settings
