@@ -53,9 +53,10 @@ pub(crate) fn run<R: Room, M: AtomicModel, L: Ledger>(
     ensures leaves { (s : Started) → StandsAt start.entry.asked (standing_in start.entry.run) s
         → RunLeaves s (R.outside room.old) (R.outside room.new) steps.old steps.new result }
 {
-    match start.run {
-        Way::Flat(flat) => run_to_end(alloc, room, start.asked, start.drawn, flat, steps),
-        Way::Served(served) => run_to_end(alloc, room, start.asked, start.drawn, served, steps),
+    let Start { asked, drawn, run } = start;
+    match run {
+        Way::Flat(flat) => run_to_end(alloc, room, asked, drawn, flat, steps),
+        Way::Served(served) => run_to_end(alloc, room, asked, drawn, served, steps),
     }
 }
 
