@@ -20,37 +20,37 @@ use Rattle.cdpp_top.proofs.state.read_state.Goals as goal
 pub read_flat_state-requires : goal.read_flat_state-requires
 read_flat_state-requires g c = subst (λ (w : Way Standing OrderedRun). MayGoOn (standing_in w)) c.in-Flat.is c.requires.may_go_on
 
-pub returns-in-Flat-Ok-clause-reads : goal.returns-in-Flat-Ok-clause-reads
-returns-in-Flat-Ok-clause-reads g c =
+pub returns-in-Ok-clause-reads : goal.returns-in-Ok-clause-reads
+returns-in-Ok-clause-reads g c =
     let old = g.R.Room.outside c.args.room.now in
     let new = g.R.Room.outside c.read_flat_state.new.room in
-    subst (λ (w : Way Standing OrderedRun). IfSome old.files (λ files. ReadsState (text_of_name c.args.name) (standing_in w) c.args.end files old new (Ok c.in-Flat-Ok.loaded))) (sym c.in-Flat.is) c.in-Flat-Ok.ensures.reads
+    subst (λ (w : Way Standing OrderedRun). IfSome old.files (λ files. ReadsState (text_of_name c.args.name) (standing_in w) c.args.end files old new (Ok c.in-Ok.loaded))) (sym c.in-Flat.is) c.in-Ok.ensures.reads
 
-pub returns-in-Flat-Ok-clause-causes : goal.returns-in-Flat-Ok-clause-causes
-returns-in-Flat-Ok-clause-causes g c = c.in-Flat-Ok.ensures.causes
+pub returns-in-Ok-clause-causes : goal.returns-in-Ok-clause-causes
+returns-in-Ok-clause-causes g c = c.in-Ok.ensures.causes
 
-pub returns-in-Flat-Ok-clause-only : goal.returns-in-Flat-Ok-clause-only
-returns-in-Flat-Ok-clause-only g c = c.in-Flat-Ok.ensures.only
+pub returns-in-Ok-clause-only : goal.returns-in-Ok-clause-only
+returns-in-Ok-clause-only g c = c.in-Ok.ensures.only
 
-pub returns-in-Flat-Ok-clause-goes_on : goal.returns-in-Flat-Ok-clause-goes_on
-returns-in-Flat-Ok-clause-goes_on g c =
-    subst (λ (w : Way Standing OrderedRun). IsResumed (text_of_name c.args.name) (standing_in w) c.args.end c.in-Flat-Ok.loaded) (sym c.in-Flat.is) c.in-Flat-Ok.ensures.goes_on
+pub returns-in-Ok-clause-goes_on : goal.returns-in-Ok-clause-goes_on
+returns-in-Ok-clause-goes_on g c =
+    subst (λ (w : Way Standing OrderedRun). IsResumed (text_of_name c.args.name) (standing_in w) c.args.end c.in-Ok.loaded) (sym c.in-Flat.is) c.in-Ok.ensures.goes_on
 
-pub returns-in-Flat-Ok-clause-marked : goal.returns-in-Flat-Ok-clause-marked
-returns-in-Flat-Ok-clause-marked g c =
+pub returns-in-Ok-clause-marked : goal.returns-in-Ok-clause-marked
+returns-in-Ok-clause-marked g c =
     subst (λ (w : Way Standing OrderedRun). None ≡ marking_in w) (sym c.in-Flat.is) refl
 
-pub returns-in-Flat-Err-clause-reads : goal.returns-in-Flat-Err-clause-reads
-returns-in-Flat-Err-clause-reads g c =
+pub returns-in-Err-clause-reads : goal.returns-in-Err-clause-reads
+returns-in-Err-clause-reads g c =
     let old = g.R.Room.outside c.args.room.now in
     let new = g.R.Room.outside c.read_flat_state.new.room in
-    subst (λ (w : Way Standing OrderedRun). IfSome old.files (λ files. ReadsState (text_of_name c.args.name) (standing_in w) c.args.end files old new (Err c.in-Flat-Err.why))) (sym c.in-Flat.is) c.in-Flat-Err.ensures.reads
+    subst (λ (w : Way Standing OrderedRun). IfSome old.files (λ files. ReadsState (text_of_name c.args.name) (standing_in w) c.args.end files old new (Err c.in-Err.why))) (sym c.in-Flat.is) c.in-Err.ensures.reads
 
-pub returns-in-Flat-Err-clause-causes : goal.returns-in-Flat-Err-clause-causes
-returns-in-Flat-Err-clause-causes g c = c.in-Flat-Err.ensures.causes
+pub returns-in-Err-clause-causes : goal.returns-in-Err-clause-causes
+returns-in-Err-clause-causes g c = c.in-Err.ensures.causes
 
-pub returns-in-Flat-Err-clause-only : goal.returns-in-Flat-Err-clause-only
-returns-in-Flat-Err-clause-only g c = c.in-Flat-Err.ensures.only
+pub returns-in-Err-clause-only : goal.returns-in-Err-clause-only
+returns-in-Err-clause-only g c = c.in-Err.ensures.only
 
 -- ---- a run that is served in an order
 
