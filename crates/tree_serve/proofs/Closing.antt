@@ -230,7 +230,7 @@ module _ (each : EachServes) (leaves : Seated) (tables : Tables) (events : List 
 
   -- ---- a stop, and no memory
 
-  module _ {U : Type 0} (why : Halt) (stop_is_made : Stop) (is_of : stop_is_made ≡ stop_of_halt t why) (mail' : Mail)
+  module _ (why : Halt) (stop_is_made : Stop) (is_of : stop_is_made ≡ stop_of_halt t why) (mail' : Mail)
       (old records : Records) (empty : AreEmpty records) where
     abbrev stood : Processing
     stood = seen_as leaves tables events end limit last count (Some stop_is_made) due None inputs mail'
@@ -238,25 +238,25 @@ module _ (each : EachServes) (leaves : Seated) (tables : Tables) (events : List 
     keeps-on : (s : RunState) → Keeps (standing_at p s) stood.standing
     keeps-on s = record { model = refl; settings = refl; end = refl; limit = refl }
 
-    by-first : (first : Stopped) → stop_in notes ≡ first → EndsBy {U = U} t tables.entries.items notes first (Err why) old
+    by-first : (U : Type 0) (first : Stopped) → stop_in notes ≡ first → EndsBy {U = U} t tables.entries.items notes first (Err why) old
         → FinishesBy p (Err stop_is_made) stood records
-    by-first None is ends s t2 cycle =
+    by-first U None is ends s t2 cycle =
         let made : stop_is_made ≡ Memory = is_of ∙ ap (stop_of_halt t) ends in
         subst (λ (w : Stop). Steps (standing_at p s) (Err w) stood.standing records) (sym made) (keeps-on s, ap Some made, empty)
-    by-first (Some f) is ends s t2 cycle =
+    by-first U (Some f) is ends s t2 cycle =
         let made : stop_is_made ≡ stop_of_halt t (halt.Stopped f.0 f.1) = is_of ∙ ap (stop_of_halt t) ends in
         subst (λ (w : Stop). Steps (standing_at p s) (Err w) stood.standing records) (sym made)
         (stops-by (standing_at p s) f.0 t f.1 stood.standing records
         (next-so s (at-once s t2 cycle) ∙ ap (λ o. unless_stop t o (cycle_by t tables.entries.items notes) (state_after t s (of_leaves (λ k. k.became) (instant_of tree t s) kept))) is)
         empty (keeps-on s) (ap Some made))
 
-    pub finishes-stopped : EndsBy {U = U} t tables.entries.items notes (stop_in notes) (Err why) old
+    pub finishes-stopped : (U : Type 0) → EndsBy {U = U} t tables.entries.items notes (stop_in notes) (Err why) old
         → FinishesBy p (Err stop_is_made) stood records
-    finishes-stopped ends = by-first (stop_in notes) refl ends
+    finishes-stopped U ends = by-first U (stop_in notes) refl ends
 
   -- the records tell of the cycle only where no leaf stopped
-  pub no-stop : {U : Type 0} (u : U) (records : Records) (first : Stopped)
+  pub no-stop : (U : Type 0) (u : U) (records : Records) (first : Stopped)
       → EndsBy {U = U} t tables.entries.items notes first (Ok u) records
       → (first ≡ None) × Holds records (cycle_by t tables.entries.items notes)
-  no-stop u records None ends = (refl, ends)
-  no-stop u records (Some f) ends = absurd ends
+  no-stop U u records None ends = (refl, ends)
+  no-stop U u records (Some f) ends = absurd ends

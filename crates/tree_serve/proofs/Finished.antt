@@ -14,7 +14,7 @@ use Rattle.sparse_cycle.specs.Sparse.{leaf_of}
 use Rattle.tree_tables.specs.declared.entry.Entry.{Entry}
 use Rattle.tree_tables.specs.Stations.{Station, leaf_of as leaf_number, station_of, stations, entry_of}
 use Rattle.served_tree.specs.Processors.{Node, coupled_node, group_node, leaf_node, Processor, size, processors}
-use Rattle.served_tree.specs.Service.{Stopped, Kept, Service, Instant, instant_of, kept_of, gave_of, answer_of, leaf_done, transition_from, done, of_leaf, of_leaves, out_record, kept_cycle}
+use Rattle.served_tree.specs.Service.{Message, Stopped, Kept, Service, Instant, instant_of, kept_of, gave_of, answer_of, leaf_done, transition_from, done, of_leaf, of_leaves, out_record, kept_cycle}
 use Rattle.served_tree.specs.Parts.{Part, parts, part_at}
 use Rattle.served_tree.specs.Course.{Counts, kept_after, Stands, total}
 use Rattle.served_tree.specs.Orders.{IsServable, IsOnItsWay}
@@ -214,7 +214,7 @@ chosen-flat h (x ∷ xs) =
 
 module _ (tree : Tree) (t : ℕ) (s : RunState) (servable : IsServable tree s.leaf_states)
     (entries : List Entry) (are : map entry_of entries ≡ stations tree) (states : List LeafState)
-    (due : List (Option ℕ)) (notes : List Note) (ws : List _)
+    (due : List (Option ℕ)) (notes : List Note) (ws : List Message)
     (way : IsOnItsWay tree t s (4 * size tree) (record { waiting = ws; kept = all_kept states entries notes }))
     (lie : LeavesLie tree t s way.0 states due) (held : AreKept states entries notes)
     (long : length states ≡ length s.leaf_states) (due_long : length due ≡ length s.leaf_states) where
@@ -245,13 +245,16 @@ module _ (tree : Tree) (t : ℕ) (s : RunState) (servable : IsServable tree s.le
   long-pt : length (parts tree t s) ≡ size tree
   long-pt = parts-many (instant_of tree t s) (collected t s.leaf_states) tree 0 (at_top tree t s.events)
 
-  full : _
+  full : (ws ≡ []) × (length (all_kept states entries notes) ≡ length (processors tree))
+      × ((n : ℕ) → n < length (processors tree) → slice_get (all_kept states entries notes) n ≡ Some (kept_after (part_at (parts tree t s) n) 4))
   full =
       full-through (instant_of tree t s) (part_at (parts tree t s)) (works tree t s servable) way.0 (record { waiting = ws; kept = all_kept states entries notes }) way.1
       (ap (total way.0) long-ps ∙ way.2 ∙ ap (λ n. 4 * n) (sym long-ps))
 
   four : (n : ℕ) → n < length (processors tree) → way.0 n ≡ 4
-  four n lt = all-served (instant_of tree t s) (part_at (parts tree t s)) (works tree t s servable) way.0 (record { waiting = ws; kept = all_kept states entries notes }) way.1 full.0 n lt
+  four n lt =
+      all-served (instant_of tree t s) (part_at (parts tree t s)) (works tree t s servable) way.0
+      (record { waiting = ws; kept = all_kept states entries notes }) way.1 full.0 n lt
 
   kept-last : all_kept states entries notes ≡ map kept_last (parts tree t s)
   kept-last =

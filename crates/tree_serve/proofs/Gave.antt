@@ -138,7 +138,7 @@ module _ (tree : Tree) (t : ℕ) (s : RunState) (servable : IsServable tree s.le
     after-long : length (after_given entries n gave) ≡ length entries
     after-long = by (slice_get entries (parent_at entries n))
       where
-        by : (o : Option Entry) → length (elim o [ None ↦ gave | Some x ↦ component_gave (parent_at entries n) x gave ]) ≡ length entries
+        by : (o : Option Entry) → length {A = Note} (elim o [ None ↦ gave | Some x ↦ component_gave (parent_at entries n) x gave ]) ≡ length entries
         by None = gave-long
         by (Some x) = child-long (parent_at entries n) x (is_last gave (parent_at entries n))
 

@@ -7,7 +7,6 @@ use Rattle.std.specs.Ordering.{is_lt, nat_cmp}
 use Rattle.std.proofs.lemmas.Bool.{cases_eq, cases_lt}
 use Rattle.std.proofs.lemmas.Bool.Decides.{nat_tests}
 use Rattle.std.proofs.lemmas.List.{map-append}
-use Rattle.std.proofs.lemmas.List.Elements.{All-from_recursion, recursion_from_All}
 use Rattle.std.proofs.lemmas.Option.{unwrap_or-slice_get}
 use Rattle.quantity.specs.declared.value.Value.{Value}
 use Rattle.quantity.specs.declared.value.Value.TheVariants.{Undefined}
@@ -59,14 +58,15 @@ all-behind a (v ∷ vs) h =
 split-first : (a : ℕ) (vs : List Input) → Rises input_of vs → From input_of a vs
     → vs ≡ of_input a vs ++ behind a vs
 split-first a [] r h = refl
-split-first a (v ∷ vs) r h = by (cases_eq v.0 a)
+split-first a (v ∷ vs) r h = by (cases_eq v.0 a) (λ from. split-first a vs r.1 from)
   where
-    by : (v.0 ≡ a) ⊎ (v.0 ≡ a → ⊥) → v ∷ vs ≡ of_input a (v ∷ vs) ++ behind a (v ∷ vs)
-    by (inl e) =
+    by : (v.0 ≡ a) ⊎ (v.0 ≡ a → ⊥) → (From input_of a vs → vs ≡ of_input a vs ++ behind a vs)
+        → v ∷ vs ≡ of_input a (v ∷ vs) ++ behind a (v ∷ vs)
+    by (inl e) go =
         let rest : From input_of a vs = less a v.0 vs (omega (arith, e)) r.0 in
-        ap (λ l. v ∷ l) (split-first a vs r.1 rest)
+        ap (λ l. v ∷ l) (go rest)
         ∙ (λ i. sym (kept-first (λ w. input_of w == a) v vs (eq-eqb v.0 a e)) i ++ sym (left-first (λ w. not (input_of w == a)) v vs (ap not (eq-eqb v.0 a e))) i)
-    by (inr ne) =
+    by (inr ne) go =
         let first = h.0 in
         let all : From input_of (suc a) (v ∷ vs) = (let lt : suc a ≤ v.0 = omega (arith, first, ne) in lt, less (suc a) v.0 vs (omega (arith, first, ne)) r.0) in
         λ i. sym (none-of a (v ∷ vs) all) i ++ sym (all-behind a (v ∷ vs) all) i
@@ -74,36 +74,39 @@ split-first a (v ∷ vs) r h = by (cases_eq v.0 a)
 -- what is left out leaves the others as they were
 from-behind : (a : ℕ) (vs : List Input) → From input_of a vs → From input_of (suc a) (behind a vs)
 from-behind a [] h = tt
-from-behind a (v ∷ vs) h = by (cases_eq v.0 a)
+from-behind a (v ∷ vs) h = by (cases_eq v.0 a) (from-behind a vs h.1)
   where
-    by : (v.0 ≡ a) ⊎ (v.0 ≡ a → ⊥) → From input_of (suc a) (behind a (v ∷ vs))
-    by (inl e) =
+    by : (v.0 ≡ a) ⊎ (v.0 ≡ a → ⊥) → From input_of (suc a) (behind a vs)
+        → From input_of (suc a) (behind a (v ∷ vs))
+    by (inl e) rest =
         subst (From input_of (suc a)) (sym (left-first (λ w. not (input_of w == a)) v vs (ap not (eq-eqb v.0 a e))))
-        (from-behind a vs h.1)
-    by (inr ne) =
+        rest
+    by (inr ne) rest =
         let first = h.0 in
         subst (From input_of (suc a)) (sym (kept-first (λ w. not (input_of w == a)) v vs (ap not (ne_eqb v.0 a ne))))
-        (let lt : suc a ≤ v.0 = omega (arith, first, ne) in lt, from-behind a vs h.1)
+        (let lt : suc a ≤ v.0 = omega (arith, first, ne) in lt, rest)
 
 from-kept : (t a : ℕ) (vs : List Input) → From input_of t vs → From input_of t (behind a vs)
 from-kept t a [] h = tt
-from-kept t a (v ∷ vs) h = by (cases_eq v.0 a)
+from-kept t a (v ∷ vs) h = by (cases_eq v.0 a) (from-kept t a vs h.1)
   where
-    by : (v.0 ≡ a) ⊎ (v.0 ≡ a → ⊥) → From input_of t (behind a (v ∷ vs))
-    by (inl e) =
-        subst (From input_of t) (sym (left-first (λ w. not (input_of w == a)) v vs (ap not (eq-eqb v.0 a e)))) (from-kept t a vs h.1)
-    by (inr ne) =
-        subst (From input_of t) (sym (kept-first (λ w. not (input_of w == a)) v vs (ap not (ne_eqb v.0 a ne)))) (h.0, from-kept t a vs h.1)
+    by : (v.0 ≡ a) ⊎ (v.0 ≡ a → ⊥) → From input_of t (behind a vs)
+        → From input_of t (behind a (v ∷ vs))
+    by (inl e) rest =
+        subst (From input_of t) (sym (left-first (λ w. not (input_of w == a)) v vs (ap not (eq-eqb v.0 a e)))) rest
+    by (inr ne) rest =
+        subst (From input_of t) (sym (kept-first (λ w. not (input_of w == a)) v vs (ap not (ne_eqb v.0 a ne)))) (h.0, rest)
 
 rises-kept : (a : ℕ) (vs : List Input) → Rises input_of vs → Rises input_of (behind a vs)
 rises-kept a [] r = tt
-rises-kept a (v ∷ vs) r = by (cases_eq v.0 a)
+rises-kept a (v ∷ vs) r = by (cases_eq v.0 a) (rises-kept a vs r.1)
   where
-    by : (v.0 ≡ a) ⊎ (v.0 ≡ a → ⊥) → Rises input_of (behind a (v ∷ vs))
-    by (inl e) =
-        subst (Rises input_of) (sym (left-first (λ w. not (input_of w == a)) v vs (ap not (eq-eqb v.0 a e)))) (rises-kept a vs r.1)
-    by (inr ne) =
-        subst (Rises input_of) (sym (kept-first (λ w. not (input_of w == a)) v vs (ap not (ne_eqb v.0 a ne)))) (from-kept v.0 a vs r.0, rises-kept a vs r.1)
+    by : (v.0 ≡ a) ⊎ (v.0 ≡ a → ⊥) → Rises input_of (behind a vs)
+        → Rises input_of (behind a (v ∷ vs))
+    by (inl e) rest =
+        subst (Rises input_of) (sym (left-first (λ w. not (input_of w == a)) v vs (ap not (eq-eqb v.0 a e)))) rest
+    by (inr ne) rest =
+        subst (Rises input_of) (sym (kept-first (λ w. not (input_of w == a)) v vs (ap not (ne_eqb v.0 a ne)))) (from-kept v.0 a vs r.0, rest)
 
 abbrev Below : ℕ → List Input → Type 0
 Below most [] = Unit {0}
@@ -111,43 +114,46 @@ Below most (v ∷ vs) = (v.0 < most) × Below most vs
 
 below-kept : (most a : ℕ) (vs : List Input) → Below most vs → Below most (behind a vs)
 below-kept most a [] h = tt
-below-kept most a (v ∷ vs) h = by (cases_eq v.0 a)
+below-kept most a (v ∷ vs) h = by (cases_eq v.0 a) (below-kept most a vs h.1)
   where
-    by : (v.0 ≡ a) ⊎ (v.0 ≡ a → ⊥) → Below most (behind a (v ∷ vs))
-    by (inl e) =
-        subst (Below most) (sym (left-first (λ w. not (input_of w == a)) v vs (ap not (eq-eqb v.0 a e)))) (below-kept most a vs h.1)
-    by (inr ne) =
-        subst (Below most) (sym (kept-first (λ w. not (input_of w == a)) v vs (ap not (ne_eqb v.0 a ne)))) (h.0, below-kept most a vs h.1)
+    by : (v.0 ≡ a) ⊎ (v.0 ≡ a → ⊥) → Below most (behind a vs)
+        → Below most (behind a (v ∷ vs))
+    by (inl e) rest =
+        subst (Below most) (sym (left-first (λ w. not (input_of w == a)) v vs (ap not (eq-eqb v.0 a e)))) rest
+    by (inr ne) rest =
+        subst (Below most) (sym (kept-first (λ w. not (input_of w == a)) v vs (ap not (ne_eqb v.0 a ne)))) (h.0, rest)
 
 same-behind : (k a : ℕ) (vs : List Input) → (k ≡ a → ⊥) → of_input k (behind a vs) ≡ of_input k vs
 same-behind k a [] apart = refl
-same-behind k a (v ∷ vs) apart = by (cases_eq v.0 a)
+same-behind k a (v ∷ vs) apart = by (cases_eq v.0 a) (same-behind k a vs apart)
   where
-    by : (v.0 ≡ a) ⊎ (v.0 ≡ a → ⊥) → of_input k (behind a (v ∷ vs)) ≡ of_input k (v ∷ vs)
-    by (inl e) =
+    by : (v.0 ≡ a) ⊎ (v.0 ≡ a → ⊥) → of_input k (behind a vs) ≡ of_input k vs
+        → of_input k (behind a (v ∷ vs)) ≡ of_input k (v ∷ vs)
+    by (inl e) rest =
         ap (of_input k) (left-first (λ w. not (input_of w == a)) v vs (ap not (eq-eqb v.0 a e)))
-        ∙ same-behind k a vs apart
+        ∙ rest
         ∙ sym (left-first (λ w. input_of w == k) v vs (ne_eqb v.0 k (λ f. apart (sym f ∙ e))))
-    by (inr ne) =
+    by (inr ne) rest =
         ap (of_input k) (kept-first (λ w. not (input_of w == a)) v vs (ap not (ne_eqb v.0 a ne)))
-        ∙ ap (λ l. cond (v.0 == k) (v ∷ l) l) (same-behind k a vs apart)
+        ∙ ap (λ l. cond (v.0 == k) (v ∷ l) l) rest
 
 -- ---- as a bag
 
 at-one : (a : ℕ) (vs : List Input)
     → map at_input (of_input a vs) ≡ at_port (a, map (λ (v : Input). v.1) (of_input a vs))
 at-one a [] = refl
-at-one a (v ∷ vs) = by (cases_eq v.0 a)
+at-one a (v ∷ vs) = by (cases_eq v.0 a) (at-one a vs)
   where
     by : (v.0 ≡ a) ⊎ (v.0 ≡ a → ⊥)
+        → map at_input (of_input a vs) ≡ at_port (a, map (λ (w : Input). w.1) (of_input a vs))
         → map at_input (of_input a (v ∷ vs)) ≡ at_port (a, map (λ (w : Input). w.1) (of_input a (v ∷ vs)))
-    by (inl e) =
+    by (inl e) rest =
         ap (map at_input) (kept-first (λ w. input_of w == a) v vs (eq-eqb v.0 a e))
-        ∙ (λ i. (record { 0 = e i }, v.1) ∷ at-one a vs i)
+        ∙ (λ i. (record { 0 = e i }, v.1) ∷ rest i)
         ∙ ap (λ l. at_port (a, map (λ (w : Input). w.1) l)) (sym (kept-first (λ w. input_of w == a) v vs (eq-eqb v.0 a e)))
-    by (inr ne) =
+    by (inr ne) rest =
         ap (map at_input) (left-first (λ w. input_of w == a) v vs (ne_eqb v.0 a ne))
-        ∙ at-one a vs
+        ∙ rest
         ∙ ap (λ l. at_port (a, map (λ (w : Input). w.1) l)) (sym (left-first (λ w. input_of w == a) v vs (ne_eqb v.0 a ne)))
 
 over-range : {X : Type 0} (f g : ℕ → X) (a n : ℕ) → ((k : ℕ) → a ≤ k → f k ≡ g k)
@@ -215,15 +221,14 @@ sorted-bag old new count sorts below =
 
 inputs-below : (t count : ℕ) (es : List Event) → All (λ (e : Event). e.port < count) es
     → Below count (inputs_at t es)
-inputs-below t count es h = by es (recursion_from_All (λ (e : Event). e.port < count) es h)
+inputs-below t count [] h = tt
+inputs-below t count (e ∷ es) h =
+    one (e.time == t) (h 0 e (omega arith)) (inputs-below t count es (λ k d lt. h (suc k) d (omega (arith, lt))))
   where
-    by : (es : List Event) → _ → Below count (inputs_at t es)
-    by [] h = tt
-    by (e ∷ es) h = one (e.time == t)
-      where
-        one : (b : Bool) → Below count (map (λ (x : Event). (x.port, x.value)) (cond b (e ∷ filter (λ (x : Event). x.time == t) es) (filter (λ (x : Event). x.time == t) es)))
-        one true = (h.0, by es h.1)
-        one false = by es h.1
+    one : (b : Bool) → e.port < count → Below count (inputs_at t es)
+        → Below count (map (λ (x : Event). (x.port, x.value)) (cond b (e ∷ filter (λ (x : Event). x.time == t) es) (filter (λ (x : Event). x.time == t) es)))
+    one true here rest = (here, rest)
+    one false here rest = rest
 
 -- what code takes is what the events put at the inputs
 pub taken-inputs : (t : ℕ) (es : List Event) (new : List Input) → SortsByInput (inputs_at t es) new

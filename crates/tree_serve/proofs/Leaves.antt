@@ -57,7 +57,7 @@ module _ (tree : Tree) where
   pairs = pairs-in tree 0 (size tree) 0
 
   numbered : (k : ℕ) (o : Option Leaf) (l : ℕ) (leaf : Leaf)
-      → option_map (λ x. (0 + k, x)) o ≡ Some (l, leaf) → (o ≡ Some leaf) × (l ≡ k)
+      → option_map {U = ℕ × Leaf} (λ x. (0 + k, x)) o ≡ Some (l, leaf) → (o ≡ Some leaf) × (l ≡ k)
   numbered k None l leaf is = absurd cc
   numbered k (Some x) l leaf is =
       let p : ◌≡◌ {A = ℕ × Leaf} (0 + k, x) (l, leaf) = cc in

@@ -34,13 +34,15 @@ lacking-same f g (n ∷ ns) each =
 lacking-less : (f g : ℕ → Bool) (x : ℕ) (ns : List ℕ) → times x ns ≡ 1 → f x ≡ false → g x ≡ true
     → ((m : ℕ) → (m ≡ x → ⊥) → f m ≡ g m) → lacking f ns ≡ suc (lacking g ns)
 lacking-less f g x [] once off on others = absurd (omega (arith, once))
-lacking-less f g x (n ∷ ns) once off on others = by (cases_eq n x)
+lacking-less f g x (n ∷ ns) once off on others =
+    by (cases_eq n x) (λ one. lacking-less f g x ns one off on others)
   where
     none : times x ns ≡ 0 → (m : ℕ) → 1 ≤ times m ns → f m ≡ g m
     none zero-times m le = others m (λ e. let h : times m ns ≡ times x ns = ap (λ k. times k ns) e in omega (arith, h, zero-times, le))
 
-    by : (n ≡ x) ⊎ (n ≡ x → ⊥) → lacking f (n ∷ ns) ≡ suc (lacking g (n ∷ ns))
-    by (inl e) =
+    by : (n ≡ x) ⊎ (n ≡ x → ⊥) → (times x ns ≡ 1 → lacking f ns ≡ suc (lacking g ns))
+        → lacking f (n ∷ ns) ≡ suc (lacking g (n ∷ ns))
+    by (inl e) go =
         let one = one_if-same x n e in
         let rest = lacking-same f g ns (none (omega (arith, once, one))) in
         let fn : f n ≡ false = ap f e ∙ off in
@@ -48,9 +50,9 @@ lacking-less f g x (n ∷ ns) once off on others = by (cases_eq n x)
         let a : lacking f (n ∷ ns) ≡ 1 + lacking f ns = ap (λ b. (if b then 0 else 1) + lacking f ns) fn in
         let c : lacking g (n ∷ ns) ≡ 0 + lacking g ns = ap (λ b. (if b then 0 else 1) + lacking g ns) gn in
         omega (arith, a, c, rest)
-    by (inr ne) =
+    by (inr ne) go =
         let one = one_if-other x n ne in
-        let rest = lacking-less f g x ns (omega (arith, once, one)) off on others in
+        let rest = go (omega (arith, once, one)) in
         let same = by-test (f n) (g n) (lacking f ns) (suc (lacking g ns)) (others n ne) rest in
         let c : lacking g (n ∷ ns) ≡ (if g n then 0 else 1) + lacking g ns = refl in
         omega (arith, same, c)
@@ -71,7 +73,7 @@ none-lacks f [] = refl
 none-lacks f (n ∷ ns) = all-if (f n) (list_all f ns) (lacking f ns) (none-lacks f ns)
 
 -- all lack it
-lacking-all : (f : ℕ → Bool) (ns : List ℕ) → ((m : ℕ) → 1 ≤ times m ns → f m ≡ false)
+pub lacking-all : (f : ℕ → Bool) (ns : List ℕ) → ((m : ℕ) → 1 ≤ times m ns → f m ≡ false)
     → lacking f ns ≡ length ns
 lacking-all f [] each = refl
 lacking-all f (n ∷ ns) each =

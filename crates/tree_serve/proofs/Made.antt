@@ -21,9 +21,23 @@ use Rattle.run_leaves.proofs.AtStart.{initial-wait}
 use Rattle.served_tree.specs.Linked.{HasPorts}
 use Rattle.tree_serve.specs.declared.mail.Mail.{Mail}
 use Rattle.tree_serve.specs.declared.tables.Tables.{Tables}
-use Rattle.tree_serve.specs.Processing.{Processing, tree_on}
+use Rattle.tree_tables.specs.declared.entry.Entry.{Entry}
+use Rattle.tree_serve.specs.Processing.{Processing, no_service, tree_on}
+use Rattle.tree_serve.specs.Notes.{notes_of}
+use Rattle.tree_serve.specs.Mail.{messages_in, all_kept, service_of}
 use Rattle.tree_serve.specs.Tabled.{AreTables}
 use Rattle.tree_serve.specs.Holds.{seen_as, HoldsServed}
+use Rattle.tree_serve.proofs.Keeping.{none-kept}
+
+-- nothing waits, and nothing is kept
+pub no-service-yet : (states : List LeafState) (entries : List Entry) (mail : Mail)
+    → mail.waiting ≡ [] → mail.kept.items ≡ []
+    → service_of entries states mail ≡ no_service
+no-service-yet states entries mail waits kept =
+    λ i. record {
+      waiting = messages_in (waits i);
+      kept = (ap (λ ks. all_kept states entries (notes_of ks)) kept ∙ none-kept states entries) i;
+    }
 
 -- the top of a model is a coupled component
 model-ports : (m : Model) (settings : List (List ℤ)) → HasPorts (tree_at m settings)

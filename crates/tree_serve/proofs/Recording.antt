@@ -1,24 +1,31 @@
 -- The records of a cycle, processor by processor.
 use Rattle.std.proofs.Common.{◌≡◌, ℕ, zero, suc, ◌+◌, ◌<◌, ◌≤◌, Bool, true, false, Option, Some, None, List, [], ◌∷◌, ◌++◌, map, drop, length, get_or, refl, sym, ◌∙◌, ap, subst, arith, append_assoc, append-nil}
 use Rattle.std.specs.Prelude.{◌==◌, if◌then◌else◌}
+use Rattle.std.specs.declared.result.Result.{Result}
+use Rattle.std.specs.declared.result.Result.TheVariants.{Ok, Err}
 use Rattle.std.specs.List.{filter}
 use Rattle.std.proofs.lemmas.List.{drop_all, map-append}
 use Rattle.std.proofs.lemmas.List.Elements.{filter-append}
 use Rattle.quantity.specs.declared.value.Value.{Value}
+use Rattle.rule_tree.specs.declared.outcome.RuleStop.{RuleStop}
+use Rattle.cycle_steps.specs.declared.halt.Halt.{Halt}
+use Rattle.cycle_steps.specs.declared.halt.Halt.TheVariants.{Stopped as stopped_leaf, Memory}
 use Rattle.atomic_face.specs.declared.class.PortNo.{PortNo}
 use Rattle.atomic_face.specs.Classes.{Bag}
 use Rattle.run_model.specs.Run.{PortRecord, StateRecord, Cycle, port_records, is_of_out}
 use Rattle.record_text.specs.declared.records.Records.{Records}
 use Rattle.record_text.specs.Held.{Holds, AreEmpty, y_at, x_at, s_at, out_at}
 use Rattle.tree_tables.specs.declared.entry.Entry.{Entry}
-use Rattle.served_tree.specs.Service.{gave_of, out_record}
+use Rattle.served_tree.specs.Service.{Stopped, gave_of, out_record}
+use Rattle.tree_serve.specs.declared.kept.Became.{Became}
+use Rattle.tree_serve.specs.declared.kept.Became.TheVariants as leaf
 use Rattle.tree_serve.specs.Notes.{Note, all_heard}
-use Rattle.tree_serve.specs.Recorded.{given_records, taken_records, move_records, of_leaf_at, by_leaf, is_further, cycle_by, Adds}
+use Rattle.tree_serve.specs.Recorded.{given_records, taken_records, move_records, of_leaf_at, by_leaf, is_further, cycle_by, Adds, move_record, EndsBy}
 use Rattle.tree_serve.proofs.Rest.{rest-at, kept-first, left-first}
 
 -- ---- one leaf's
 
-abbrev record_at : ℕ → PortNo × Value → PortRecord
+abbrev pub record_at : ℕ → PortNo × Value → PortRecord
 record_at l o = record { leaf = l; port = o.0.0; value = o.1 }
 
 -- at its port `out`, or not
@@ -50,6 +57,40 @@ pub ports-first : (t l : ℕ) (p : PortRecord → Bool) (x : PortNo × Value) (r
 ports-first t l p x rest =
     ap (map (y_at t)) (filter-append p (record_at l x ∷ []) (port_records (l, rest)))
     ∙ map-append (y_at t) (filter p (record_at l x ∷ [])) (filter p (port_records (l, rest)))
+
+-- a processor that is no leaf adds nothing
+pub adds-none : (t : ℕ) (records : Records) → Adds t [] [] [] records records
+adds-none t records =
+    record {
+      y = sym (append-nil records.y.items);
+      n = sym (append-nil records.n.items);
+      x = sym (append-nil records.x.items);
+      s = sym (append-nil records.s.items);
+      out = refl;
+    }
+
+-- one that hasn't moved
+pub not-moved : (l : ℕ) (b : Became) (next : Option ℕ) → ((value : Option Value) → b ≡ leaf.Moved value → ⊥)
+    → move_record l b next ≡ []
+not-moved l leaf.Stayed next is = refl
+not-moved l (leaf.Moved value) next is = absurd (is value refl)
+not-moved l (leaf.Stopped why) next is = refl
+
+-- ---- the end of a cycle
+
+-- a leaf stopped
+pub ends-stopped : (U : Type 0) (t : ℕ) (es : List Entry) (ks : List Note) (stop : Stopped) (l : ℕ)
+    (why : RuleStop) (records : Records) → stop ≡ Some (l, why)
+    → EndsBy {U = U} t es ks stop (Err (stopped_leaf l why)) records
+ends-stopped U t es ks stop l why records is =
+    subst (λ s. EndsBy {U = U} t es ks s (Err (stopped_leaf l why)) records) (sym is) refl
+
+-- none did
+pub ends-so : {U : Type 0} (t : ℕ) (es : List Entry) (ks : List Note) (stop : Stopped)
+    (result : Result U Halt) (records : Records) → stop ≡ None
+    → EndsBy t es ks None result records → EndsBy t es ks stop result records
+ends-so t es ks stop result records is ends =
+    subst (λ s. EndsBy t es ks s result records) (sym is) ends
 
 -- ---- all leaves'
 

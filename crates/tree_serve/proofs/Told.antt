@@ -121,7 +121,7 @@ module _ (tree : Tree) (t : ℕ) (s : RunState) (servable : IsServable tree s.le
     after-long : length (after_answered entries n told) ≡ length entries
     after-long = by (slice_get entries (parent_at entries n))
       where
-        by : (o : Option Entry) → length (elim o [ None ↦ told | Some x ↦ one_less (parent_at entries n) told ]) ≡ length entries
+        by : (o : Option Entry) → length {A = Note} (elim o [ None ↦ told | Some x ↦ one_less (parent_at entries n) told ]) ≡ length entries
         by None = told-long
         by (Some x) = less-long (parent_at entries n)
 

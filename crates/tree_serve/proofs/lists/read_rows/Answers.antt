@@ -1,8 +1,9 @@
-use Rattle.std.proofs.Common.{◌≡◌, ◌+◌, ◌++◌, map, drop, refl, ap, ◌∙◌, arith}
+use Rattle.std.proofs.Common.{◌≡◌, ◌+◌, ◌++◌, List, map, drop, refl, ap, ◌∙◌, arith}
 use Rattle.std.proofs.lemmas.Grind.{common_steps}
 use Rattle.std.specs.List.{flat_map, enumerate_from}
 use Rattle.run_model.specs.Cycle.{at_port}
-use Rattle.tree_tables.specs.Stations.{row_of}
+use Rattle.tree_tables.specs.declared.entry.Ref.{Ref}
+use Rattle.tree_tables.specs.Stations.{ref_of, row_of}
 use Rattle.served_tree.specs.Rows.{read, read_rows}
 use Rattle.tree_serve.specs.Notes.{notes_of, all_heard}
 use Rattle.tree_serve.proofs.Rest.{further, all-made, rows-first}
@@ -18,7 +19,7 @@ loop-i-preserved c =
     let number : c.in_ok-port.port ≡ c.loop-i.i = grind (arith, common_steps) in
     let row = c.index-rows-i.result in
     let rest = drop (i + 1) c.args.rows.now in
-    let more : c.read_row.new.into.items ≡ c.loop-i.values.items ++ at_port (c.in_ok-port.port, flat_map reads (row_of row)) = c.in_ok-read_row.ensures in
+    let more : c.read_row.new.into.items ≡ c.loop-i.values.items ++ at_port (c.in_ok-port.port, flat_map reads (row_of row)) = c.in_ok-read_row.ensures ∙ ap (λ (r : List Ref). c.loop-i.values.items ++ at_port (c.in_ok-port.port, flat_map reads (map ref_of r))) c.deref.ensures.value in
     further (λ rows. flat_map at_port (enumerate_from i (map (flat_map reads) (map row_of rows)))) (λ rows. flat_map at_port (enumerate_from (i + 1) (map (flat_map reads) (map row_of rows)))) c.args.rows.now i row row c.loop-i-test.true c.index-rows-i.is
     (at_port (i, flat_map reads (row_of row)))
     (rows-first i (flat_map reads (row_of row)) (map (flat_map reads) (map row_of rest)))
