@@ -39,7 +39,10 @@ const ROWS: [Row<'static>; 5] = [
         words: "cdpp -m m.ma -t 00:00:00:300 -l log.txt -d f.txt -g Life -w 2",
         status: 0,
         complained: "",
-        made: &[("log.txt", models::LIFE_LOG), ("f.txt", models::LIFE_FRAMES)],
+        made: &[
+            ("log.txt", models::LIFE_LOG),
+            ("f.txt", models::LIFE_FRAMES),
+        ],
         shown: [
             "end 00:00:00:300 cycles 4\n",
             "end 00:00:00:300 cycles 4 mark 988104\n",
