@@ -1,5 +1,5 @@
 // The cells of a group, and what one step makes of a cell.
-ghost use Rattle.std.specs.Prelude.{◌≡◌, ℕ, ◌+◌, ◌<◌, ◌≤◌, [], ◌∷◌, length, map, OnOk, OnErr, IfOk, IsTrue, Ok, Some, slice_get, slice_index_or};
+ghost use Rattle.std.specs.Prelude.{◌≡◌, ℕ, ◌+◌, ◌<◌, ◌≤◌, [], ◌∷◌, ◌++◌, length, map, OnOk, OnErr, IfOk, IsTrue, Ok, Some, slice_get, slice_index_or};
 ghost use Rattle.std.specs.List.{All};
 ghost use Rattle.quantity.specs.declared.bounds.TheConstants.{MAX_CELLS, MAX_DELAY};
 ghost use Rattle.quantity.specs.declared.value.Value.{Value as AnyValue};
@@ -119,6 +119,27 @@ impl CellStore {
     {
         steps.tick();
         self.table.emit(i, t)
+    }
+
+    /// The same, appended to a bag. Where memory is refused the cell has given too.
+    #[inline(always)]
+    pub fn emit_into<L: Ledger>(
+        &mut self,
+        i: u32,
+        t: Time,
+        into: &mut Vec<(PortNo, Value)>,
+        steps: &mut Steps<L>,
+    ) -> Result<(), OutOfMemory>
+        requires within { i < length self.old.cells }
+        requires due { cell_next (cell_at self.old.cells i) ≡ Some t }
+        ensures given { OnOk result (into.new.items
+            ≡ into.old.items ++ cell_output t (cell_at self.old.cells i)) }
+        ensures cells { self.new ≡ with_cell self.old i
+            (cell_emitted t (cell_at self.old.cells i)) }
+        ensures steps { steps.new ≡ steps.old + 1 }
+    {
+        steps.tick();
+        self.table.emit_into(i, t, into)
     }
 
     /// A cell after its emission moves: where it is woken its rules are evaluated over what the

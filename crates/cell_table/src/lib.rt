@@ -10,6 +10,7 @@
 #![tactic(auto)]
 
 pub mod cell;
+pub mod give;
 mod save;
 pub mod state;
 pub mod table;

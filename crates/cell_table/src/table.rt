@@ -438,15 +438,9 @@ fn undefined(alloc: Global, n: usize) -> Result<Vec<Value>, OutOfMemory>
 
 /// A list for each value, which waits there for 0.
 fn waiting(alloc: Global, values: &[Value]) -> Result<Delays, OutOfMemory>
-    requires { length values.now ≤ 4194304 }
     ensures { IfOk result (λ delays. delays.lists ≡ map waits_at_0 values.now) }
 {
-    let mut delays = Delays::new(alloc, values.len() as u32)?;
-    delays.reserve(values.len())?;
-    for (port, value) in values.iter().enumerate() {
-        delays.transport(port as u32, start(), *value)?;
-    }
-    Ok(delays)
+    Delays::all_at(alloc, start(), values)
 }
 
 /// The time 0.

@@ -1,5 +1,5 @@
 // What one cell gives, and how it moves.
-ghost use Rattle.std.specs.Prelude.{◌≡◌, ℕ, ◌+◌, ◌<◌, ◌≤◌, ◌++◌, Some, [], ◌∷◌, length, OnOk, OnErr, IsTrue, slice_index_or};
+ghost use Rattle.std.specs.Prelude.{◌≡◌, ℕ, ◌+◌, ◌<◌, ◌≤◌, ◌++◌, Some, [], ◌∷◌, length, OnOk, OnErr, IsTrue};
 ghost use Rattle.std.specs.List.{All};
 ghost use Rattle.quantity.specs.declared.bounds.TheConstants.{MAX_DELAY};
 ghost use Rattle.quantity.specs.declared.value.Value.{Value as AnyValue};
@@ -10,13 +10,13 @@ ghost use Rattle.model_tree.specs.Pull.{cell_ports};
 ghost use Rattle.model_tree.specs.Sound.{is_sound_group};
 ghost use Rattle.run_model.specs.CellStep.{cell_next, cell_emitted, cell_output};
 ghost use Rattle.cell_engine.specs.Layout.{StandsFor};
-ghost use Rattle.cell_table.specs.Told.{cell_at, bag_of_given, if_given, OnlyCell};
+ghost use Rattle.cell_table.specs.Told.{cell_at, OnlyCell};
 ghost use Rattle.cell_engine.specs.Cells.{with_cell, computed_at, Computes};
 ghost use Rattle.run_leaves.specs.Seated.{HasPort};
 ghost use Rattle.run_leaves.specs.Moving.{AreNamesFor, MovesCell, leaf_stop};
 
 use atomic_face::PortNo;
-use cell_engine::{CellStop, CellStore, Computed, Given, Steps};
+use cell_engine::{CellStop, CellStore, Computed, Steps};
 use cycle_steps::halt::{LeafStop, Told};
 use quantity::{Name, OutOfMemory, Time, Value};
 use rule_tree::RuleStop;
@@ -40,36 +40,8 @@ pub(crate) fn give_of_cell<L: Ledger>(
         ≡ with_cell store.old cell (cell_emitted t (cell_at store.old.cells cell)) }
     ensures steps { steps.new ≡ steps.old + 1 }
 {
-    let given = store.emit(cell, t, steps);
-    let Ok(()) = append_given(given, into) else {
+    let Ok(()) = store.emit_into(cell, t, into, steps) else {
         into.clear();
-        return Err(OutOfMemory);
-    };
-    Ok(())
-}
-
-/// Appends what is given port by port.
-fn append_given(given: Given, into: &mut Vec<(PortNo, Value)>) -> Result<(), OutOfMemory>
-    ensures { OnOk result (into.new.items ≡ into.old.items ++ bag_of_given given) }
-{
-    for port in 0..4u16 {
-        append_one(port, given.values[usize::from(port)], into)?;
-    }
-    Ok(())
-}
-
-/// Appends a value at a port, where there is one.
-fn append_one(
-    port: u16,
-    value: Option<Value>,
-    into: &mut Vec<(PortNo, Value)>,
-) -> Result<(), OutOfMemory>
-    ensures { OnOk result (into.new.items ≡ into.old.items ++ if_given (port, value)) }
-{
-    let Some(value) = value else {
-        return Ok(());
-    };
-    let Ok(()) = into.push((PortNo(port), value)) else {
         return Err(OutOfMemory);
     };
     Ok(())

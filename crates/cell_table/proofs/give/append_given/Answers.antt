@@ -3,7 +3,7 @@ use Rattle.std.specs.List.{flat_map, enumerate_from}
 use Rattle.quantity.specs.declared.value.Value.{Value}
 use Rattle.atomic_face.specs.Classes.{Bag}
 use Rattle.cell_table.specs.Told.{if_given}
-use Rattle.run_leaves.proofs.cells.append_given.Goals as goal
+use Rattle.cell_table.proofs.give.append_given.Goals as goal
 
 -- what is given from this port on is what it gives, and then what is given from the next on
 from-port : (vs : List (Option Value)) (k : ℕ) (d : Option Value) → k < length vs

@@ -1,7 +1,7 @@
 use Rattle.std.proofs.Common.{◌≡◌, ◌++◌, drop}
 use Rattle.std.specs.List.{flat_map, enumerate_from}
 use Rattle.cell_table.specs.Told.{if_given, bag_of_given}
-use Rattle.run_leaves.proofs.cells.append_given.Given as goal
+use Rattle.cell_table.proofs.give.append_given.Given as goal
 
 abbrev pub invariant-loop-port : goal.invariant-loop-port
 invariant-loop-port l =
