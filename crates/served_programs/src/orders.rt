@@ -94,15 +94,6 @@ fn are_made(rt: &impl Abort, room: &MemoryRoom, row: &Row<'_>) {
     }
 }
 
-/// Compares the status and both streams.
-fn stands(rt: &impl Abort, status: u8, room: &MemoryRoom, row: &Row<'_>, line: &str, shown: &str) {
-    assert_eq!(rt;
-        (status, room.shown(), room.complained()),
-        (row.status, shown.as_bytes(), row.complained.as_bytes()),
-        "{line}"
-    );
-}
-
 /// Runs these words, and those of the order behind them, in the room, and compares what is left.
 fn ends_in(
     rt: &(impl Abort + AllocGlobal),
@@ -115,7 +106,11 @@ fn ends_in(
     line.push_str(order)?;
     put_files(room, row.files)?;
     let status = run(rt.alloc(), &line, room)?;
-    stands(rt, status.number(), room, row, &line, shown);
+    assert_eq!(rt;
+        (status.number(), room.shown(), room.complained()),
+        (row.status, shown.as_bytes(), row.complained.as_bytes()),
+        "{line}"
+    );
     are_made(rt, room, row);
     Ok(())
 }

@@ -43,23 +43,6 @@ const REFUSED: [&str; 8] = [
     "cdpp -m ring.ma -t 00:00:00:000 -T 1 -R s.txt",
 ];
 
-/// Compares what was answered.
-fn stands(
-    rt: &impl Abort,
-    got: u8,
-    room: &MemoryRoom,
-    line: &str,
-    status: u8,
-    shown: &str,
-    complained: &str,
-) {
-    assert_eq!(rt;
-        (got, room.shown(), room.complained()),
-        (status, shown.as_bytes(), complained.as_bytes()),
-        "{line}"
-    );
-}
-
 /// Runs a command line in the room, and compares what is answered.
 fn answers_in(
     rt: &(impl Abort + AllocGlobal),
@@ -71,7 +54,11 @@ fn answers_in(
 ) -> Result<(), Fail> {
     put_files(room, &[("ring.ma", models::RING)])?;
     let got = run(rt.alloc(), line, room)?;
-    stands(rt, got.number(), room, line, status, shown, complained);
+    assert_eq!(rt;
+        (got.number(), room.shown(), room.complained()),
+        (status, shown.as_bytes(), complained.as_bytes()),
+        "{line}"
+    );
     Ok(())
 }
 

@@ -262,15 +262,6 @@ fn joined(alloc: Global, parts: &[(&str, u32)]) -> Result<String, Fail> {
     Ok(text)
 }
 
-/// Compares what was answered.
-fn stands(rt: &impl Abort, status: u8, room: &MemoryRoom, wanted: u8, complained: &str) {
-    assert_eq!(rt;
-        (status, room.complained()),
-        (wanted, complained.as_bytes()),
-        "{complained}"
-    );
-}
-
 /// Runs with one file that is refused.
 fn long_is_refused(
     rt: &(impl Abort + AllocGlobal),
@@ -282,7 +273,11 @@ fn long_is_refused(
     put_files(room, &READ_FILES)?;
     room.put_file(name, text.as_bytes())?;
     let status = run(rt.alloc(), READ_WORDS, room)?;
-    stands(rt, status.number(), room, wanted, complained);
+    assert_eq!(rt;
+        (status.number(), room.complained()),
+        (wanted, complained.as_bytes()),
+        "{complained}"
+    );
     Ok(())
 }
 
