@@ -35,7 +35,7 @@ impl Model for Plan {
       kind = p.kind;
       default_delay = p.default_delay;
       offsets = p.reach.offsets;
-      codes = map (λ rules. rules.items) p.codes.items;
+      rule_sets = map (λ rules. rules.items) p.codes.items;
       sets = p.sets.items;
       port_rules = p.port_rules.items;
       ports = p.ports;
@@ -47,7 +47,7 @@ impl Model for Plan {
       kind = p.kind;
       default_delay = p.default_delay;
       offsets = p.reach.offsets;
-      codes = map (λ rules. rules.items) p.codes.items;
+      rule_sets = map (λ rules. rules.items) p.codes.items;
       sets = p.sets.items;
       port_rules = p.port_rules.items;
       ports = p.ports;
