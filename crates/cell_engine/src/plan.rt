@@ -25,10 +25,14 @@ pub(crate) struct Plan {
 
 impl Model for Plan {
     ghost use Rattle.std.specs.Prelude.{map};
+    ghost use Rattle.std.specs.Coded.{codes};
+    ghost use Rattle.rule_forms.specs.Signs.{expr_code};
     ghost use Rattle.cell_engine.specs.Layout.{Layout};
     ghost use Rattle.cell_engine.specs.Store.{IsPlan};
 
     ghost Value = { Layout };
+
+    ghost coded = { Prim.hlevel (codes, expr_code (Prim.hlevel codes)) };
 
     ghost view = { λ p. record {
       space = p.grid;

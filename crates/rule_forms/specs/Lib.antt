@@ -1,3 +1,4 @@
+pub mod Signs
 pub mod Depth
 pub mod Stops
 pub mod ByPort

@@ -32,11 +32,15 @@ pub struct RuleCode {
 }
 
 impl Model for RuleCode {
+    ghost use Rattle.std.specs.Coded.{codes};
     ghost use Rattle.rule_tree.specs.Expression.{Rule};
+    ghost use Rattle.rule_forms.specs.Signs.{expr_code};
     ghost use Rattle.rule_forms.specs.Numbered.{rule_of_forms};
     ghost use Rattle.rule_forms.specs.Known.{IsKnown};
 
     ghost Value = { Rule };
+
+    ghost coded = { Prim.hlevel (codes, expr_code (Prim.hlevel codes)) };
 
     ghost view = { λ r. rule_of_forms r.gives.items r.delay r.condition r.sets.items };
 
