@@ -77,7 +77,7 @@ latest (e ∷ es) = e
 
 -- signs give their expression back
 mutual
-  back : (e : Expr) (rest : List Sign) (es : List Expr) (ls : List Exprs)
+  pub back : (e : Expr) (rest : List Sign) (es : List Expr) (ls : List Exprs)
       → read_all (signs_of e rest) (es, ls) ≡ read_all rest (e ∷ es, ls)
   back (E.number v) rest es ls = refl
   back (E.truth t) rest es ls = refl
@@ -91,7 +91,7 @@ mutual
       back a (signs_of c (two b ∷ rest)) es ls ∙ back c (two b ∷ rest) (a ∷ es) ls
   back (E.call f args) rest es ls = back_all args (call f ∷ rest) es ls
 
-  back_all : (args : Exprs) (rest : List Sign) (es : List Expr) (ls : List Exprs)
+  pub back_all : (args : Exprs) (rest : List Sign) (es : List Expr) (ls : List Exprs)
       → read_all (signs_of_all args rest) (es, ls) ≡ read_all rest (es, args ∷ ls)
   back_all E.nil rest es ls = refl
   back_all (E.cons a more) rest es ls =
