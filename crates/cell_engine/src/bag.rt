@@ -209,7 +209,7 @@ fn codes_at(plan: &Plan, set: usize) -> &[RuleCode]
     requires { set < length plan.now.rule_sets }
     ensures { result.now ≡ slice_index_or plan.now.rule_sets set [] }
 {
-    &plan.codes[set]
+    &plan.rule_sets[set]
 }
 
 /// The number of the rule set for a port of a cell, where there is one.
