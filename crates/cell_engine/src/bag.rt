@@ -199,24 +199,24 @@ fn take_itself(
 fn set_at(plan: &Plan, i: u32) -> usize
     requires { i < cell_count plan.now.space }
     ensures value { result ≡ slice_index_or plan.now.sets i 0 }
-    ensures within { result < length plan.now.codes }
+    ensures within { result < length plan.now.rule_sets }
 {
     plan.sets[i as usize]
 }
 
 /// The codes of a rule set.
 fn codes_at(plan: &Plan, set: usize) -> &[RuleCode]
-    requires { set < length plan.now.codes }
-    ensures { result.now ≡ slice_index_or plan.now.codes set [] }
+    requires { set < length plan.now.rule_sets }
+    ensures { result.now ≡ slice_index_or plan.now.rule_sets set [] }
 {
-    &plan.codes[set]
+    &plan.rule_sets[set]
 }
 
 /// The number of the rule set for a port of a cell, where there is one.
 fn rules_for(plan: &Plan, cell: u32, port: &Name) -> Option<usize>
     ensures value { result ≡ option_map (λ (r : Ruling). r.rules)
         (find (is_for cell port.now) plan.now.port_rules) }
-    ensures within { IfSome result (λ k. k < length plan.now.codes) }
+    ensures within { IfSome result (λ k. k < length plan.now.rule_sets) }
 {
     for rule in &plan.port_rules {
         if is_for(rule, cell, port) {

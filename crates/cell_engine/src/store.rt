@@ -37,10 +37,14 @@ pub struct CellStore {
 }
 
 impl Model for CellStore {
+    ghost use Rattle.std.specs.Coded.{codes};
+    ghost use Rattle.rule_forms.specs.Signs.{expr_code};
     ghost use Rattle.cell_engine.specs.Cells.{Cells};
     ghost use Rattle.cell_engine.specs.Store.{IsAtDesk};
 
     ghost Value = { Cells };
+
+    ghost coded = { Prim.hlevel (codes, expr_code (Prim.hlevel codes)) };
 
     ghost view = { λ s. record { layout = s.plan; cells = s.table.cells } };
 

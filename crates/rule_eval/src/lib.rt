@@ -21,6 +21,6 @@ mod sums;
 pub mod view;
 
 pub use evaluation::{evaluate, evaluate_into};
-pub use rule_forms::{Constant, Given, Op, RuleCode, postfix};
+pub use rule_forms::{Constant, Given, RuleCode};
 pub use stack::Stack;
 pub use view::View;
