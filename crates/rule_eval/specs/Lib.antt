@@ -6,3 +6,4 @@ pub mod Tests
 pub mod Sums
 pub mod Numbers
 pub mod Stacked
+pub mod Tallies

@@ -1,11 +1,13 @@
 // Evaluation of rules, form by form.
-ghost use Rattle.std.specs.Prelude.{◌≡◌, ◌≤◌, List, All, IfOk, map, length};
+ghost use Rattle.std.specs.Prelude.{◌≡◌, ◌≤◌, List, All, IfOk, IfSome, map, length};
 ghost use Rattle.std.specs.Prelude.{vec_capacity, slice_set};
 ghost use Rattle.quantity.specs.declared.bounds.TheConstants.{MAX_DELAY};
 ghost use Rattle.rule_tree.specs.Expression.{Rule};
 ghost use Rattle.rule_tree.specs.Chosen.{chosen};
+ghost use Rattle.rule_tree.specs.Meaning.{outs};
 ghost use Rattle.rule_eval.specs.Seen.{IsView, seen, sight_of};
 ghost use Rattle.rule_eval.specs.Kept.{AreCounts};
+ghost use Rattle.rule_eval.specs.Tallies.{IsTally};
 ghost use Rattle.rule_forms.specs.Code.{code_of};
 ghost use Rattle.rule_forms.specs.Depth.{depth_of};
 ghost use Rattle.rule_forms.specs.Forms.{expr_of_form};
@@ -21,6 +23,7 @@ use crate::apply::truth_in;
 use crate::counts::Counts;
 use crate::numbers::run_number;
 use crate::stack::Stack;
+use crate::tally::Tally;
 use crate::view::View;
 use quantity::{Time, Tri, Value};
 use rule_forms::{Constant, Form, Given, NumberedForm, RuleCode, delay_in, plain_number};
@@ -84,6 +87,31 @@ pub fn evaluate_into<'r>(
     ensures delay { IfOk result (λ made. made.1 ≤ MAX_DELAY) }
 {
     let mut counts = Counts::none(view);
+    first_true(rules, view, changed, &mut counts, given, &mut stack.answers)
+}
+
+/// The same, where the numbers of neighbours that words count may be known: then none is counted.
+#[inline(always)]
+pub fn evaluate_counted<'r>(
+    rules: &'r [RuleCode],
+    view: &View,
+    known: Option<Tally>,
+    changed: &mut [Value],
+    given: &mut Given,
+    stack: &mut Stack,
+) -> Result<(Option<&'r Constant>, Time), RuleStop>
+    requires view { IsView view.now }
+    requires known { IfSome known (λ t. IsTally t (outs (sight_of view.now))) }
+    requires variables { length changed.old ≡ length view.now.variables.now }
+    requires depth { All (λ rule. rule_depth rule ≤ stack.old.depth) rules.now }
+    // For all rules that the codes stand for.
+    ensures value { (trees : List Rule) → rules.now ≡ map codes_of trees
+        → MayLend (Evaluates (chosen trees (sight_of view.now))) result
+        given.new changed.new view.now.variables.now }
+    ensures stack { stack.new ≡ stack.old }
+    ensures delay { IfOk result (λ made. made.1 ≤ MAX_DELAY) }
+{
+    let mut counts = Counts::known(known, view);
     first_true(rules, view, changed, &mut counts, given, &mut stack.answers)
 }
 
