@@ -13,3 +13,5 @@ pub mod Takes
 pub mod Moving
 pub mod Grown
 pub mod Far
+pub mod Tallying
+pub mod Shown

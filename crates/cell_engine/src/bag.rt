@@ -16,18 +16,20 @@ ghost use Rattle.cell_table.specs.Table.{HasShape};
 ghost use Rattle.cell_table.specs.Told.{cell_at, OnlyCell};
 ghost use Rattle.cell_engine.specs.Cells.{Computes};
 ghost use Rattle.cell_engine.specs.Layout.{StandsFor};
-ghost use Rattle.cell_engine.specs.Step.{IsOfGroup, is_for, sees, woken_at};
+ghost use Rattle.cell_engine.specs.Step.{IsOfGroup, is_for, near, sees, woken_at};
 ghost use Rattle.cell_engine.specs.Store.{IsAtDesk};
+ghost use Rattle.cell_engine.specs.Tallied.{outs_of, AreTallies};
 
 use crate::CellStop;
 use crate::desk::Desk;
 use crate::plan::Plan;
 use crate::step::{by_rules, take};
+use crate::tallies::tally_of;
 use atomic_face::PortNo;
 use cell_table::CellTable;
 use model_tree::PortRule;
 use quantity::{Name, Time, Value};
-use rule_eval::{Given, RuleCode};
+use rule_eval::{Given, RuleCode, Tally};
 
 /// A cell after its emission moves: where it is woken its rules are evaluated, and then each value
 /// of its bag is treated. Only where rules are evaluated the neighbours are looked at.
@@ -38,6 +40,7 @@ pub(crate) fn advance(
     woken: bool,
     bag: &[(PortNo, Value)],
     ports: &[Name],
+    tallies: &[Tally],
     table: &mut CellTable,
     desk: &mut Desk,
 ) -> Result<(), CellStop>
@@ -45,6 +48,7 @@ pub(crate) fn advance(
     requires time { t ≤ MAX_DELAY }
     requires cell { i < length table.old.cells }
     requires ports { All (λ (o : Port × AnyValue). o.0.0 < length ports.now) bag.now }
+    requires tallies { AreTallies (near plan.now) (outs_of table.old) tallies.now }
     ensures cell { (g : Group) → IsOfGroup g plan.now ports.now i
         → Computes i table.old.cells table.new.cells
         (cell_moved g i t woken (sees plan.now t table.old i) bag.now
@@ -52,7 +56,7 @@ pub(crate) fn advance(
     ensures only { OnlyCell i table.old.cells table.new.cells }
     ensures ready { IsAtDesk plan.now table.new desk.new }
 {
-    wake(plan, i, t, woken, table, desk)?;
+    wake(plan, i, t, woken, tallies, table, desk)?;
     treat_all(plan, i, t, bag, ports, table, desk)
 }
 
@@ -62,12 +66,14 @@ pub(crate) fn wake(
     i: u32,
     t: Time,
     woken: bool,
+    tallies: &[Tally],
     table: &mut CellTable,
     desk: &mut Desk,
 ) -> Result<(), CellStop>
     requires ready { IsAtDesk plan.now table.old desk.old }
     requires time { t ≤ MAX_DELAY }
     requires cell { i < length table.old.cells }
+    requires tallies { AreTallies (near plan.now) (outs_of table.old) tallies.now }
     ensures cell { (g : Group) → StandsFor g plan.now → IsTrue (is_sound_group g)
         → Computes i table.old.cells table.new.cells
         (woken_at g t woken (sees plan.now t table.old i) i
@@ -77,7 +83,8 @@ pub(crate) fn wake(
 {
     if woken {
         let rules = codes_at(plan, set_at(plan, i));
-        by_rules(plan, rules, i, t, Value::Undefined, table, desk)
+        let known = tally_of(tallies, i);
+        by_rules(plan, rules, i, t, Value::Undefined, known, table, desk)
     } else {
         Ok(())
     }
@@ -163,7 +170,7 @@ fn treat(
     match rules_for(plan, i, port) {
         Some(set) => {
             let rules = codes_at(plan, set);
-            by_rules(plan, rules, i, t, value, table, desk)
+            by_rules(plan, rules, i, t, value, None, table, desk)
         }
         None => take_itself(plan, i, t, value, table),
     }

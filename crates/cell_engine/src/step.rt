@@ -1,11 +1,13 @@
 // What one cell takes by a set of rules.
 ghost use Rattle.std.specs.Prelude.{◌≡◌, ℕ, ◌+◌, ◌<◌, ◌≤◌, List, length};
-ghost use Rattle.std.specs.Prelude.{OnOk, OnErr, slice_set};
+ghost use Rattle.std.specs.Prelude.{IfSome, OnOk, OnErr, slice_set};
 ghost use Rattle.std.specs.List.{All};
 ghost use Rattle.quantity.specs.declared.bounds.TheConstants.{MAX_DELAY};
 ghost use Rattle.quantity.specs.declared.value.Value.{Value as AnyValue};
 ghost use Rattle.rule_tree.specs.Expression.{Rule};
+ghost use Rattle.rule_tree.specs.Meaning.{outs};
 ghost use Rattle.rule_forms.specs.RuleCodes.{rule_depth};
+ghost use Rattle.rule_eval.specs.Tallies.{IsTally};
 ghost use Rattle.run_model.specs.CellStep.{took};
 ghost use Rattle.cell_table.specs.Table.{HasShape, changed_cell, changed_ports};
 ghost use Rattle.cell_table.specs.Told.{cell_at, OnlyCell};
@@ -19,17 +21,18 @@ use crate::plan::Plan;
 use crate::sight::{look, place_of, view};
 use cell_table::CellTable;
 use quantity::{DelayKind, OutOfMemory, Time, Value};
-use rule_eval::{Given, RuleCode, evaluate_into};
+use rule_eval::{Given, RuleCode, Tally, evaluate_counted};
 use rule_tree::RuleStop;
 
 /// A cell takes what the first true rule gives over what it sees, with a value at the port that the
-/// rules are for.
+/// rules are for. How many neighbours show what is counted may be known.
 pub(crate) fn by_rules(
     plan: &Plan,
     rules: &[RuleCode],
     i: u32,
     t: Time,
     port: Value,
+    known: Option<Tally>,
     table: &mut CellTable,
     desk: &mut Desk,
 ) -> Result<(), CellStop>
@@ -37,6 +40,7 @@ pub(crate) fn by_rules(
     requires time { t ≤ MAX_DELAY }
     requires cell { i < length table.old.cells }
     requires depth { All (λ rule. rule_depth rule ≤ desk.old.stack.depth) rules.now }
+    requires known { IfSome known (λ k. IsTally k (outs (sees plan.now t table.old i))) }
     // For all rules that the codes stand for.
     ensures cell { (trees : List Rule) → StandForRules rules.now trees
         → Computes i table.old.cells table.new.cells
@@ -48,9 +52,10 @@ pub(crate) fn by_rules(
     let place = place_of(plan, i);
     look(plan, table, i, place, &mut desk.neighbours, &mut desk.seen);
     let view = view(plan, table, i, place, t, port, &desk.seen);
-    match evaluate_into(
+    match evaluate_counted(
         rules,
         &view,
+        known,
         &mut desk.changed,
         &mut desk.given,
         &mut desk.stack,

@@ -19,15 +19,15 @@ one_counted p v b n is so =
 
 -- ---- one value among others
 
-parts : (f : Value → ℕ) (as bs : List Value) (v : Value) → sum_by f (as ++ v ∷ bs) ≡ sum_by f as + (sum_by f (v ∷ []) + sum_by f bs)
-parts f as bs v =
+parts : (f : Value → ℕ) (xs ys : List Value) (v : Value) → sum_by f (xs ++ v ∷ ys) ≡ sum_by f xs + (sum_by f (v ∷ []) + sum_by f ys)
+parts f xs ys v =
     let alone : sum_by f (v ∷ []) ≡ f v = sum_by-cons f v [] ∙ add-zero (f v) in
-    sum_by-append f as (v ∷ bs) ∙ ap (λ n. sum_by f as + n) (sum_by-cons f v bs ∙ ap (λ n. n + sum_by f bs) (sym alone))
+    sum_by-append f xs (v ∷ ys) ∙ ap (λ n. sum_by f xs + n) (sum_by-cons f v ys ∙ ap (λ n. n + sum_by f ys) (sym alone))
 
-pub counted-parts : (c : Count) (as bs : List Value) (v : Value) → counted c (as ++ v ∷ bs) ≡ counted c as + (counted c (v ∷ []) + counted c bs)
-counted-parts Ones as bs v = parts (λ (w : Value). cond (same_value (whole 1) w) 1 0) as bs v
-counted-parts Zeros as bs v = parts (λ (w : Value). cond (same_value (whole 0) w) 1 0) as bs v
-counted-parts Undefs as bs v = parts (λ (w : Value). cond (same_value Undefined w) 1 0) as bs v
+pub counted-parts : (c : Count) (xs ys : List Value) (v : Value) → counted c (xs ++ v ∷ ys) ≡ counted c xs + (counted c (v ∷ []) + counted c ys)
+counted-parts Ones xs ys v = parts (λ (w : Value). cond (same_value (whole 1) w) 1 0) xs ys v
+counted-parts Zeros xs ys v = parts (λ (w : Value). cond (same_value (whole 0) w) 1 0) xs ys v
+counted-parts Undefs xs ys v = parts (λ (w : Value). cond (same_value Undefined w) 1 0) xs ys v
 
 front : (f : Value → ℕ) (v : Value) (vs : List Value) → sum_by f (v ∷ vs) ≡ sum_by f (v ∷ []) + sum_by f vs
 front f v vs = sum_by-cons f v vs ∙ ap (λ n. n + sum_by f vs) (sym (sum_by-cons f v [] ∙ add-zero (f v)))
@@ -53,14 +53,14 @@ number-low t was is a v b all et ew before = omega (arith, et, ew, before)
 number-high : (t is all w long : ℕ) → t ≡ all → is ≡ w → all ≤ long → w ≤ 1 → long ≤ 128 → t + is ≤ 255
 number-high t is all w long et ei few one most = omega (arith, et, ei, few, one, most)
 
-module _ (t was is : Tally) (as bs : List Value) (v w : Value) (before : IsTally t (as ++ v ∷ bs)) (old : IsTally was (v ∷ [])) (new : IsTally is (w ∷ [])) where
-  moved-at : (c : Count) (n x y : ℕ) → n ≡ counted c (as ++ v ∷ bs) → x ≡ counted c (v ∷ []) → y ≡ counted c (w ∷ []) → n + y - x ≡ counted c (as ++ w ∷ bs)
+module _ (t was is : Tally) (xs ys : List Value) (v w : Value) (before : IsTally t (xs ++ v ∷ ys)) (old : IsTally was (v ∷ [])) (new : IsTally is (w ∷ [])) where
+  moved-at : (c : Count) (n x y : ℕ) → n ≡ counted c (xs ++ v ∷ ys) → x ≡ counted c (v ∷ []) → y ≡ counted c (w ∷ []) → n + y - x ≡ counted c (xs ++ w ∷ ys)
   moved-at c n x y en ex ey =
-      number-moved n x y (counted c as) (counted c (v ∷ [])) (counted c (w ∷ [])) (counted c bs) (counted c (as ++ v ∷ bs)) (counted c (as ++ w ∷ bs)) en ex ey
-      (counted-parts c as bs v) (counted-parts c as bs w)
+      number-moved n x y (counted c xs) (counted c (v ∷ [])) (counted c (w ∷ [])) (counted c ys) (counted c (xs ++ v ∷ ys)) (counted c (xs ++ w ∷ ys)) en ex ey
+      (counted-parts c xs ys v) (counted-parts c xs ys w)
 
   -- the tally is that of the values with the other one
-  pub is_moved : IsTally (moved_tally t was is) (as ++ w ∷ bs)
+  pub is_moved : IsTally (moved_tally t was is) (xs ++ w ∷ ys)
   is_moved =
       record {
         ones = moved-at Ones t.ones was.ones is.ones before.ones old.ones new.ones;
@@ -68,16 +68,16 @@ module _ (t was is : Tally) (as bs : List Value) (v w : Value) (before : IsTally
         undefs = moved-at Undefs t.undefs was.undefs is.undefs before.undefs old.undefs new.undefs;
       }
 
-  low-at : (c : Count) (n x y : ℕ) → n ≡ counted c (as ++ v ∷ bs) → x ≡ counted c (v ∷ []) → x ≤ n + y
-  low-at c n x y en ex = number-low n x y (counted c as) (counted c (v ∷ [])) (counted c bs) (counted c (as ++ v ∷ bs)) en ex (counted-parts c as bs v)
+  low-at : (c : Count) (n x y : ℕ) → n ≡ counted c (xs ++ v ∷ ys) → x ≡ counted c (v ∷ []) → x ≤ n + y
+  low-at c n x y en ex = number-low n x y (counted c xs) (counted c (v ∷ [])) (counted c ys) (counted c (xs ++ v ∷ ys)) en ex (counted-parts c xs ys v)
 
-  high-at : (c : Count) (n y : ℕ) → n ≡ counted c (as ++ v ∷ bs) → y ≡ counted c (w ∷ []) → length (as ++ v ∷ bs) ≤ 128 → n + y ≤ 255
+  high-at : (c : Count) (n y : ℕ) → n ≡ counted c (xs ++ v ∷ ys) → y ≡ counted c (w ∷ []) → length (xs ++ v ∷ ys) ≤ 128 → n + y ≤ 255
   high-at c n y en ey few =
       let one : counted c (w ∷ []) ≤ 1 = counted-few c (w ∷ []) in
-      number-high n y (counted c (as ++ v ∷ bs)) (counted c (w ∷ [])) (length (as ++ v ∷ bs)) en ey (counted-few c (as ++ v ∷ bs)) one few
+      number-high n y (counted c (xs ++ v ∷ ys)) (counted c (w ∷ [])) (length (xs ++ v ∷ ys)) en ey (counted-few c (xs ++ v ∷ ys)) one few
 
   -- and it can be made
-  pub can_move : length (as ++ v ∷ bs) ≤ 128 → CanMove t was is
+  pub can_move : length (xs ++ v ∷ ys) ≤ 128 → CanMove t was is
   can_move few =
       record {
         ones = low-at Ones t.ones was.ones is.ones before.ones old.ones;

@@ -12,7 +12,7 @@ use Rattle.cell_engine.proofs.Looking.{sees_still}
 use Rattle.cell_engine.proofs.bag.advance.Goals as goal
 
 pub wake-requires : goal.wake-requires
-wake-requires c = record { ready = c.requires.ready; time = c.requires.time; cell = c.requires.cell }
+wake-requires c = record { ready = c.requires.ready; time = c.requires.time; cell = c.requires.cell; tallies = c.requires.tallies }
 
 pub treat_all-requires : goal.treat_all-requires
 treat_all-requires c =

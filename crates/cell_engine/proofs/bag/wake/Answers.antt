@@ -3,12 +3,17 @@ use Rattle.run_model.specs.CellStep.{cell_rules}
 use Rattle.cell_table.specs.Told.{cell_at}
 use Rattle.cell_engine.specs.Step.{sees}
 use Rattle.cell_engine.proofs.Ruling.{cell_stands}
+use Rattle.cell_engine.proofs.Shown.{tally_seen}
 use Rattle.cell_engine.proofs.Takes.{depth_at, is_woken}
 use Rattle.cell_engine.proofs.bag.wake.Goals as goal
 
 pub by_rules-requires-clause-depth : goal.by_rules-requires-clause-depth
 by_rules-requires-clause-depth c =
     depth_at c.args.plan.now.codes c.set_at.result c.args.desk.now.stack.depth c.codes_at-rules.result.now c.requires.ready.depth c.set_at.ensures.within c.codes_at-rules.ensures
+
+pub by_rules-requires-clause-known : goal.by_rules-requires-clause-known
+by_rules-requires-clause-known c =
+    tally_seen c.args.plan.now c.args.t c.args.table.now c.args.i c.args.tallies.now c.tally_of-known.result c.tally_of-known.ensures.within c.tally_of-known.ensures.value c.requires.tallies
 
 pub returns-then-woken-clause-cell : goal.returns-then-woken-clause-cell
 returns-then-woken-clause-cell c = λ g st sound.
