@@ -1,16 +1,14 @@
 -- What cells show, where one of them changes, and their tallies then.
-use Rattle.std.proofs.Common.{◌≡◌, ℕ, zero, suc, ◌+◌, ◌<◌, ◌≤◌, Bool, true, Option, Some, None, List, [], ◌∷◌, map, length, get_or, set, replicate, refl, sym, ◌∙◌, ap, subst, arith, Ok, Err}
+use Rattle.std.proofs.Common.{◌≡◌, ℕ, zero, suc, ◌<◌, true, Option, Some, None, List, [], ◌∷◌, map, length, get_or, set, replicate, refl, sym, ◌∙◌, ap, subst, arith, Ok, Err}
 use Rattle.std.specs.Prelude.{◌&&◌, ◌==◌, IfSome, OnOk, OnErr}
-use Rattle.std.specs.List.{All}
 use Rattle.std.specs.declared.result.Result.{Result}
 use Rattle.std.proofs.lemmas.Bool.{and_parts, eqb-true}
 use Rattle.std.proofs.lemmas.List.{length-map, length-replicate, get_or-replicate, get_or-map, map-set, set-set, set-get_or}
 use Rattle.std.proofs.lemmas.Option.{unwrap_or-slice_get}
 use Rattle.quantity.specs.declared.value.Value.{Value}
 use Rattle.quantity.specs.declared.value.Value.TheVariants.{Undefined}
-use Rattle.rule_tree.specs.declared.node.Count.{Count}
 use Rattle.rule_tree.specs.declared.node.Count.TheVariants.{Ones, Zeros, Undefs}
-use Rattle.rule_tree.specs.Meaning.{Sight, value_at, outs, counted}
+use Rattle.rule_tree.specs.Meaning.{value_at, outs, counted}
 use Rattle.rule_eval.specs.declared.tally.Tally.{Tally}
 use Rattle.rule_eval.specs.Tallies.{IsTally}
 use Rattle.rule_eval.proofs.Tallied.{counted-cons}
@@ -99,9 +97,9 @@ kept_put (Err e) n i c t u before ts here was ok err kept =
 
 -- ---- numbers that are the same
 
-pub same_numbers : (a b : Tally) → (a.ones == b.ones && a.zeros == b.zeros && a.undefs == b.undefs) ≡ true → (a.ones ≡ b.ones) × (a.zeros ≡ b.zeros) × (a.undefs ≡ b.undefs)
+pub same_numbers : (a b : Tally) → ((a.ones == b.ones) && (a.zeros == b.zeros) && (a.undefs == b.undefs)) ≡ true → (a.ones ≡ b.ones) × (a.zeros ≡ b.zeros) × (a.undefs ≡ b.undefs)
 same_numbers a b h =
-    let p = and_parts (a.ones == b.ones && a.zeros == b.zeros) (a.undefs == b.undefs) h in
+    let p = and_parts ((a.ones == b.ones) && (a.zeros == b.zeros)) (a.undefs == b.undefs) h in
     let q = and_parts (a.ones == b.ones) (a.zeros == b.zeros) p.0 in
     (eqb-true a.ones b.ones q.0, eqb-true a.zeros b.zeros q.1, eqb-true a.undefs b.undefs p.1)
 

@@ -119,19 +119,19 @@ fn move_on(
         tallies.old }
     ensures { AreTallies (near plan.now) (outs_of table.now) tallies.new }
 {
-    let was = Tally::one(before);
-    let is = Tally::one(table.emitted(i, 0));
-    if are_same(was, is) {
+    let gone = Tally::one(before);
+    let come = Tally::one(table.emitted(i, 0));
+    if are_same(gone, come) {
         return;
     }
     plan.reach.watchers_by_offset(i, around);
-    move_all(plan, table, i, before, was, is, around, tallies);
+    move_all(plan, table, i, before, gone, come, around, tallies);
 }
 
 /// Whether two tallies have the same numbers.
 #[inline(always)]
 fn are_same(a: Tally, b: Tally) -> bool
-    ensures { result ≡ (a.ones == b.ones && a.zeros == b.zeros && a.undefs == b.undefs) }
+    ensures { result ≡ ((a.ones == b.ones) && (a.zeros == b.zeros) && (a.undefs == b.undefs)) }
 {
     let ones = a.ones == b.ones;
     let zeros = a.zeros == b.zeros;
@@ -146,16 +146,16 @@ fn move_all(
     table: &CellTable,
     i: u32,
     before: Value,
-    was: Tally,
-    is: Tally,
+    gone: Tally,
+    come: Tally,
     watchers: &[Option<u32>],
     tallies: &mut [Tally],
 )
     requires cell { i < cell_count plan.now.space }
     requires cells { length table.now.cells ≡ cell_count plan.now.space }
     requires few { length plan.now.offsets ≤ 128 }
-    requires was { IsTally was (before ∷ []) }
-    requires is { IsTally is (slice_index_or (outs_of table.now) i AnyValue.Undefined ∷ []) }
+    requires gone { IsTally gone (before ∷ []) }
+    requires come { IsTally come (slice_index_or (outs_of table.now) i AnyValue.Undefined ∷ []) }
     requires watchers { watchers.now ≡ neighbours (turned (near plan.now)) i }
     requires whole { length tallies.old ≡ cell_count plan.now.space }
     requires tallies { AreTallies (near plan.now) (slice_set (outs_of table.now) i before)
@@ -168,33 +168,33 @@ fn move_all(
     let _cell = i;
     let _before = before;
     for watcher in watchers {
-        move_for(*watcher, was, is, tallies);
+        move_for(*watcher, gone, come, tallies);
     }
 }
 
 /// The tally of a cell is moved, if one is.
 #[inline(always)]
-fn move_for(watcher: Option<u32>, was: Tally, is: Tally, tallies: &mut [Tally])
+fn move_for(watcher: Option<u32>, gone: Tally, come: Tally, tallies: &mut [Tally])
     requires within { IfSome watcher (λ x. x < length tallies.old) }
     requires can { IfSome watcher
-        (λ x. CanMove (slice_index_or tallies.old x no_tally) was is) }
-    ensures { tallies.new ≡ moved_at watcher was is tallies.old }
+        (λ x. CanMove (slice_index_or tallies.old x no_tally) gone come) }
+    ensures { tallies.new ≡ moved_at watcher gone come tallies.old }
 {
     match watcher {
-        Some(cell) => move_one(tallies, cell, was, is),
+        Some(cell) => move_one(tallies, cell, gone, come),
         None => {}
     }
 }
 
 #[inline(always)]
-fn move_one(tallies: &mut [Tally], cell: u32, was: Tally, is: Tally)
+fn move_one(tallies: &mut [Tally], cell: u32, gone: Tally, come: Tally)
     requires within { cell < length tallies.old }
-    requires can { CanMove (slice_index_or tallies.old cell no_tally) was is }
+    requires can { CanMove (slice_index_or tallies.old cell no_tally) gone come }
     ensures { tallies.new ≡ slice_set tallies.old cell
-        (moved_tally (slice_index_or tallies.old cell no_tally) was is) }
+        (moved_tally (slice_index_or tallies.old cell no_tally) gone come) }
 {
     let tally = tally_at(tallies, cell);
-    tallies[cell as usize] = tally.moved(was, is);
+    tallies[cell as usize] = tally.moved(gone, come);
 }
 
 /// The tally of a cell, of which it is known that it is kept.

@@ -32,13 +32,13 @@ impl Tally {
     /// The tally where one neighbour shows another value, of which these are the tallies before
     /// and now.
     #[inline(always)]
-    pub fn moved(self, was: Tally, is: Tally) -> Tally
-        requires { CanMove self was is }
-        ensures { result ≡ moved_tally self was is }
+    pub fn moved(self, gone: Tally, come: Tally) -> Tally
+        requires { CanMove self gone come }
+        ensures { result ≡ moved_tally self gone come }
     {
-        let ones = moved_number(self.ones, was.ones, is.ones);
-        let zeros = moved_number(self.zeros, was.zeros, is.zeros);
-        let undefs = moved_number(self.undefs, was.undefs, is.undefs);
+        let ones = moved_number(self.ones, gone.ones, come.ones);
+        let zeros = moved_number(self.zeros, gone.zeros, come.zeros);
+        let undefs = moved_number(self.undefs, gone.undefs, come.undefs);
         Tally {
             ones,
             zeros,
@@ -57,10 +57,10 @@ fn one_where(so: bool) -> u8
 
 /// A number of neighbours, one of which was counted and now is.
 #[inline(always)]
-fn moved_number(number: u8, was: u8, is: u8) -> u8
-    requires low { was ≤ number + is }
-    requires high { number + is ≤ 255 }
-    ensures { result ≡ number + is - was }
+fn moved_number(number: u8, gone: u8, come: u8) -> u8
+    requires low { gone ≤ number + come }
+    requires high { number + come ≤ 255 }
+    ensures { result ≡ number + come - gone }
 {
-    number + is - was
+    number + come - gone
 }

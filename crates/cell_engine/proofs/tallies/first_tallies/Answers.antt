@@ -1,4 +1,4 @@
-use Rattle.std.proofs.Common.{◌≡◌, List, replicate, refl}
+use Rattle.std.proofs.Common.{refl}
 use Rattle.std.proofs.lemmas.Result.{IfOk-weaker}
 use Rattle.rule_eval.specs.declared.tally.Tally.{Tally}
 use Rattle.cell_grid.specs.Space.{cell_count}

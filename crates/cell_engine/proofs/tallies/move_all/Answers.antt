@@ -1,7 +1,6 @@
-use Rattle.std.proofs.Common.{◌≡◌, ◌<◌, ◌≤◌, ℕ, Option, None, List, map, length, get_or, set, sym, ◌∙◌, ap, arith}
+use Rattle.std.proofs.Common.{◌≡◌, ◌<◌, ◌≤◌, ℕ, Option, None, List, map, length, get_or, set, ◌∙◌, ap, arith}
 use Rattle.std.proofs.lemmas.List.{length-map}
 use Rattle.cell_grid.specs.Space.{neighbour, opposite}
-use Rattle.cell_reach.specs.Neighbourhoods.{neighbours, turned}
 use Rattle.cell_engine.specs.Step.{near}
 use Rattle.cell_engine.specs.Tallied.{shown, outs_of}
 use Rattle.cell_engine.proofs.Tallying.{midway_more, within_at, can_at, all_moved}
@@ -24,8 +23,8 @@ move_for-requires c =
     let whole = c.loop-watcher.auto.tallies ∙ c.requires.whole in
     let at = ap (λ (ms : List (Option ℕ)). get_or ms k None) c.requires.watchers in
     record {
-      within = within_at (near l) (outs_of tb) i c.args.before c.args.was c.args.is c.requires.cell long c.requires.was c.requires.is ts k (get_or ws k None) lt whole at;
-      can = can_at (near l) (outs_of tb) i c.args.before c.args.was c.args.is c.requires.cell long c.requires.was c.requires.is ts k (get_or ws k None) lt c.requires.few whole at c.loop-watcher.invariant;
+      within = within_at (near l) (outs_of tb) i c.args.before c.args.gone c.args.come c.requires.cell long c.requires.gone c.requires.come ts k (get_or ws k None) lt whole at;
+      can = can_at (near l) (outs_of tb) i c.args.before c.args.gone c.args.come c.requires.cell long c.requires.gone c.requires.come ts k (get_or ws k None) lt c.requires.few whole at c.loop-watcher.invariant;
     }
 
 pub loop-watcher-preserved : goal.loop-watcher-preserved
@@ -40,7 +39,7 @@ loop-watcher-preserved c =
     let lt : k < length l.offsets = omega (arith, c.loop-watcher-test.true, many) in
     let whole = c.loop-watcher.auto.tallies ∙ c.requires.whole in
     let at = ap (λ (ms : List (Option ℕ)). get_or ms k None) c.requires.watchers in
-    midway_more (near l) (outs_of tb) i c.args.before c.args.was c.args.is c.requires.cell long c.requires.was c.requires.is c.loop-watcher.tallies c.move_for.new.tallies k (get_or ws k None)
+    midway_more (near l) (outs_of tb) i c.args.before c.args.gone c.args.come c.requires.cell long c.requires.gone c.requires.come c.loop-watcher.tallies c.move_for.new.tallies k (get_or ws k None)
     lt whole at c.move_for.ensures c.move_for.auto.tallies c.loop-watcher.invariant
 
 pub returns : goal.returns
