@@ -1,5 +1,5 @@
-use Rattle.std.proofs.Common.{◌≡◌, ◌<◌, List, length, set, drop, refl, sym, ◌∙◌, ap, subst, arith}
-use Rattle.std.proofs.lemmas.List.{take_at, with_items_is}
+use Rattle.std.proofs.Common.{◌≡◌, ◌<◌, List, length, set, refl, sym, ◌∙◌, ap, subst, arith}
+use Rattle.std.proofs.lemmas.List.{with_items_is}
 use Rattle.rule_eval.specs.declared.tally.Tally.{Tally}
 use Rattle.cell_engine.specs.Step.{near}
 use Rattle.cell_engine.specs.Tallied.{outs_of, AreTallies, AreKept}
@@ -41,5 +41,5 @@ returns-clause-kept c =
     let new = c.move_on.new.tallies in
     let some : 0 < length ts.items = omega (arith, c.if-count-eq0.false, c.len-count.ensures, ts.ok.0) in
     let long : length new ≡ length ts.items = omega (arith, c.move_on.auto.tallies, ap length c.deref_mut-2.ensures.value) in
-    let is = take_at new (drop (length new) ts.items) ts.len (omega (arith, long, ts.ok.0)) in
+    let is = with_items_is ts new (omega (arith, long, ts.ok.0)) in
     subst (λ (xs : List Tally). AreKept n es xs) (sym is) (record { whole = λ _. long ∙ c.requires.kept.whole some; each = c.move_on.ensures })
