@@ -176,6 +176,19 @@ evaluates trees codes s result changed stand h =
     let P : Outcome → Type 0 = λ o. Makes o result changed in
     evaluates_by (chosen trees s) result changed (subst P (ap (λ (cs : List Codes). first_by_code cs s) stand ∙ chosen_is trees s) h)
 
+makes_by : (c : Chosen) (result : Result (Given × ℕ) RuleStop) (changed : List Value) → Evaluates c result changed → Makes (made c) result changed
+makes_by (Ok g) (Ok r) changed h = record { values = h.values ∙ sym (by_port_is g.values); delay = h.delay; variables = h.variables }
+makes_by (Ok g) (Err stop) changed h = absurd h
+makes_by (Err why) (Ok r) changed h = absurd h
+makes_by (Err why) (Err stop) changed h = h
+
+-- and what the rules give is what their codes make
+pub makes_again : (trees : List Rule) (codes : List Codes) (s : Sight) (result : Result (Given × ℕ) RuleStop) (changed : List Value)
+    → codes ≡ map codes_of trees → Evaluates (chosen trees s) result changed → Makes (first_by_code codes s) result changed
+makes_again trees codes s result changed stand h =
+    let P : Outcome → Type 0 = λ o. Makes o result changed in
+    subst P (sym (ap (λ (cs : List Codes). first_by_code cs s) stand ∙ chosen_is trees s)) (makes_by (chosen trees s) result changed h)
+
 -- the same where what is given may be lent
 pub evaluates_lent : (trees : List Rule) (codes : List Codes) (s : Sight)
     (result : Result (Option (Bor Constant) × ℕ) RuleStop) (given : Given)

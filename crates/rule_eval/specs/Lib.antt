@@ -7,3 +7,4 @@ pub mod Sums
 pub mod Numbers
 pub mod Stacked
 pub mod Tallies
+pub mod Few

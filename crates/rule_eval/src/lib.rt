@@ -13,6 +13,7 @@ mod answers;
 mod apply;
 mod counts;
 mod evaluation;
+mod few;
 mod numbers;
 mod outs;
 mod seen;
@@ -22,6 +23,7 @@ pub mod tally;
 pub mod view;
 
 pub use evaluation::{evaluate, evaluate_counted, evaluate_into};
+pub use few::go_by_few;
 pub use rule_forms::{Constant, Given, Op, RuleCode, postfix};
 pub use stack::Stack;
 pub use tally::Tally;
