@@ -15,3 +15,4 @@ pub mod Grown
 pub mod Far
 pub mod Tallying
 pub mod Shown
+pub mod Knowing

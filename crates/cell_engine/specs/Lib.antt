@@ -4,3 +4,4 @@ pub mod Laws
 pub mod Store
 pub mod Step
 pub mod Tallied
+pub mod Known

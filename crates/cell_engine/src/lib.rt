@@ -18,6 +18,7 @@ mod counting;
 mod desk;
 pub mod laws;
 mod make;
+mod memo;
 mod plan;
 mod sight;
 mod step;

@@ -72,7 +72,7 @@ pub(crate) fn by_rules(
 }
 
 /// The time that is so much later.
-fn later(t: Time, delay: Time) -> Time
+pub(crate) fn later(t: Time, delay: Time) -> Time
     requires time { t ≤ MAX_DELAY }
     requires delay { delay ≤ MAX_DELAY }
     ensures { result ≡ t + delay }
@@ -93,7 +93,7 @@ fn stop_of(stop: RuleStop) -> CellStop
 
 /// A cell takes values after a delay, and its variables stay.
 #[inline(always)]
-fn take_lent(
+pub(crate) fn take_lent(
     table: &mut CellTable,
     i: u32,
     kind: DelayKind,

@@ -17,6 +17,7 @@ ghost use Rattle.cell_engine.specs.Cells.{Cells, with_cell, computed_at, Compute
 use crate::bag::{advance, wake};
 use crate::desk::{Desk, desk_for};
 use crate::make::{plan_of, table_of};
+use crate::memo::{Memo, memo_of};
 use crate::plan::Plan;
 use crate::tallies::{first_tallies, follow};
 use crate::{Cell, CellState, CellStop, Computed, Steps};
@@ -37,6 +38,8 @@ pub struct CellStore {
     desk: Desk,
     // For each cell what is counted among its neighbours; none where no rule counts.
     tallies: Vec<Tally>,
+    // What rules gave for an own value and counts.
+    memo: Memo,
 }
 
 impl Model for CellStore {
@@ -44,13 +47,15 @@ impl Model for CellStore {
     ghost use Rattle.cell_engine.specs.Step.{near};
     ghost use Rattle.cell_engine.specs.Store.{IsAtDesk};
     ghost use Rattle.cell_engine.specs.Tallied.{outs_of, AreKept};
+    ghost use Rattle.cell_engine.specs.Known.{IsMemo};
 
     ghost Value = { Cells };
 
     ghost view = { λ s. record { layout = s.plan; cells = s.table.cells } };
 
     ghost invariant = { λ s. IsAtDesk s.plan s.table s.desk
-        × AreKept (near s.plan) (outs_of s.table) s.tallies.items };
+        × AreKept (near s.plan) (outs_of s.table) s.tallies.items
+        × IsMemo s.plan s.memo.own s.memo.known.items };
 }
 
 impl CellStore {
@@ -66,11 +71,13 @@ impl CellStore {
         let places = group.offsets.len();
         let desk = desk_for(alloc, &plan, places, table.width())?;
         let tallies = first_tallies(alloc, &plan, places)?;
+        let memo = memo_of(alloc, &plan, &group.offsets, &tallies)?;
         Ok(CellStore {
             plan,
             table,
             desk,
             tallies,
+            memo,
         })
     }
 
@@ -210,6 +217,7 @@ impl CellStore {
             bag,
             ports,
             &self.tallies,
+            &mut self.memo,
             &mut self.table,
             &mut self.desk,
         )
@@ -243,6 +251,7 @@ impl CellStore {
             t,
             woken,
             &self.tallies,
+            &mut self.memo,
             &mut self.table,
             &mut self.desk,
         )

@@ -38,7 +38,7 @@ pub(crate) fn first_tallies(
 }
 
 /// The same number, which is small.
-fn short(places: usize) -> u8
+pub(crate) fn short(places: usize) -> u8
     requires { places ≤ 128 }
     ensures { result ≡ places }
 {
@@ -130,7 +130,7 @@ fn move_on(
 
 /// Whether two tallies have the same numbers.
 #[inline(always)]
-fn are_same(a: Tally, b: Tally) -> bool
+pub(crate) fn are_same(a: Tally, b: Tally) -> bool
     ensures { result ≡ ((a.ones == b.ones) && (a.zeros == b.zeros) && (a.undefs == b.undefs)) }
 {
     let ones = a.ones == b.ones;

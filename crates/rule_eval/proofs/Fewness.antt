@@ -1,5 +1,5 @@
 -- Sights that agree in the own value and in counts are answered alike.
-use Rattle.std.proofs.Common.{◌≡◌, ℕ, suc, ◌<◌, true, Some, Ok, Err, List, [], ◌∷◌, map, refl, sym, ap, subst, ◌∙◌, arith}
+use Rattle.std.proofs.Common.{◌≡◌, ℕ, suc, true, Some, Ok, List, [], ◌∷◌, map, refl, sym, ap, subst, ◌∙◌, arith}
 use Rattle.std.specs.Prelude.{◌==◌}
 use Rattle.std.specs.List.{All}
 use Rattle.std.specs.declared.result.Result.{Result}
@@ -14,7 +14,7 @@ use Rattle.rule_tree.specs.declared.outcome.Answer.TheVariants.{Logic}
 use Rattle.rule_tree.specs.declared.outcome.RuleStop.{RuleStop}
 use Rattle.rule_tree.specs.Expression.{Rule}
 use Rattle.rule_tree.specs.Meaning.{Sight, whole}
-use Rattle.rule_tree.specs.Chosen.{Chosen, after, chosen}
+use Rattle.rule_tree.specs.Chosen.{after, chosen}
 use Rattle.rule_forms.specs.declared.code.Op.{Op}
 use Rattle.rule_forms.specs.declared.given.Given.{Given}
 use Rattle.rule_forms.specs.declared.known.Constant.{Constant}
@@ -26,7 +26,7 @@ use Rattle.rule_forms.specs.Code.{code_of}
 use Rattle.rule_forms.specs.Forms.{expr_of_test}
 use Rattle.rule_forms.specs.RuleCodes.{Codes, codes_of}
 use Rattle.rule_forms.specs.Known.{AlwaysMakes}
-use Rattle.rule_forms.specs.ByCode.{Outcome, truth_or_stop, truth_by_code, made_by_code, if_holds, first_by_code}
+use Rattle.rule_forms.specs.ByCode.{Outcome, truth_or_stop, truth_by_code, if_holds}
 use Rattle.rule_eval.specs.Sums.{port_value_at}
 use Rattle.rule_eval.specs.Tests.{plain_truth, test_truth}
 use Rattle.rule_eval.specs.Evaluated.{Evaluates, Makes}

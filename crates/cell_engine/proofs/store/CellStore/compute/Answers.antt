@@ -15,6 +15,7 @@ pub invariant_of-self : goal.invariant_of-self
 invariant_of-self g c = (
   c.advance.ensures.ready,
   kept_still (near c.self.inside.plan) c.args.i c.self.inside.table c.advance.new.table c.self.inside.tallies.items c.advance.ensures.only c.self.invariant.1,
+  c.advance.ensures.memo,
 )
 
 pub returns-clause-computed : goal.returns-clause-computed

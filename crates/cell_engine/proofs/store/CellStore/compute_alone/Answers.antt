@@ -19,6 +19,7 @@ pub invariant_of-self : goal.invariant_of-self
 invariant_of-self g c = (
   c.wake.ensures.ready,
   kept_still (near c.self.inside.plan) c.args.i c.self.inside.table c.wake.new.table c.self.inside.tallies.items c.wake.ensures.only c.self.invariant.1,
+  c.wake.ensures.memo,
 )
 
 pub returns-clause-computed : goal.returns-clause-computed

@@ -26,7 +26,7 @@ follow-requires g c =
     }
 
 pub invariant_of-self : goal.invariant_of-self
-invariant_of-self g c = (c.follow.ensures.ready, c.follow.ensures.kept)
+invariant_of-self g c = (c.follow.ensures.ready, c.follow.ensures.kept, c.self.invariant.2)
 
 pub returns-clause-cells : goal.returns-clause-cells
 returns-clause-cells g c =

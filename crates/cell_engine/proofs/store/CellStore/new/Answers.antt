@@ -18,6 +18,15 @@ first_tallies-requires c =
     let n = numbers (group_of c.args.group.now) c.requires in
     omega (arith, c.len-places.ensures, n.offsets, c.args.group.now.offsets.ok.0)
 
+pub memo_of-requires : goal.memo_of-requires
+memo_of-requires c =
+    let n = numbers (group_of c.args.group.now) c.requires in
+    let all = c.deref.ensures.value in
+    record {
+      offsets = all ∙ sym c.in_ok-plan.ensures.offsets;
+      few = omega (arith, ap length all, n.offsets);
+    }
+
 pub invariant_of-result : goal.invariant_of-result
 invariant_of-result c =
     let g = group_of c.args.group.now in
@@ -29,6 +38,7 @@ invariant_of-result c =
     let seen = room.seen ∙ (λ k. sym room.neighbours k * c.width.ensures.value k) in (
       made_ready g plan table _ _ _ _ c.requires c.in_ok-plan.ensures c.in_ok-table.ensures (room.neighbours ∙ here) seen room.changed room.depth,
       first_kept plan table g.initial g.port_values g.variable_values c.len-places.result c.in_ok-tallies.tallies.items c.in_ok-table.ensures near_here c.in_ok-tallies.ensures,
+      c.in_ok-memo.ensures,
     )
 
 pub returns : goal.returns

@@ -32,7 +32,7 @@ follow-requires c =
     }
 
 pub invariant_of-self : goal.invariant_of-self
-invariant_of-self c = (c.follow.ensures.ready, c.follow.ensures.kept)
+invariant_of-self c = (c.follow.ensures.ready, c.follow.ensures.kept, c.self.invariant.2)
 
 pub returns : goal.returns
 returns c =
