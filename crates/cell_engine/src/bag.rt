@@ -28,7 +28,7 @@ use crate::CellStop;
 use crate::desk::Desk;
 use crate::memo::{Memo, by_few};
 use crate::plan::Plan;
-use crate::step::{by_rules, take};
+use crate::step::{by_rules, codes_at, take};
 use crate::tallies::tally_of;
 use atomic_face::PortNo;
 use cell_table::CellTable;
@@ -258,14 +258,6 @@ fn set_at(plan: &Plan, i: u32) -> usize
     ensures within { result < length plan.now.codes }
 {
     plan.sets[i as usize]
-}
-
-/// The codes of a rule set.
-pub(crate) fn codes_at(plan: &Plan, set: usize) -> &[RuleCode]
-    requires { set < length plan.now.codes }
-    ensures { result.now ≡ slice_index_or plan.now.codes set [] }
-{
-    &plan.codes[set]
 }
 
 /// The number of the rule set for a port of a cell, where there is one.

@@ -18,11 +18,10 @@ ghost use Rattle.cell_engine.specs.Known.{no_offset, seen_at, IsOwn, IsAlike, Al
 ghost use Rattle.cell_engine.specs.Known.{IsAnswer, IsMemo};
 
 use crate::CellStop;
-use crate::bag::codes_at;
 use crate::desk::Desk;
 use crate::plan::Plan;
 use crate::sight::{look, place_of, view};
-use crate::step::{by_rules, later, take_lent};
+use crate::step::{by_rules, codes_at, later, take_lent};
 use crate::tallies::{are_same, short};
 use cell_table::CellTable;
 use quantity::{Offset, OutOfMemory, Time, Value};

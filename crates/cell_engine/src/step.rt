@@ -1,6 +1,6 @@
 // What one cell takes by a set of rules.
 ghost use Rattle.std.specs.Prelude.{◌≡◌, ℕ, ◌+◌, ◌<◌, ◌≤◌, List, length};
-ghost use Rattle.std.specs.Prelude.{IfSome, OnOk, OnErr, slice_set};
+ghost use Rattle.std.specs.Prelude.{[], IfSome, OnOk, OnErr, slice_index_or, slice_set};
 ghost use Rattle.std.specs.List.{All};
 ghost use Rattle.quantity.specs.declared.bounds.TheConstants.{MAX_DELAY};
 ghost use Rattle.quantity.specs.declared.value.Value.{Value as AnyValue};
@@ -69,6 +69,14 @@ pub(crate) fn by_rules(
         }
         Err(stop) => Err(stop_of(stop)),
     }
+}
+
+/// The codes of a rule set.
+pub(crate) fn codes_at(plan: &Plan, set: usize) -> &[RuleCode]
+    requires { set < length plan.now.codes }
+    ensures { result.now ≡ slice_index_or plan.now.codes set [] }
+{
+    &plan.codes[set]
 }
 
 /// The time that is so much later.
