@@ -1,5 +1,5 @@
 -- What cells show, where one of them changes, and their tallies then.
-use Rattle.std.proofs.Common.{◌≡◌, ℕ, zero, suc, ◌<◌, true, Option, Some, None, List, [], ◌∷◌, map, length, get_or, set, replicate, refl, sym, ◌∙◌, ap, subst, arith, Ok, Err}
+use Rattle.std.proofs.Common.{◌≡◌, ℕ, zero, suc, ◌+◌, ◌<◌, true, Option, Some, None, List, [], ◌∷◌, map, length, get_or, set, replicate, refl, sym, ◌∙◌, ap, subst, arith, Ok, Err}
 use Rattle.std.specs.Prelude.{◌&&◌, ◌==◌, IfSome, OnOk, OnErr}
 use Rattle.std.specs.declared.result.Result.{Result}
 use Rattle.std.proofs.lemmas.Bool.{and_parts, eqb-true}
@@ -117,12 +117,13 @@ none_shown es shows (m ∷ ms) =
     let v = out_of es m in
     let vs = map (out_of es) ms in
     let one : counted Ones (v ∷ []) ≡ 0 = ap (λ (x : Value). counted Ones (x ∷ [])) (shows m) in
-    let zero' : counted Zeros (v ∷ []) ≡ 0 = ap (λ (x : Value). counted Zeros (x ∷ [])) (shows m) in
+    let none : counted Zeros (v ∷ []) ≡ 0 = ap (λ (x : Value). counted Zeros (x ∷ [])) (shows m) in
     let undef : counted Undefs (v ∷ []) ≡ 1 = ap (λ (x : Value). counted Undefs (x ∷ [])) (shows m) in
+    let next : 1 + length ms ≡ suc (length ms) = omega arith in
     record {
-      ones = omega (arith, counted-cons Ones v vs, one, others.ones);
-      zeros = omega (arith, counted-cons Zeros v vs, zero', others.zeros);
-      undefs = omega (arith, counted-cons Undefs v vs, undef, others.undefs);
+      ones = counted-cons Ones v vs ∙ (λ k. one k + others.ones k);
+      zeros = counted-cons Zeros v vs ∙ (λ k. none k + others.zeros k);
+      undefs = counted-cons Undefs v vs ∙ (λ k. undef k + others.undefs k) ∙ next;
     }
 
 starts_undefined : (further xs : List Value) (initial : List Value) (m : Option ℕ) → out_of (map shown (map (started further xs) initial)) m ≡ Undefined

@@ -106,7 +106,7 @@ module _ (n : Neighbourhood) (es : List Value) (i : ℕ) (before : Value) (was i
   here_can : (t : Tally) (ms : List (Option ℕ)) (k : ℕ) → k < length ms → IsTally t (midway old es k ms) → get_or ms k None ≡ Some i → length ms ≤ 128 → CanMove t was is
   here_can t ms k lt mid at few =
       can_move t was is (first ms k) (rest ms k) before (get_or es i Undefined) (tallied t ms k lt mid at) old_is new_is
-      (omega (arith, few, midway_long old es ms k, ap length (by_old ms k lt at)))
+      (subst (λ m. m ≤ 128) (sym (midway_long old es ms k) ∙ ap length (by_old ms k lt at)) few)
 
   here_moved : (t : Tally) (ms : List (Option ℕ)) (k : ℕ) → k < length ms → IsTally t (midway old es k ms) → get_or ms k None ≡ Some i → IsTally (moved_tally t was is) (midway old es (k + 1) ms)
   here_moved t ms k lt mid at =
