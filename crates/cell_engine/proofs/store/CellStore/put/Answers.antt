@@ -24,10 +24,10 @@ follow-requires c =
     let put = c.put-done.ensures in
     let state = cell_of_saved c.args.state.now in
     let here : i < length tb.cells = omega (arith, c.requires.within, ap (λ (s : Cells). length s.cells) c.self.view_is) in
-    let ready = put_ready i state tb c.put-done.new.self c.put-done.result l _ _ _ _ put.ok put.err c.self.invariant.0 in
+    let standing = put_ready i state tb c.put-done.new.self c.put-done.result l _ _ _ _ put.ok put.err c.self.invariant.0 in
     record {
-      cell = omega (arith, here, ready.cells, c.self.invariant.0.cells);
-      ready = ready;
+      cell = omega (arith, here, standing.cells, c.self.invariant.0.cells);
+      ready = standing;
       kept = kept_put c.put-done.result (near l) i state tb c.put-done.new.self c.emitted-before.result c.self.inside.tallies.items here c.emitted-before.ensures put.ok put.err c.self.invariant.1;
     }
 
