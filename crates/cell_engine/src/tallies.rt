@@ -162,14 +162,14 @@ fn move_all(
         tallies.old }
     ensures { AreTallies (near plan.now) (outs_of table.now) tallies.new }
 {
-    // Only the clauses speak of these.
+    for watcher in watchers {
+        move_for(*watcher, gone, come, tallies);
+    }
+    // Only the clauses and the loop's invariant speak of these.
     let _plan = plan;
     let _table = table;
     let _cell = i;
     let _before = before;
-    for watcher in watchers {
-        move_for(*watcher, gone, come, tallies);
-    }
 }
 
 /// The tally of a cell is moved, if one is.
