@@ -18,7 +18,7 @@ use Rattle.rule_tree.specs.Meaning.{Sight, number_answered, truth_in, meaning}
 use Rattle.rule_tree.specs.Scope.{differ}
 use Rattle.rule_tree.specs.Chosen.{Chosen, unless_overflow, after, with_delay, delay_of, if_true, values_of, variables_after, given, chosen}
 use Rattle.rule_forms.specs.declared.given.Given.{Given}
-use Rattle.rule_eval.specs.Evaluated.{Evaluates}
+use Rattle.rule_forms.specs.ByPort.{Evaluates}
 use Rattle.run_model.specs.CellStep.{CellState, took, and_took}
 use Rattle.cell_engine.specs.declared.stop.CellStop.{CellStop}
 use Rattle.cell_engine.specs.Cells.{stop_of, Computes}

@@ -1,15 +1,14 @@
 -- Lists that are made item by item.
 use Rattle.std.proofs.Common.{◌≡◌, ◌<◌, ◌+◌, ◌*◌, ℕ, List, [], ◌∷◌, ◌++◌, map, take, set, get_or, length, sym, ◌∙◌, ap, arith}
 use Rattle.std.specs.List.{flat_map}
-use Rattle.std.proofs.lemmas.List.{map_more, map_push, take_more, take_more_set, flat_map_more}
+use Rattle.std.proofs.lemmas.List.{map_more, take_more, take_more_set, flat_map_more}
 use Rattle.std.proofs.Math.Nat.{add-mul}
 
--- one item more of what two steps make of each item
-pub one_more : {A B C : Type 0} (f : A → B) (g : B → C) (xs : List A) (i : ℕ) (x : A) (ys : List C) (y : C) → i < length xs → x ≡ get_or xs i x → ys ≡ map g (map f (take i xs)) → y ≡ g (f x)
-    → ys ++ y ∷ [] ≡ map g (map f (take (i + 1) xs))
-one_more f g xs i x ys y here is made own =
-    ap (λ zs. zs ++ y ∷ []) made ∙ ap (λ z. map g (map f (take i xs)) ++ z ∷ []) (own ∙ ap (λ a. g (f a)) is)
-    ∙ sym (ap (map g) (map_more f xs i x here) ∙ map_push g (map f (take i xs)) (f (get_or xs i x)))
+-- one item more of what a step makes of each item
+pub one_more : {A B : Type 0} (f : A → B) (xs : List A) (i : ℕ) (x : A) (ys : List B) (y : B) → i < length xs → x ≡ get_or xs i x → ys ≡ map f (take i xs) → y ≡ f x
+    → ys ++ y ∷ [] ≡ map f (take (i + 1) xs)
+one_more f xs i x ys y here is made own =
+    ap (λ zs. zs ++ y ∷ []) made ∙ ap (λ z. map f (take i xs) ++ z ∷ []) (own ∙ ap f is) ∙ sym (map_more f xs i x here)
 
 -- one item more of a copy
 pub copied_more : {A : Type 0} (xs ys : List A) (i : ℕ) (x y : A) → i < length xs → x ≡ get_or xs i x → ys ≡ take i xs → y ≡ x → ys ++ y ∷ [] ≡ take (i + 1) xs

@@ -17,15 +17,13 @@ use Rattle.rule_tree.specs.declared.outcome.RuleStop.{RuleStop}
 use Rattle.rule_tree.specs.Expression.{Rule}
 use Rattle.rule_tree.specs.Chosen.{chosen}
 use Rattle.rule_tree.specs.Meaning.{Sight, value_at, outs, counted}
-use Rattle.rule_forms.specs.RuleCodes.{Codes, codes_of}
+use Rattle.rule_forms.specs.ByPort.{Evaluates}
 use Rattle.rule_forms.specs.declared.given.Given.{Given}
 use Rattle.rule_forms.specs.declared.known.Constant.{Constant}
 use Rattle.rule_eval.specs.declared.tally.Tally.{Tally}
-use Rattle.rule_eval.specs.Evaluated.{Evaluates}
 use Rattle.rule_eval.specs.Few.{Agree, GoByFew}
 use Rattle.rule_eval.specs.Sums.{port_value_at}
 use Rattle.rule_eval.specs.Tallies.{IsTally}
-use Rattle.rule_eval.proofs.Fewness.{given_again}
 use Rattle.cell_grid.specs.Space.{Space, IsInside, cell_count, place_of, neighbour}
 use Rattle.cell_grid.proofs.Places.{number-of_place, place-inside}
 use Rattle.cell_reach.specs.Neighbourhoods.{neighbours, StaysInside, difference}
@@ -80,23 +78,24 @@ agree own v t s r a b =
     }
 
 -- what was given over one such sight is given over each
-pub always_give : (own : ℕ) (rules : List Codes) (v : Value) (t : Tally) (c : Constant) (s : Sight) → GoByFew own rules → SeesFew own v t s → c.delay ≤ 359999999
-    → ((trees : List Rule) → rules ≡ map codes_of trees → (let r : Result (Given × ℕ) RuleStop = Ok (c.given, c.delay) in Evaluates (chosen trees s) r [])) → AlwaysGive own rules v t c
+pub always_give : (own : ℕ) (rules : List Rule) (v : Value) (t : Tally) (c : Constant) (s : Sight) → GoByFew own rules → SeesFew own v t s → c.delay ≤ 359999999
+    → Evaluates (chosen rules s) (Ok (c.given, c.delay)) [] → AlwaysGive own rules v t c
 always_give own rules v t c s few sees bounded given =
     record {
       bounded = bounded;
-      given = λ r other trees stand. given_again own trees rules s r (Ok (c.given, c.delay)) [] stand few (agree own v t s r sees other) (given trees stand);
+      given = λ r other. few s r (agree own v t s r sees other) (Ok (c.given, c.delay)) [] given;
     }
 
 -- what rules gave over a sight is an answer, where they go by few
-pub learnt : (l : Layout) (own : ℕ) (rules : List Codes) (v : Value) (t : Tally) (o : Option Constant) (s : Sight) → rules ≡ get_or l.codes 0 [] → IsAlike l own → SeesFew own v t s
-    → IfSome o (λ c. c.delay ≤ 359999999) → IfSome o (λ c. (trees : List Rule) → rules ≡ map codes_of trees → (let r : Result (Given × ℕ) RuleStop = Ok (c.given, c.delay) in Evaluates (chosen trees s) r s.variables))
-    → IfSome o (AlwaysGive own (get_or l.codes 0 []) v t)
+pub learnt : (l : Layout) (own : ℕ) (rules : List Rule) (v : Value) (t : Tally) (o : Option Constant) (s : Sight) → rules ≡ get_or l.rule_sets 0 [] → IsAlike l own → SeesFew own v t s
+    → IfSome o (λ c. c.delay ≤ 359999999) → IfSome o (λ c. Evaluates (chosen rules s) (Ok (c.given, c.delay)) s.variables)
+    → IfSome o (AlwaysGive own (get_or l.rule_sets 0 []) v t)
 learnt l own rules v t None s are alike few bounded given = tt
 learnt l own rules v t (Some c) s are alike few bounded given =
-    let r : Result (Given × ℕ) RuleStop = Ok (c.given, c.delay) in
-    always_give own (get_or l.codes 0 []) v t c s alike.few few bounded
-    (λ trees stand. subst (λ (xs : List Value). Evaluates (chosen trees s) r xs) few.variables (given trees (are ∙ stand)))
+    let first = get_or l.rule_sets 0 [] in
+    always_give own first v t c s alike.few few bounded
+    (subst (λ (rs : List Rule). Evaluates (chosen rs s) (Ok (c.given, c.delay)) []) are
+    (subst (λ (xs : List Value). Evaluates (chosen rules s) (Ok (c.given, c.delay)) xs) few.variables given))
 
 pub same_tally : (a b : Tally) → ((a.ones == b.ones) && (a.zeros == b.zeros) && (a.undefs == b.undefs)) ≡ true → a ≡ b
 same_tally a b h =
@@ -128,21 +127,21 @@ all_set P xs i y each own k d lt =
     ]
 
 -- an answer more
-pub memo_more : (l : Layout) (own i : ℕ) (known : List Known) (k : Known) → IsMemo l own known → IsAnswer own (get_or l.codes 0 []) k → IsMemo l own (set known i k)
+pub memo_more : (l : Layout) (own i : ℕ) (known : List Known) (k : Known) → IsMemo l own known → IsAnswer own (get_or l.rule_sets 0 []) k → IsMemo l own (set known i k)
 memo_more l own i known k memo answer =
     record {
       alike = λ some. memo.alike (omega (arith, some, length-set known i k));
-      each = all_set (IsAnswer own (get_or l.codes 0 [])) known i k memo.each answer;
+      each = all_set (IsAnswer own (get_or l.rule_sets 0 [])) known i k memo.each answer;
     }
 
 -- nothing is kept at first
 pub memo_starts : (l : Layout) (own count : ℕ) (known : List Known) (k : Known) → known ≡ replicate count k → k.made ≡ None → (0 < count → IsAlike l own) → IsMemo l own known
 memo_starts l own count known k is nothing alike =
     let long : length known ≡ count = ap length is ∙ length-replicate count k in
-    let free : IsAnswer own (get_or l.codes 0 []) k = subst (λ (o : Option Constant). IfSome o (AlwaysGive own (get_or l.codes 0 []) k.own k.tally)) (sym nothing) tt in
+    let free : IsAnswer own (get_or l.rule_sets 0 []) k = subst (λ (o : Option Constant). IfSome o (AlwaysGive own (get_or l.rule_sets 0 []) k.own k.tally)) (sym nothing) tt in
     record {
       alike = λ some. alike (omega (arith, some, long));
-      each = λ j d lt. subst (λ (x : Known). IsAnswer own (get_or l.codes 0 []) x)
+      each = λ j d lt. subst (λ (x : Known). IsAnswer own (get_or l.rule_sets 0 []) x)
           (sym (ap (λ (xs : List Known). get_or xs j d) is ∙ get_or-replicate count k j d (omega (arith, lt, long)))) free;
     }
 

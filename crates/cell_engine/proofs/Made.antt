@@ -3,7 +3,8 @@ use Rattle.std.proofs.Common.{◌≡◌, ℕ, ◌+◌, ◌*◌, ◌<◌, ◌≤�
 use Rattle.std.specs.List.{All}
 use Rattle.std.proofs.lemmas.List.{length-map}
 use Rattle.std.proofs.lemmas.List.Elements.{All-more}
-use Rattle.rule_forms.specs.RuleCodes.{Codes, rule_depth}
+use Rattle.rule_tree.specs.Expression.{Rule}
+use Rattle.rule_forms.specs.Depth.{rule_depth}
 use Rattle.cell_grid.specs.Space.{cell_count}
 use Rattle.model_tree.specs.Tree.{Group}
 use Rattle.model_tree.specs.Sound.{is_sound_group}
@@ -26,26 +27,26 @@ numbers g sound =
     record { cells = s.initial; offsets = s.offsets; ports = k.ports; variables = k.variables }
 
 -- no rule needs more than this at once
-abbrev pub NeedsAtMost : ℕ → List Codes → Type 0
-NeedsAtMost most rules = All (λ (rule : Codes). rule_depth rule ≤ most) rules
+abbrev pub NeedsAtMost : ℕ → List Rule → Type 0
+NeedsAtMost most rules = All (λ (rule : Rule). rule_depth rule ≤ most) rules
 
-pub needs_weaker : (m n : ℕ) (rules : List Codes) → m ≤ n → NeedsAtMost m rules → NeedsAtMost n rules
+pub needs_weaker : (m n : ℕ) (rules : List Rule) → m ≤ n → NeedsAtMost m rules → NeedsAtMost n rules
 needs_weaker m n rules le needs k d lt = omega (arith, le, needs k d lt)
 
 -- one rule more
-pub needs_more : (rules : List Codes) (i : ℕ) (rule : Codes) (m n : ℕ) → i < length rules → rule ≡ get_or rules i rule → NeedsAtMost m (take i rules) → m ≤ n → rule_depth rule ≤ n → NeedsAtMost n (take (i + 1) rules)
+pub needs_more : (rules : List Rule) (i : ℕ) (rule : Rule) (m n : ℕ) → i < length rules → rule ≡ get_or rules i rule → NeedsAtMost m (take i rules) → m ≤ n → rule_depth rule ≤ n → NeedsAtMost n (take (i + 1) rules)
 needs_more rules i rule m n here is needs le own =
-    All-more (λ (r : Codes). rule_depth r ≤ n) rules i rule here (needs_weaker m n (take i rules) le needs) (subst (λ (r : Codes). rule_depth r ≤ n) is own)
+    All-more (λ (r : Rule). rule_depth r ≤ n) rules i rule here (needs_weaker m n (take i rules) le needs) (subst (λ (r : Rule). rule_depth r ≤ n) is own)
 
--- the same of sets of rules that have these codes
-pub sets_need_more : {A : Type 0} (f : A → List Codes) (sets : List A) (i : ℕ) (set : A) (m n k : ℕ) → i < length sets → set ≡ get_or sets i set → All (λ s. NeedsAtMost m (f s)) (take i sets) → m ≤ n → NeedsAtMost k (f set) → k ≤ n
+-- the same of sets of which each has such rules
+pub sets_need_more : {A : Type 0} (f : A → List Rule) (sets : List A) (i : ℕ) (set : A) (m n k : ℕ) → i < length sets → set ≡ get_or sets i set → All (λ s. NeedsAtMost m (f s)) (take i sets) → m ≤ n → NeedsAtMost k (f set) → k ≤ n
     → All (λ s. NeedsAtMost n (f s)) (take (i + 1) sets)
 sets_need_more f sets i set m n k here is needs le own most =
     All-more (λ s. NeedsAtMost n (f s)) sets i set here (λ j d lt. needs_weaker m n (f (get_or (take i sets) j d)) le (needs j d lt)) (subst (λ s. NeedsAtMost n (f s)) is (needs_weaker k n (f set) most own))
 
 -- the plan and the cells of a sound group, with room for a step
 pub made_ready : (g : Group) (l : Layout) (t : Table) (p r c d : ℕ) → is_sound_group g ≡ true → StandsFor g l → t ≡ starting g.initial g.port_values g.variable_values
-    → p ≡ length g.offsets → r ≡ p * t.width → c ≡ l.variables → All (NeedsAtMost d) l.codes → IsReady l t p r c d
+    → p ≡ length g.offsets → r ≡ p * t.width → c ≡ l.variables → All (NeedsAtMost d) l.rule_sets → IsReady l t p r c d
 made_ready g l t p r c d sound st start places room changed depth =
     let n = numbers g sound in
     let wide : t.width ≡ length g.port_values + 1 = ap (λ (u : Table). u.width) start in

@@ -5,8 +5,9 @@ use Rattle.std.specs.List.{All}
 use Rattle.std.specs.Option.{unwrap_or}
 use Rattle.std.proofs.lemmas.List.{take_at}
 use Rattle.std.specs.declared.result.Result.{Result}
+use Rattle.rule_tree.specs.Expression.{Rule}
 use Rattle.rule_tree.specs.Meaning.{Sight}
-use Rattle.rule_forms.specs.RuleCodes.{Codes, rule_depth}
+use Rattle.rule_forms.specs.Depth.{rule_depth}
 use Rattle.atomic_face.specs.Classes.{Bag}
 use Rattle.cell_grid.specs.Space.{cell_count}
 use Rattle.model_tree.specs.Tree.{Word, Group}
@@ -55,7 +56,7 @@ ready_still l t u p r c d p' r' c' d' shape ep er ec ed h =
       places = ep ∙ now.places;
       room = er ∙ now.room;
       changed = ec ∙ now.changed;
-      depth = subst (λ (k : ℕ). All (λ (rules : List Codes). All (λ (rule : Codes). rule_depth rule ≤ k) rules) l.codes) (sym ed) now.depth;
+      depth = subst (λ (k : ℕ). All (λ (rules : List Rule). All (λ (rule : Rule). rule_depth rule ≤ k) rules) l.rule_sets) (sym ed) now.depth;
     }
 
 -- a list whose first part was written anew keeps its length

@@ -1,17 +1,16 @@
 -- What a sound group gives a store.
-use Rattle.std.proofs.Common.{◌≡◌, ℕ, zero, suc, ◌+◌, ◌<◌, ◌≤◌, Bool, true, Option, Some, None, List, [], ◌∷◌, map, length, get_or, replicate, refl, sym, ◌∙◌, ap, arith, zero-add}
+use Rattle.std.proofs.Common.{◌≡◌, ℕ, zero, suc, ◌+◌, ◌<◌, ◌≤◌, Bool, true, Option, Some, None, List, [], ◌∷◌, length, get_or, replicate, refl, sym, ◌∙◌, ap, arith, zero-add}
 use Rattle.std.specs.Prelude.{not, ◌&&◌, ◌==◌, nat_le, nat_lt, slice_get}
 use Rattle.std.specs.List.{list_all, range_with_len}
 use Rattle.std.specs.Option.{unwrap_or}
 use Rattle.std.proofs.lemmas.Bool.{and_parts}
 use Rattle.std.proofs.lemmas.Bool.Decides.{nat_tests}
-use Rattle.std.proofs.lemmas.List.{length-map, length-replicate, get_or-replicate}
+use Rattle.std.proofs.lemmas.List.{length-replicate, get_or-replicate}
 use Rattle.std.proofs.lemmas.List.FromFn.{length-map-range_with_len, get_or-map-range_with_len, fill_by_all}
 use Rattle.quantity.specs.declared.place.Offset.{Offset}
 use Rattle.quantity.specs.Bytes.{is_empty, has_repeat}
 use Rattle.rule_tree.specs.Phrases.{out}
 use Rattle.rule_tree.specs.Scope.{is_sound}
-use Rattle.rule_forms.specs.RuleCodes.{codes_of}
 use Rattle.cell_grid.specs.Space.{Space, cell_count}
 use Rattle.cell_grid.specs.Zones.{zone_of}
 use Rattle.cell_grid.specs.Numbered.{numbered}
@@ -134,7 +133,7 @@ is_plan g l n sound st near =
     let s = sizes g sound in
     let k = counts g s.names in
     let r = ruled g s.rules in
-    let many : length l.codes ≡ length g.rule_sets = ap length st.codes ∙ length-map g.rule_sets (map codes_of) in
+    let many : length l.rule_sets ≡ length g.rule_sets = ap length st.rule_sets in
     let count = cell_count g.space in
     let sets-long : length l.sets ≡ count = ap length st.sets ∙ length-map-range_with_len (set_of g) 0 count in
     record {

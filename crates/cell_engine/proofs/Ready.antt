@@ -27,5 +27,5 @@ desk_after l t u p r c d p' r' c' d' shape places room changed deep h =
       places = places ∙ h.places;
       room = room ∙ ap (λ k. length l.offsets * k) (sym shape.width);
       changed = changed ∙ h.changed;
-      depth = subst (λ m. NeedAtMost m l.codes) (sym deep) h.depth;
+      depth = subst (λ m. NeedAtMost m l.rule_sets) (sym deep) h.depth;
     }

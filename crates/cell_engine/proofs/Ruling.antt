@@ -5,11 +5,11 @@ use Rattle.std.specs.List.{find, list_all}
 use Rattle.std.specs.Option.{option_map, unwrap_or}
 use Rattle.std.proofs.lemmas.Bool.{and_parts}
 use Rattle.std.proofs.lemmas.List.{drop_more}
+use Rattle.std.proofs.lemmas.Option.{unwrap_or-slice_get}
 use Rattle.std.proofs.lemmas.List.FromFn.{get_or-map-range_with_len}
 use Rattle.quantity.specs.Bytes.{is_empty}
 use Rattle.rule_tree.specs.Expression.{Expr, Rule}
 use Rattle.rule_tree.specs.Scope.{Extent, differ, has_right_sorts, is_within, is_sound}
-use Rattle.rule_forms.specs.RuleCodes.{Codes, codes_of}
 use Rattle.cell_grid.specs.Space.{Space, cell_count}
 use Rattle.cell_grid.specs.Zones.{zone_of}
 use Rattle.model_tree.specs.declared.group.PortRule.{PortRule}
@@ -17,7 +17,7 @@ use Rattle.model_tree.specs.Tree.{Word, Group}
 use Rattle.model_tree.specs.Sound.{extent, is_sound_group}
 use Rattle.run_model.specs.CellStep.{rule_set, zone_rule_set, cell_rules, port_rules}
 use Rattle.cell_engine.specs.Layout.{Layout, set_in, set_of, StandsFor}
-use Rattle.cell_engine.specs.Step.{gives_apart, StandForRules, is_for}
+use Rattle.cell_engine.specs.Step.{gives_apart, is_for}
 use Rattle.cell_engine.proofs.Planned.{sizes, ruled}
 
 -- ---- sound rules give at different ports
@@ -48,20 +48,25 @@ set_apart n (rs ∷ sets) zero h =
 set_apart n (rs ∷ sets) (suc k) h =
     set_apart n sets k (and_parts (nat_le (length rs) 1024 && list_all (is_sound n) rs) (list_all (λ (rules : List Rule). nat_le (length rules) 1024 && list_all (is_sound n) rules) sets) h).1
 
--- ---- codes by the number of their set
+-- ---- rules by the number of their set
 
-codes_at : (sets : List (List Rule)) (k : ℕ) → get_or (map (map codes_of) sets) k [] ≡ map codes_of (unwrap_or (slice_get sets k) [])
-codes_at [] k = refl
-codes_at (rs ∷ sets) zero = refl
-codes_at (rs ∷ sets) (suc k) = codes_at sets k
+-- rules are these, of which each gives at different ports
+pub record AreRules (rules own : List Rule) : Type 0 where
+  pub are : rules ≡ own
+  pub apart : list_all gives_apart own ≡ true
 
--- the codes of a set stand for its rules
-pub set_stands : (g : Group) (l : Layout) (k : ℕ) (codes : List Codes) → StandsFor g l → is_sound_group g ≡ true → codes ≡ get_or l.codes k [] → StandForRules codes (rule_set g k)
-set_stands g l k codes st sound is =
+-- the rules of a set are the group's
+pub set_stands : (g : Group) (l : Layout) (k : ℕ) (rules : List Rule) → StandsFor g l → is_sound_group g ≡ true → rules ≡ get_or l.rule_sets k [] → AreRules rules (rule_set g k)
+set_stands g l k rules st sound is =
     record {
-      codes_are = is ∙ ap (λ (cs : List (List Codes)). get_or cs k []) st.codes ∙ codes_at g.rule_sets k;
+      are = is ∙ ap (λ (sets : List (List Rule)). get_or sets k []) st.rule_sets ∙ sym (unwrap_or-slice_get g.rule_sets k []);
       apart = set_apart (extent g) g.rule_sets k (ruled g (sizes g sound).rules).sound;
     }
+
+-- what is so of rules that give at different ports is so of the group's
+pub of_the_group : (P : List Rule → Type 0) (rules own : List Rule) → AreRules rules own → (list_all gives_apart rules ≡ true → P rules) → P own
+of_the_group P rules own same so =
+    subst P same.are (so (subst (λ (rs : List Rule). list_all gives_apart rs ≡ true) (sym same.are) same.apart))
 
 -- ---- the rules of a cell
 
@@ -77,12 +82,12 @@ set_is g l i d st here =
     let inside : i < cell_count g.space = subst (λ (s : Space). i < cell_count s) st.space here in
     ap (λ (ks : List ℕ). get_or ks i d) st.sets ∙ get_or-map-range_with_len (set_of g) 0 (cell_count g.space) i i d inside (zero-add i)
 
--- the codes of a cell's set stand for the cell's rules
-pub cell_stands : (g : Group) (l : Layout) (i d : ℕ) (codes : List Codes) → StandsFor g l → is_sound_group g ≡ true → i < cell_count l.space → codes ≡ get_or l.codes (get_or l.sets i d) []
-    → StandForRules codes (cell_rules g i)
-cell_stands g l i d codes st sound here is =
-    subst (λ (rs : List Rule). StandForRules codes rs) (ap (rule_set g) (set_is g l i d st here) ∙ cell_rules_are g i)
-    (set_stands g l (get_or l.sets i d) codes st sound is)
+-- the rules of a cell's set are the cell's rules
+pub cell_stands : (g : Group) (l : Layout) (i d : ℕ) (rules : List Rule) → StandsFor g l → is_sound_group g ≡ true → i < cell_count l.space → rules ≡ get_or l.rule_sets (get_or l.sets i d) []
+    → AreRules rules (cell_rules g i)
+cell_stands g l i d rules st sound here is =
+    subst (λ (rs : List Rule). AreRules rules rs) (ap (rule_set g) (set_is g l i d st here) ∙ cell_rules_are g i)
+    (set_stands g l (get_or l.sets i d) rules st sound is)
 
 -- ---- the rules of a port
 

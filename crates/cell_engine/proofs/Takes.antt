@@ -11,9 +11,9 @@ use Rattle.rule_tree.specs.Ports.{changed_at, taken_by_port}
 use Rattle.rule_tree.specs.Expression.{Rule}
 use Rattle.rule_tree.specs.Meaning.{Sight}
 use Rattle.rule_tree.specs.Chosen.{Chosen, chosen}
-use Rattle.rule_forms.specs.RuleCodes.{Codes, rule_depth}
+use Rattle.rule_forms.specs.Depth.{rule_depth}
 use Rattle.rule_forms.specs.declared.given.Given.{Given}
-use Rattle.rule_eval.specs.Evaluated.{Evaluates}
+use Rattle.rule_forms.specs.ByPort.{Evaluates}
 use Rattle.model_tree.specs.Tree.{Word, Group}
 use Rattle.run_model.specs.CellStep.{CellState, port_took, took, and_took, rule_set, cell_rules, port_rules, by_port}
 use Rattle.cell_table.specs.Told.{no_cell, cell_at, OnlyCell}
@@ -111,11 +111,11 @@ itself_taken g i t at v kind tb u same when is =
 
 -- ---- by the group
 
--- the codes of a set need no more room than all
-pub depth_at : (codes : List (List Codes)) (k n : ℕ) (rules : List Codes) → All (λ (rs : List Codes). All (λ (r : Codes). rule_depth r ≤ n) rs) codes → k < length codes → rules ≡ get_or codes k []
-    → All (λ (r : Codes). rule_depth r ≤ n) rules
-depth_at codes k n rules all lt is =
-    subst (λ (rs : List Codes). All (λ (r : Codes). rule_depth r ≤ n) rs) (sym is) (all k [] lt)
+-- the rules of a set need no more room than all
+pub depth_at : (sets : List (List Rule)) (k n : ℕ) (rules : List Rule) → All (λ (rs : List Rule). All (λ (r : Rule). rule_depth r ≤ n) rs) sets → k < length sets → rules ≡ get_or sets k []
+    → All (λ (r : Rule). rule_depth r ≤ n) rules
+depth_at sets k n rules all lt is =
+    subst (λ (rs : List Rule). All (λ (r : Rule). rule_depth r ≤ n) rs) (sym is) (all k [] lt)
 
 -- a cell's rules, where it is woken
 pub is_woken : (U : Type 0) (r : Result U CellStop) (g : Group) (l : Layout) (i : ℕ) (old new : List CellState) (kind : DelayKind) (s : Sight) (woken : Bool) (c : CellState) → StandsFor g l → kind ≡ l.kind → woken ≡ true

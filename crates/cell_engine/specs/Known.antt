@@ -8,10 +8,9 @@ use Rattle.quantity.specs.declared.value.Value.{Value}
 use Rattle.rule_tree.specs.Expression.{Rule}
 use Rattle.rule_tree.specs.Chosen.{chosen}
 use Rattle.rule_tree.specs.Meaning.{Sight, outs}
-use Rattle.rule_forms.specs.RuleCodes.{Codes, codes_of}
 use Rattle.rule_forms.specs.declared.known.Constant.{Constant}
+use Rattle.rule_forms.specs.ByPort.{Evaluates}
 use Rattle.rule_eval.specs.declared.tally.Tally.{Tally}
-use Rattle.rule_eval.specs.Evaluated.{Evaluates}
 use Rattle.rule_eval.specs.Few.{GoByFew}
 use Rattle.rule_eval.specs.Sums.{port_value_at}
 use Rattle.rule_eval.specs.Tallies.{IsTally}
@@ -38,25 +37,24 @@ pub record SeesFew (own : ℕ) (v : Value) (t : Tally) (s : Sight) : Type 0 wher
   pub variables : s.variables ≡ []
 
 -- the rules give this over each such sight
-pub record AlwaysGive (own : ℕ) (rules : List Codes) (v : Value) (t : Tally) (c : Constant)
+pub record AlwaysGive (own : ℕ) (rules : List Rule) (v : Value) (t : Tally) (c : Constant)
     : Type 0 where
   pub bounded : c.delay ≤ MAX_DELAY
-  pub given : (s : Sight) → SeesFew own v t s → (trees : List Rule) → rules ≡ map codes_of trees
-      → Evaluates (chosen trees s) (Ok (c.given, c.delay)) []
+  pub given : (s : Sight) → SeesFew own v t s → Evaluates (chosen rules s) (Ok (c.given, c.delay)) []
 
 -- what is kept is what the rules give
-abbrev pub IsAnswer : ℕ → List Codes → Known → Type 0
+abbrev pub IsAnswer : ℕ → List Rule → Known → Type 0
 IsAnswer own rules k = IfSome k.made (AlwaysGive own rules k.own k.tally)
 
 -- cells have no variables and one set of rules, which go by the own value, seen by this offset, and
 -- by counts
 pub record IsAlike (l : Layout) (own : ℕ) : Type 0 where
   pub variables : l.variables ≡ 0
-  pub single : length l.codes ≡ 1
+  pub single : length l.rule_sets ≡ 1
   pub own_offset : IsOwn l.offsets own
-  pub few : GoByFew own (slice_index_or l.codes 0 [])
+  pub few : GoByFew own (slice_index_or l.rule_sets 0 [])
 
 -- answers are kept of such a group alone
 pub record IsMemo (l : Layout) (own : ℕ) (known : List Known) : Type 0 where
   pub alike : 0 < length known → IsAlike l own
-  pub each : All (IsAnswer own (slice_index_or l.codes 0 [])) known
+  pub each : All (IsAnswer own (slice_index_or l.rule_sets 0 [])) known

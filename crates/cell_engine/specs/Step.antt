@@ -1,6 +1,6 @@
 -- Private: the parts of a cell's step.
 use Rattle.std.specs.Prelude.{◌≡◌, ℕ, ◌+◌, ◌<◌, ◌≤◌, ◌&&◌, ◌==◌, Bool, true, Option, Some, None, List, [], map, replicate, slice_index_or, IfSome, if◌then◌else◌, ℤ, pos, ◌+ℤ◌, ◌≤ℤ◌, ◌<ℤ◌}
-use Rattle.std.specs.List.{All, list_all, flat_map}
+use Rattle.std.specs.List.{All, flat_map}
 use Rattle.std.specs.Str.{bytes_eq}
 use Rattle.std.specs.declared.result.Result.TheVariants.{Ok}
 use Rattle.quantity.specs.declared.delay.DelayKind.{DelayKind}
@@ -11,7 +11,7 @@ use Rattle.rule_tree.specs.Meaning.{Sight}
 use Rattle.rule_tree.specs.Scope.{differ}
 use Rattle.rule_tree.specs.Ports.{by_port}
 use Rattle.rule_tree.specs.Chosen.{chosen}
-use Rattle.rule_forms.specs.RuleCodes.{Codes, codes_of, rule_depth}
+use Rattle.rule_forms.specs.Depth.{rule_depth}
 use Rattle.rule_eval.specs.declared.view.View.{View}
 use Rattle.cell_grid.specs.Space.{place_of, dims_of}
 use Rattle.cell_reach.specs.Neighbourhoods.{Neighbourhood, further, neighbours}
@@ -90,20 +90,15 @@ pub record AreGiven (gs : List (ℕ × Value)) (values : List (Option Value)) : 
 abbrev pub gives_apart : Rule → Bool
 gives_apart r = differ (map (λ (g : ℕ × Expr). g.0) r.gives)
 
--- codes are those of rules of which each gives at different ports
-pub record StandForRules (codes : List Codes) (rules : List Rule) : Type 0 where
-  pub codes_are : codes ≡ map codes_of rules
-  pub apart : list_all gives_apart rules ≡ true
-
 -- a cell after the first true rule over what it sees
 abbrev pub ruled : DelayKind → Sight → List Rule → CellState → Stepped
 ruled kind sight rules c =
     and_took kind sight.time c (chosen rules (record sight { variables = c.variables }))
 
 -- all rules are evaluated with so many answers on the stack
-abbrev pub NeedAtMost : ℕ → List (List Codes) → Type 0
-NeedAtMost depth codes =
-    All (λ (rules : List Codes). All (λ (rule : Codes). rule_depth rule ≤ depth) rules) codes
+abbrev pub NeedAtMost : ℕ → List (List Rule) → Type 0
+NeedAtMost depth sets =
+    All (λ (rules : List Rule). All (λ (rule : Rule). rule_depth rule ≤ depth) rules) sets
 
 -- ---- the group
 

@@ -2,7 +2,7 @@
 use Rattle.std.specs.Prelude.{◌≡◌, ℕ, ◌+◌, ◌*◌, ◌≤◌, ◌<◌, length}
 use Rattle.std.specs.List.{All}
 use Rattle.quantity.specs.declared.bounds.TheConstants.{MAX_DELAY}
-use Rattle.rule_forms.specs.RuleCodes.{rule_depth}
+use Rattle.rule_forms.specs.Depth.{rule_depth}
 use Rattle.cell_grid.specs.Space.{cell_count}
 use Rattle.cell_reach.specs.Neighbourhoods.{Neighbourhood}
 use Rattle.model_tree.specs.declared.group.PortRule.{PortRule}
@@ -14,8 +14,8 @@ use Rattle.cell_table.specs.Table.{Table}
 pub record IsPlan (l : Layout) (n : Neighbourhood) : Type 0 where
   pub near : n ≡ record { space = l.space; offsets = l.offsets }
   pub cells : length l.sets ≡ cell_count l.space
-  pub sets : All (λ k. k < length l.codes) l.sets
-  pub port_rules : All (λ (r : PortRule). r.rules < length l.codes) l.port_rules
+  pub sets : All (λ k. k < length l.rule_sets) l.sets
+  pub port_rules : All (λ (r : PortRule). r.rules < length l.rule_sets) l.port_rules
   pub ports : l.ports ≤ 3
   pub variables : l.variables ≤ 8
   pub offsets : length l.offsets ≤ 128
@@ -29,7 +29,7 @@ pub record IsReady (l : Layout) (t : Table) (p r c d : ℕ) : Type 0 where
   pub places : p ≡ length l.offsets
   pub room : r ≡ length l.offsets * t.width
   pub changed : c ≡ l.variables
-  pub depth : All (λ rules. All (λ rule. rule_depth rule ≤ d) rules) l.codes
+  pub depth : All (λ rules. All (λ rule. rule_depth rule ≤ d) rules) l.rule_sets
 
 -- the same of a desk
 abbrev pub IsAtDesk : Layout → Table → Desk → Type 0
@@ -42,4 +42,4 @@ pub record HasRoom (places width : ℕ) (l : Layout) (d : Desk) : Type 0 where
   pub neighbours : length d.neighbours.items ≡ places
   pub seen : length d.seen.items ≡ places * width
   pub changed : length d.changed.items ≡ l.variables
-  pub depth : All (λ rules. All (λ rule. rule_depth rule ≤ d.stack.depth) rules) l.codes
+  pub depth : All (λ rules. All (λ rule. rule_depth rule ≤ d.stack.depth) rules) l.rule_sets

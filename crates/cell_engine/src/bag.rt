@@ -1,13 +1,12 @@
 // One step of a cell: its rules where it is woken, and what it takes of its bag.
-ghost use Rattle.std.specs.Prelude.{◌≡◌, ◌<◌, ◌≤◌, Option, None, List, []};
+ghost use Rattle.std.specs.Prelude.{◌≡◌, ◌<◌, ◌≤◌, Option, None, []};
 ghost use Rattle.std.specs.Prelude.{length, slice_index_or, IfSome, IsTrue};
-ghost use Rattle.std.specs.List.{All, find};
+ghost use Rattle.std.specs.List.{All, find, list_all};
 ghost use Rattle.std.specs.Option.{option_map};
 ghost use Rattle.quantity.specs.declared.bounds.TheConstants.{MAX_DELAY};
 ghost use Rattle.quantity.specs.declared.value.Value.{Value as AnyValue};
-ghost use Rattle.rule_tree.specs.Expression.{Rule};
 ghost use Rattle.rule_tree.specs.Meaning.{Sight, outs};
-ghost use Rattle.rule_forms.specs.RuleCodes.{rule_depth};
+ghost use Rattle.rule_forms.specs.Depth.{rule_depth};
 ghost use Rattle.rule_eval.specs.Tallies.{IsTally};
 ghost use Rattle.atomic_face.specs.declared.class.PortNo.{PortNo as Port};
 ghost use Rattle.cell_grid.specs.Space.{cell_count};
@@ -20,7 +19,7 @@ ghost use Rattle.cell_table.specs.Told.{cell_at, OnlyCell};
 ghost use Rattle.cell_engine.specs.Cells.{Computes};
 ghost use Rattle.cell_engine.specs.Layout.{StandsFor};
 ghost use Rattle.cell_engine.specs.Known.{IsMemo};
-ghost use Rattle.cell_engine.specs.Step.{IsOfGroup, StandForRules, is_for, near, ruled, sees, woken_at};
+ghost use Rattle.cell_engine.specs.Step.{IsOfGroup, gives_apart, is_for, near, ruled, sees, woken_at};
 ghost use Rattle.cell_engine.specs.Store.{IsAtDesk};
 ghost use Rattle.cell_engine.specs.Tallied.{outs_of, AreTallies};
 
@@ -119,11 +118,12 @@ fn by_set(
     requires cell { i < length table.old.cells }
     requires depth { All (λ rule. rule_depth rule ≤ desk.old.stack.depth) rules.now }
     requires known { IfSome known (λ k. IsTally k (outs (sees plan.now t table.old i))) }
-    requires rules { length plan.now.codes ≡ 1 → rules.now ≡ slice_index_or plan.now.codes 0 [] }
+    requires rules { length plan.now.rule_sets ≡ 1
+        → rules.now ≡ slice_index_or plan.now.rule_sets 0 [] }
     requires memo { IsMemo plan.now memo.old.own memo.old.known.items }
-    ensures cell { (trees : List Rule) → StandForRules rules.now trees
+    ensures cell { IsTrue (list_all gives_apart rules.now)
         → Computes i table.old.cells table.new.cells
-        (ruled plan.now.kind (sees plan.now t table.old i) trees
+        (ruled plan.now.kind (sees plan.now t table.old i) rules.now
         (cell_at table.old.cells i)) result }
     ensures only { OnlyCell i table.old.cells table.new.cells }
     ensures ready { IsAtDesk plan.now table.new desk.new }
@@ -255,7 +255,7 @@ fn take_itself(
 fn set_at(plan: &Plan, i: u32) -> usize
     requires { i < cell_count plan.now.space }
     ensures value { result ≡ slice_index_or plan.now.sets i 0 }
-    ensures within { result < length plan.now.codes }
+    ensures within { result < length plan.now.rule_sets }
 {
     plan.sets[i as usize]
 }
@@ -264,7 +264,7 @@ fn set_at(plan: &Plan, i: u32) -> usize
 fn rules_for(plan: &Plan, cell: u32, port: &Name) -> Option<usize>
     ensures value { result ≡ option_map (λ (r : Ruling). r.rules)
         (find (is_for cell port.now) plan.now.port_rules) }
-    ensures within { IfSome result (λ k. k < length plan.now.codes) }
+    ensures within { IfSome result (λ k. k < length plan.now.rule_sets) }
 {
     for rule in &plan.port_rules {
         if is_for(rule, cell, port) {

@@ -2,7 +2,7 @@
 ghost use Rattle.std.specs.Prelude.{◌≡◌, ◌<◌, ◌≤◌, [], ◌∷◌, ◌++◌, IfOk, OnOk, IsTrue, map};
 ghost use Rattle.std.specs.List.{All, range_with_len};
 ghost use Rattle.rule_tree.specs.Expression.{rule_of};
-ghost use Rattle.rule_forms.specs.RuleCodes.{codes_of, rule_depth};
+ghost use Rattle.rule_forms.specs.Depth.{rule_depth};
 ghost use Rattle.cell_grid.specs.Space.{cell_count};
 ghost use Rattle.model_tree.specs.Sound.{is_sound_group};
 ghost use Rattle.model_tree.specs.Stands.{group_of};
@@ -52,7 +52,7 @@ pub(crate) fn table_of(alloc: Global, group: &CellGroup) -> Result<CellTable, Ou
     CellTable::new(alloc, initial, &group.port_values, &group.variable_values)
 }
 
-/// The most answers that any rule of these sets needs at once.
+/// The most answers that any rule of these sets needs on the stack at once.
 pub(crate) fn deepest_of_sets(sets: &[Vec<RuleCode>]) -> usize
     ensures { All (λ rules. All (λ rule. rule_depth rule ≤ result) rules)
         (map (λ rules. rules.items) sets.now) }
@@ -64,7 +64,7 @@ pub(crate) fn deepest_of_sets(sets: &[Vec<RuleCode>]) -> usize
     most
 }
 
-/// The most answers that any of these rules needs at once.
+/// The most answers that any of these rules needs on the stack at once.
 fn deepest(rules: &[RuleCode]) -> usize
     ensures { All (λ rule. rule_depth rule ≤ result) rules.now }
 {
@@ -78,7 +78,7 @@ fn deepest(rules: &[RuleCode]) -> usize
 /// The codes of all rule sets.
 fn codes_of_sets(alloc: Global, sets: &[Vec<RuleTree>]) -> Result<Vec<Vec<RuleCode>>, OutOfMemory>
     ensures { IfOk result (λ codes. map (λ rules. rules.items) codes.items
-        ≡ map (map codes_of) (map (λ rules. map rule_of rules.items) sets.now)) }
+        ≡ map (λ rules. map rule_of rules.items) sets.now) }
 {
     let mut codes = Vec::new(alloc);
     for rules in sets {
@@ -98,7 +98,7 @@ fn add_set(codes: &mut Vec<Vec<RuleCode>>, set: Vec<RuleCode>) -> Result<(), Out
 
 /// The codes of the rules of one set.
 fn codes_of_rules(alloc: Global, rules: &[RuleTree]) -> Result<Vec<RuleCode>, OutOfMemory>
-    ensures { IfOk result (λ codes. codes.items ≡ map codes_of (map rule_of rules.now)) }
+    ensures { IfOk result (λ codes. codes.items ≡ map rule_of rules.now) }
 {
     let mut codes = Vec::new(alloc);
     for rule in rules {

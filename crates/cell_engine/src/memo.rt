@@ -1,18 +1,18 @@
 // What rules gave for an own value and counts, kept for the next time. The evaluator is asked once
 // for each; what it gave then is taken without it.
 ghost use Rattle.std.specs.Prelude.{◌≡◌, ◌<◌, ◌≤◌, ℕ, None, List, [], length, map, replicate, slice_index_or, IfOk, IfSome, IsTrue, Ok};
-ghost use Rattle.std.specs.List.{All};
+ghost use Rattle.std.specs.List.{All, list_all};
 ghost use Rattle.quantity.specs.declared.bounds.TheConstants.{MAX_DELAY};
 ghost use Rattle.rule_tree.specs.Expression.{Rule};
 ghost use Rattle.rule_tree.specs.Chosen.{chosen};
 ghost use Rattle.rule_tree.specs.Meaning.{outs};
 ghost use Rattle.quantity.specs.Arithmetic.{same_value};
-ghost use Rattle.rule_forms.specs.RuleCodes.{Codes, codes_of, rule_depth};
-ghost use Rattle.rule_eval.specs.Evaluated.{Evaluates};
+ghost use Rattle.rule_forms.specs.ByPort.{Evaluates};
+ghost use Rattle.rule_forms.specs.Depth.{rule_depth};
 ghost use Rattle.rule_eval.specs.Tallies.{IsTally};
 ghost use Rattle.cell_table.specs.Told.{cell_at, OnlyCell};
 ghost use Rattle.cell_engine.specs.Cells.{Computes};
-ghost use Rattle.cell_engine.specs.Step.{StandForRules, ruled, sees};
+ghost use Rattle.cell_engine.specs.Step.{gives_apart, ruled, sees};
 ghost use Rattle.cell_engine.specs.Store.{IsAtDesk};
 ghost use Rattle.cell_engine.specs.Known.{no_offset, seen_at, IsOwn, IsAlike, AlwaysGive};
 ghost use Rattle.cell_engine.specs.Known.{IsAnswer, IsMemo};
@@ -73,12 +73,7 @@ fn empty(alloc: Global) -> Memo
 }
 
 /// The same where a cell sees itself by the offset of this number.
-fn memo_by(
-    alloc: Global,
-    plan: &Plan,
-    own: u8,
-    tallies: &[Tally],
-) -> Result<Memo, OutOfMemory>
+fn memo_by(alloc: Global, plan: &Plan, own: u8, tallies: &[Tally]) -> Result<Memo, OutOfMemory>
     requires { IsOwn plan.now.offsets own }
     ensures { IfOk result (λ m. IsMemo plan.now m.own m.known.items) }
 {
@@ -119,7 +114,7 @@ fn is_alike(plan: &Plan, own: u8) -> bool
 }
 
 fn is_single(plan: &Plan) -> bool
-    ensures { IsTrue result → (plan.now.variables ≡ 0) × (length plan.now.codes ≡ 1) }
+    ensures { IsTrue result → (plan.now.variables ≡ 0) × (length plan.now.rule_sets ≡ 1) }
 {
     let none = plan.variables == 0;
     let one = plan.codes.len() == 1;
@@ -201,12 +196,12 @@ pub(crate) fn by_few(
     requires cell { i < length table.old.cells }
     requires depth { All (λ rule. rule_depth rule ≤ desk.old.stack.depth) rules.now }
     requires tally { IsTally tally (outs (sees plan.now t table.old i)) }
-    requires rules { rules.now ≡ slice_index_or plan.now.codes 0 [] }
+    requires rules { rules.now ≡ slice_index_or plan.now.rule_sets 0 [] }
     requires memo { IsMemo plan.now memo.old.own memo.old.known.items }
     requires some { 0 < length memo.old.known.items }
-    ensures cell { (trees : List Rule) → StandForRules rules.now trees
+    ensures cell { IsTrue (list_all gives_apart rules.now)
         → Computes i table.old.cells table.new.cells
-        (ruled plan.now.kind (sees plan.now t table.old i) trees
+        (ruled plan.now.kind (sees plan.now t table.old i) rules.now
         (cell_at table.old.cells i)) result }
     ensures only { OnlyCell i table.old.cells table.new.cells }
     ensures ready { IsAtDesk plan.now table.new desk.new }
@@ -220,7 +215,16 @@ pub(crate) fn by_few(
         Some(kept) => take_lent(table, i, plan.kind, later(t, kept.delay), &kept.given),
         None => {
             learn(plan, rules, i, t, at, tally, memo, table, desk);
-            by_rules(plan, rules, i, t, Value::Undefined, Some(tally), table, desk)
+            by_rules(
+                plan,
+                rules,
+                i,
+                t,
+                Value::Undefined,
+                Some(tally),
+                table,
+                desk,
+            )
         }
     }
 }
@@ -243,7 +247,7 @@ fn slot(own: &Value, tally: Tally) -> usize {
 #[inline(always)]
 fn answer_at(known: &[Known], at: usize, own: &Value, tally: Tally) -> Option<Constant>
     // For each offset and rules of which answers are kept.
-    ensures { (n : ℕ) (rules : List Codes) → All (IsAnswer n rules) known.now
+    ensures { (n : ℕ) (rules : List Rule) → All (IsAnswer n rules) known.now
         → IfSome result (AlwaysGive n rules own.now tally) }
 {
     if at < known.len() {
@@ -255,7 +259,7 @@ fn answer_at(known: &[Known], at: usize, own: &Value, tally: Tally) -> Option<Co
 
 #[inline(always)]
 fn answer_of(kept: &Known, own: &Value, tally: Tally) -> Option<Constant>
-    ensures { (n : ℕ) (rules : List Codes) → IsAnswer n rules kept.now
+    ensures { (n : ℕ) (rules : List Rule) → IsAnswer n rules kept.now
         → IfSome result (AlwaysGive n rules own.now tally) }
 {
     if is_for(kept, own, tally) {
@@ -307,7 +311,7 @@ fn learn(
     requires cell { i < length table.now.cells }
     requires depth { All (λ rule. rule_depth rule ≤ desk.old.stack.depth) rules.now }
     requires tally { IsTally tally (outs (sees plan.now t table.now i)) }
-    requires rules { rules.now ≡ slice_index_or plan.now.codes 0 [] }
+    requires rules { rules.now ≡ slice_index_or plan.now.rule_sets 0 [] }
     requires memo { IsMemo plan.now memo.old.own memo.old.known.items }
     requires some { 0 < length memo.old.known.items }
     ensures ready { IsAtDesk plan.now table.now desk.new }
@@ -349,9 +353,9 @@ fn constant_for(
     requires depth { All (λ rule. rule_depth rule ≤ desk.old.stack.depth) rules.now }
     requires tally { IsTally tally (outs (sees plan.now t table.now i)) }
     ensures delay { IfSome result (λ c. c.delay ≤ MAX_DELAY) }
-    // Over what the cell sees, for all rules that the codes stand for.
-    ensures given { IfSome result (λ c. (trees : List Rule) → rules.now ≡ map codes_of trees
-        → Evaluates (chosen trees (seen_at (sees plan.now t table.now i)
+    // Over what the cell sees.
+    ensures given { IfSome result (λ c.
+        Evaluates (chosen rules.now (seen_at (sees plan.now t table.now i)
         (cell_at table.now.cells i).variables)) (Ok (c.given, c.delay))
         (cell_at table.now.cells i).variables) }
     ensures ready { IsAtDesk plan.now table.now desk.new }

@@ -25,17 +25,21 @@ pub(crate) struct Plan {
 
 impl Model for Plan {
     ghost use Rattle.std.specs.Prelude.{map};
+    ghost use Rattle.std.specs.Coded.{codes};
+    ghost use Rattle.rule_forms.specs.Signs.{expr_code};
     ghost use Rattle.cell_engine.specs.Layout.{Layout};
     ghost use Rattle.cell_engine.specs.Store.{IsPlan};
 
     ghost Value = { Layout };
+
+    ghost coded = { Prim.hlevel (codes, expr_code (Prim.hlevel codes)) };
 
     ghost view = { λ p. record {
       space = p.grid;
       kind = p.kind;
       default_delay = p.default_delay;
       offsets = p.reach.offsets;
-      codes = map (λ rules. rules.items) p.codes.items;
+      rule_sets = map (λ rules. rules.items) p.codes.items;
       sets = p.sets.items;
       port_rules = p.port_rules.items;
       ports = p.ports;
@@ -47,7 +51,7 @@ impl Model for Plan {
       kind = p.kind;
       default_delay = p.default_delay;
       offsets = p.reach.offsets;
-      codes = map (λ rules. rules.items) p.codes.items;
+      rule_sets = map (λ rules. rules.items) p.codes.items;
       sets = p.sets.items;
       port_rules = p.port_rules.items;
       ports = p.ports;

@@ -1,18 +1,17 @@
 // What one cell takes by a set of rules.
-ghost use Rattle.std.specs.Prelude.{◌≡◌, ℕ, ◌+◌, ◌<◌, ◌≤◌, List, length};
+ghost use Rattle.std.specs.Prelude.{◌≡◌, ℕ, ◌+◌, ◌<◌, ◌≤◌, List, IsTrue, length};
 ghost use Rattle.std.specs.Prelude.{[], IfSome, OnOk, OnErr, slice_index_or, slice_set};
-ghost use Rattle.std.specs.List.{All};
+ghost use Rattle.std.specs.List.{All, list_all};
 ghost use Rattle.quantity.specs.declared.bounds.TheConstants.{MAX_DELAY};
 ghost use Rattle.quantity.specs.declared.value.Value.{Value as AnyValue};
-ghost use Rattle.rule_tree.specs.Expression.{Rule};
 ghost use Rattle.rule_tree.specs.Meaning.{outs};
-ghost use Rattle.rule_forms.specs.RuleCodes.{rule_depth};
+ghost use Rattle.rule_forms.specs.Depth.{rule_depth};
 ghost use Rattle.rule_eval.specs.Tallies.{IsTally};
 ghost use Rattle.run_model.specs.CellStep.{took};
 ghost use Rattle.cell_table.specs.Table.{HasShape, changed_cell, changed_ports};
 ghost use Rattle.cell_table.specs.Told.{cell_at, OnlyCell};
 ghost use Rattle.cell_engine.specs.Cells.{Computes, stop_of};
-ghost use Rattle.cell_engine.specs.Step.{AreGiven, StandForRules, at_port, ruled, sees};
+ghost use Rattle.cell_engine.specs.Step.{AreGiven, at_port, gives_apart, ruled, sees};
 ghost use Rattle.cell_engine.specs.Store.{IsAtDesk};
 
 use crate::CellStop;
@@ -41,10 +40,9 @@ pub(crate) fn by_rules(
     requires cell { i < length table.old.cells }
     requires depth { All (λ rule. rule_depth rule ≤ desk.old.stack.depth) rules.now }
     requires known { IfSome known (λ k. IsTally k (outs (sees plan.now t table.old i))) }
-    // For all rules that the codes stand for.
-    ensures cell { (trees : List Rule) → StandForRules rules.now trees
+    ensures cell { IsTrue (list_all gives_apart rules.now)
         → Computes i table.old.cells table.new.cells
-        (ruled plan.now.kind (at_port port (sees plan.now t table.old i)) trees
+        (ruled plan.now.kind (at_port port (sees plan.now t table.old i)) rules.now
         (cell_at table.old.cells i)) result }
     ensures only { OnlyCell i table.old.cells table.new.cells }
     ensures ready { IsAtDesk plan.now table.new desk.new }
@@ -73,8 +71,8 @@ pub(crate) fn by_rules(
 
 /// The codes of a rule set.
 pub(crate) fn codes_at(plan: &Plan, set: usize) -> &[RuleCode]
-    requires { set < length plan.now.codes }
-    ensures { result.now ≡ slice_index_or plan.now.codes set [] }
+    requires { set < length plan.now.rule_sets }
+    ensures { result.now ≡ slice_index_or plan.now.rule_sets set [] }
 {
     &plan.codes[set]
 }

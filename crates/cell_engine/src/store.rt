@@ -43,6 +43,8 @@ pub struct CellStore {
 }
 
 impl Model for CellStore {
+    ghost use Rattle.std.specs.Coded.{codes};
+    ghost use Rattle.rule_forms.specs.Signs.{expr_code};
     ghost use Rattle.cell_engine.specs.Cells.{Cells};
     ghost use Rattle.cell_engine.specs.Step.{near};
     ghost use Rattle.cell_engine.specs.Store.{IsAtDesk};
@@ -50,6 +52,8 @@ impl Model for CellStore {
     ghost use Rattle.cell_engine.specs.Known.{IsMemo};
 
     ghost Value = { Cells };
+
+    ghost coded = { Prim.hlevel (codes, expr_code (Prim.hlevel codes)) };
 
     ghost view = { λ s. record { layout = s.plan; cells = s.table.cells } };
 

@@ -14,7 +14,7 @@ use Rattle.rule_tree.specs.declared.node.Binary.TheVariants.{Imp, Eqv, Or, Xor, 
 use Rattle.rule_tree.specs.Expression as E
 use Rattle.rule_tree.specs.Expression.{Expr}
 use Rattle.rule_tree.specs.Meaning.{Sight, number_answered, as_answer, two_meaning, meaning}
-use Rattle.rule_forms.specs.ByCode.{number_or_stop}
+use Rattle.rule_forms.specs.Stops.{number_or_stop}
 use Rattle.rule_eval.specs.Numbers.{number_meant, number_of_two}
 
 -- the number of a number's answer

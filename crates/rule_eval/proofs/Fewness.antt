@@ -1,5 +1,5 @@
 -- Sights that agree in the own value and in counts are answered alike.
-use Rattle.std.proofs.Common.{◌≡◌, ℕ, suc, true, Some, Ok, List, [], ◌∷◌, map, refl, sym, ap, subst, ◌∙◌, arith}
+use Rattle.std.proofs.Common.{◌≡◌, ℕ, suc, true, Option, Some, None, Ok, Err, List, [], ◌∷◌, refl, sym, ap, subst, ◌∙◌, arith}
 use Rattle.std.specs.Prelude.{◌==◌}
 use Rattle.std.specs.List.{All}
 use Rattle.std.specs.declared.result.Result.{Result}
@@ -9,29 +9,26 @@ use Rattle.quantity.specs.declared.value.Value.{Value}
 use Rattle.quantity.specs.declared.value.Value.TheVariants.{Num}
 use Rattle.quantity.specs.declared.value.Compare.TheVariants.{Equal}
 use Rattle.quantity.specs.declared.truth.Tri.{Tri}
+use Rattle.quantity.specs.declared.truth.Tri.TheVariants.{True, False, Undef}
 use Rattle.quantity.specs.Truth.{negation, conjunction, disjunction, tri_of}
+use Rattle.rule_tree.specs.declared.outcome.Answer.{Answer}
 use Rattle.rule_tree.specs.declared.outcome.Answer.TheVariants.{Logic}
 use Rattle.rule_tree.specs.declared.outcome.RuleStop.{RuleStop}
-use Rattle.rule_tree.specs.Expression.{Rule}
-use Rattle.rule_tree.specs.Meaning.{Sight, whole}
-use Rattle.rule_tree.specs.Chosen.{after, chosen}
-use Rattle.rule_forms.specs.declared.code.Op.{Op}
+use Rattle.rule_tree.specs.Expression.{Expr, Rule}
+use Rattle.rule_tree.specs.Meaning.{Sight, whole, truth_in, meaning}
+use Rattle.rule_tree.specs.Chosen.{Chosen, unless_overflow, if_true, given, chosen}
 use Rattle.rule_forms.specs.declared.given.Given.{Given}
 use Rattle.rule_forms.specs.declared.known.Constant.{Constant}
 use Rattle.rule_forms.specs.declared.forms.PlainTest.{PlainTest}
 use Rattle.rule_forms.specs.declared.forms.PlainTest.TheVariants.{Truth, NeighbourIs, CountIs, OutIs, CountEquals}
 use Rattle.rule_forms.specs.declared.forms.Test.{Test}
 use Rattle.rule_forms.specs.declared.forms.Test.TheVariants.{Plain, Not', Both', Either', PlainBoth', PlainEither'}
-use Rattle.rule_forms.specs.Code.{code_of}
+use Rattle.rule_forms.specs.ByPort.{Evaluates}
 use Rattle.rule_forms.specs.Forms.{expr_of_test}
-use Rattle.rule_forms.specs.RuleCodes.{Codes, codes_of}
 use Rattle.rule_forms.specs.Known.{AlwaysMakes}
-use Rattle.rule_forms.specs.ByCode.{Outcome, truth_or_stop, truth_by_code, if_holds}
 use Rattle.rule_eval.specs.Sums.{port_value_at}
 use Rattle.rule_eval.specs.Tests.{plain_truth, test_truth}
-use Rattle.rule_eval.specs.Evaluated.{Evaluates, Makes}
-use Rattle.rule_eval.specs.Few.{Agree, GoByFew, IsByFew, GoesByFew, plain_reads_few, reads_few}
-use Rattle.rule_eval.proofs.ByTrees.{answer_is, makes_again, evaluates}
+use Rattle.rule_eval.specs.Few.{Agree, AnswersAlike, GoByFew, IsByFew, GoesByFew, plain_reads_few, reads_few}
 use Rattle.rule_eval.proofs.FormTests.{test_means}
 
 -- ---- tests
@@ -65,35 +62,52 @@ test_alike own (PlainEither' a p b) s r few agree =
     let both = and_parts (plain_reads_few own a) (reads_few own b) few in
     λ j. disjunction (plain_alike own a s r both.0 agree j) (test_alike own b s r both.1 agree j)
 
-truth_at : (t : Test) (s : Sight) → truth_by_code (code_of (expr_of_test t)) s ≡ truth_or_stop (Some (Logic (test_truth t s.neighbours)))
-truth_at t s = ap truth_or_stop (answer_is (expr_of_test t) s ∙ test_means t s)
-
--- the code of a test that reads no more
-pub by_few : (own : ℕ) (t : Test) (code : List Op) → code ≡ code_of (expr_of_test t) → reads_few own t ≡ true → IsByFew own code
-by_few own t code is few s r agree =
-    ap (λ (c : List Op). truth_by_code c s) is ∙ truth_at t s ∙ ap (λ (x : Tri). truth_or_stop (Some (Logic x))) (test_alike own t s r few agree)
-    ∙ sym (ap (λ (c : List Op). truth_by_code c r) is ∙ truth_at t r)
+-- the expression of a test that reads no more
+pub by_few : (own : ℕ) (t : Test) (e : Expr) → e ≡ expr_of_test t → reads_few own t ≡ true → IsByFew own e
+by_few own t e is few s r agree =
+    ap (λ (x : Expr). meaning x s) is ∙ test_means t s ∙ ap (λ (x : Tri). Some (Logic x)) (test_alike own t s r few agree) ∙ sym (ap (λ (x : Expr). meaning x r) is ∙ test_means t r)
 
 -- ---- rules
 
+-- where both are answered by the same, they are answered alike
+same_made : (a b : Chosen) (given : Given) (ms : ℕ) (xs : List Value) → Evaluates a (Ok (given, ms)) xs → Evaluates b (Ok (given, ms)) xs
+    → (result : Result (Given × ℕ) RuleStop) (variables : List Value) → Evaluates a result variables → Evaluates b result variables
+same_made (Ok g) (Ok q) given ms xs one two (Ok r) variables h =
+    record {
+      values = h.values ∙ sym one.values ∙ two.values;
+      delay = h.delay ∙ sym one.delay ∙ two.delay;
+      variables = h.variables ∙ sym one.variables ∙ two.variables;
+    }
+same_made (Ok g) (Ok q) given ms xs one two (Err stop) variables h = absurd h
+same_made (Ok g) (Err why) given ms xs one two result variables h = absurd two
+same_made (Err why) b given ms xs one two result variables h = absurd one
+
 -- a rule that gives what stands in its text
-pub goes_by : (own : ℕ) (rule : Codes) (c : Constant) → IsByFew own rule.condition → AlwaysMakes rule c → GoesByFew own rule
+pub goes_by : (own : ℕ) (rule : Rule) (c : Constant) → IsByFew own rule.condition → AlwaysMakes rule c → GoesByFew own rule
 goes_by own rule c condition always =
     record {
       condition = condition;
-      made = λ s r agree. always.made s ∙ (λ j. Ok (record { values = c.given.values; delay = c.delay; variables = agree.variables j })) ∙ sym (always.made r);
+      gives = λ s r agree. same_made (given rule s) (given rule r) c.given c.delay s.variables (always.made s)
+          (subst (λ (xs : List Value). Evaluates (given rule r) (Ok (c.given, c.delay)) xs) (sym agree.variables) (always.made r));
     }
 
-pub go_by : (own : ℕ) (rules : List Codes) → All (GoesByFew own) rules → GoByFew own rules
-go_by own [] each s r agree = refl
-go_by own (q ∷ qs) each s r agree =
+-- a rule, or those behind it
+either : (t : Tri) (a b x y : Chosen) → AnswersAlike a b → AnswersAlike x y
+    → (result : Result (Given × ℕ) RuleStop) (variables : List Value) → Evaluates (if_true t a x) result variables → Evaluates (if_true t b y) result variables
+either True a b x y here behind result variables h = here result variables h
+either False a b x y here behind result variables h = behind result variables h
+either Undef a b x y here behind result variables h = behind result variables h
+
+goes_on : (o : Option Answer) (a b x y : Chosen) → AnswersAlike a b → AnswersAlike x y
+    → (result : Result (Given × ℕ) RuleStop) (variables : List Value) → Evaluates (unless_overflow o (λ c. if_true (truth_in c) a x)) result variables
+    → Evaluates (unless_overflow o (λ c. if_true (truth_in c) b y)) result variables
+goes_on None a b x y here behind result variables h = h
+goes_on (Some c) a b x y here behind result variables h = either (truth_in c) a b x y here behind result variables h
+
+pub go_by : (own : ℕ) (rules : List Rule) → All (GoesByFew own) rules → GoByFew own rules
+go_by own [] each s r agree result variables h = h
+go_by own (q ∷ qs) each s r agree result variables h =
     let one = each 0 q (omega arith) in
     let rest = go_by own qs (λ k d lt. each (suc k) d (omega (arith, lt))) s r agree in
-    λ j. after (one.condition s r agree j) (λ t. if_holds t (one.made s r agree j) (rest j))
-
--- what such rules gave over a sight they give over each that agrees with it
-pub given_again : (own : ℕ) (trees : List Rule) (codes : List Codes) (s r : Sight) (result : Result (Given × ℕ) RuleStop) (changed : List Value) → codes ≡ map codes_of trees → GoByFew own codes → Agree own s r
-    → Evaluates (chosen trees s) result changed → Evaluates (chosen trees r) result changed
-given_again own trees codes s r result changed stand few agree h =
-    let P : Outcome → Type 0 = λ o. Makes o result changed in
-    evaluates trees codes r result changed stand (subst P (few s r agree) (makes_again trees codes s result changed stand h))
+    goes_on (meaning q.condition r) (given q s) (given q r) (chosen qs s) (chosen qs r) (one.gives s r agree) rest result variables
+    (subst (λ (o : Option Answer). Evaluates (unless_overflow o (λ c. if_true (truth_in c) (given q s) (chosen qs s))) result variables) (one.condition s r agree) h)

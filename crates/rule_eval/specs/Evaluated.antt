@@ -1,46 +1,17 @@
--- What evaluation answers for the rules that codes stand for.
+-- What evaluation answers, and where it leaves that.
 use Rattle.std.specs.Prelude.{◌≡◌, ℕ, Option, Some, None, List}
 use Rattle.std.specs.Borrow.{Bor}
 use Rattle.std.specs.declared.result.Result.{Result}
 use Rattle.std.specs.declared.result.Result.TheVariants.{Ok, Err}
 use Rattle.quantity.specs.declared.value.Value.{Value}
 use Rattle.rule_tree.specs.declared.outcome.RuleStop.{RuleStop}
-use Rattle.rule_tree.specs.Chosen as rules
-use Rattle.rule_tree.specs.Chosen.{Chosen}
 use Rattle.rule_tree.specs.Ports.{by_port}
-use Rattle.rule_forms.specs.ByCode.{Made, Outcome}
 use Rattle.rule_forms.specs.declared.given.Given.{Given}
 use Rattle.rule_forms.specs.declared.known.Constant.{Constant}
 
--- what evaluation answers and leaves, and what the rules give over what the cell sees
-pub record IsGiven (g : rules.Given) (given : Given) (ms : ℕ) (after : List Value) : Type 0 where
-  pub values : given.values ≡ by_port g.values
-  pub delay : ms ≡ g.delay
-  pub variables : after ≡ g.variables
-
--- evaluation gives what the chosen rule gives
-abbrev pub Evaluates : Chosen → Result (Given × ℕ) RuleStop → List Value → Type 0
-Evaluates (Ok g) (Ok r) variables = IsGiven g r.0 r.1 variables
-Evaluates (Ok g) (Err stop) variables = ⊥
-Evaluates (Err why) (Ok r) variables = ⊥
-Evaluates (Err why) (Err stop) variables = stop ≡ why
-
--- the same of what codes make
-pub record IsMade (m : Made) (given : Given) (ms : ℕ) (after : List Value) : Type 0 where
-  pub values : given.values ≡ m.values
-  pub delay : ms ≡ m.delay
-  pub variables : after ≡ m.variables
-
--- evaluation makes what the code makes
-abbrev pub Makes : Outcome → Result (Given × ℕ) RuleStop → List Value → Type 0
-Makes (Ok m) (Ok r) variables = IsMade m r.0 r.1 variables
-Makes (Ok m) (Err stop) variables = ⊥
-Makes (Err why) (Ok r) variables = ⊥
-Makes (Err why) (Err stop) variables = stop ≡ why
-
--- these values are given, or the same stop
-abbrev pub GivesValues : Result (List (Option Value)) RuleStop → Result Given RuleStop → Type 0
-GivesValues (Ok values) (Ok given) = given.values ≡ values
+-- these values are given, each at its port, or the same stop
+abbrev pub GivesValues : Result (List (ℕ × Value)) RuleStop → Result Given RuleStop → Type 0
+GivesValues (Ok values) (Ok given) = given.values ≡ by_port values
 GivesValues (Ok values) (Err stop) = ⊥
 GivesValues (Err why) (Ok given) = ⊥
 GivesValues (Err why) (Err stop) = stop ≡ why

@@ -1,14 +1,18 @@
 -- Rules that go by a cell's own value and by counts alone.
 use Rattle.std.specs.Prelude.{◌≡◌, ℕ, Bool, true, ◌&&◌, ◌==◌, List}
+use Rattle.std.specs.declared.result.Result.{Result}
+use Rattle.quantity.specs.declared.value.Value.{Value}
 use Rattle.rule_tree.specs.declared.node.Count.{Count}
-use Rattle.rule_tree.specs.Meaning.{Sight, outs, counted}
-use Rattle.rule_forms.specs.declared.code.Op.{Op}
+use Rattle.rule_tree.specs.declared.outcome.RuleStop.{RuleStop}
+use Rattle.rule_tree.specs.Expression.{Expr, Rule}
+use Rattle.rule_tree.specs.Meaning.{Sight, outs, counted, meaning}
+use Rattle.rule_tree.specs.Chosen.{Chosen, given, chosen}
 use Rattle.rule_forms.specs.declared.forms.PlainTest.{PlainTest}
 use Rattle.rule_forms.specs.declared.forms.PlainTest.TheVariants.{Truth, NeighbourIs, CountIs, OutIs, CountEquals}
 use Rattle.rule_forms.specs.declared.forms.Test.{Test}
 use Rattle.rule_forms.specs.declared.forms.Test.TheVariants.{Plain, Not', Both', Either', PlainBoth', PlainEither'}
-use Rattle.rule_forms.specs.RuleCodes.{Codes}
-use Rattle.rule_forms.specs.ByCode.{truth_by_code, made_by_code, first_by_code}
+use Rattle.rule_forms.specs.declared.given.Given.{Given}
+use Rattle.rule_forms.specs.ByPort.{Evaluates}
 use Rattle.rule_eval.specs.Sums.{port_value_at}
 
 -- two sights show the same own value, which is seen by this offset, the same counts and the same
@@ -18,21 +22,26 @@ pub record Agree (own : ℕ) (s r : Sight) : Type 0 where
   pub counts : (c : Count) → counted c (outs s) ≡ counted c (outs r)
   pub variables : s.variables ≡ r.variables
 
--- rules make the same over each two such sights
-abbrev pub GoByFew : ℕ → List Codes → Type 0
-GoByFew own rules =
-    (s r : Sight) → Agree own s r → first_by_code rules s ≡ first_by_code rules r
+-- what evaluation answers for the one it answers for the other
+abbrev pub AnswersAlike : Chosen → Chosen → Type 0
+AnswersAlike a b =
+    (result : Result (Given × ℕ) RuleStop) (variables : List Value) → Evaluates a result variables
+    → Evaluates b result variables
+
+-- rules are answered alike over each two such sights
+abbrev pub GoByFew : ℕ → List Rule → Type 0
+GoByFew own rules = (s r : Sight) → Agree own s r → AnswersAlike (chosen rules s) (chosen rules r)
 
 -- ---- one rule
 
--- a condition has one truth value over each two such sights
-abbrev pub IsByFew : ℕ → List Op → Type 0
-IsByFew own code = (s r : Sight) → Agree own s r → truth_by_code code s ≡ truth_by_code code r
+-- a condition means the same over each two such sights
+abbrev pub IsByFew : ℕ → Expr → Type 0
+IsByFew own e = (s r : Sight) → Agree own s r → meaning e s ≡ meaning e r
 
--- and so does what is made
-pub record GoesByFew (own : ℕ) (rule : Codes) : Type 0 where
+-- and what is given is answered alike
+pub record GoesByFew (own : ℕ) (rule : Rule) : Type 0 where
   pub condition : IsByFew own rule.condition
-  pub made : (s r : Sight) → Agree own s r → made_by_code rule s ≡ made_by_code rule r
+  pub gives : (s r : Sight) → Agree own s r → AnswersAlike (given rule s) (given rule r)
 
 -- ---- tests
 

@@ -7,9 +7,8 @@ ghost use Rattle.quantity.specs.Truth.{conjunction};
 ghost use Rattle.rule_tree.specs.Meaning.{outs, whole, counted, meaning, meanings};
 ghost use Rattle.rule_eval.specs.Seen.{IsView, neighbours_of, seen, sight_of};
 ghost use Rattle.rule_eval.specs.Kept.{AreCounts};
-ghost use Rattle.rule_forms.specs.Code.{code_of, codes_of};
-ghost use Rattle.rule_forms.specs.Depth.{depth_from, depth_of};
-ghost use Rattle.rule_forms.specs.Ran.{answer_of, or_stop};
+ghost use Rattle.rule_forms.specs.Depth.{depth_of, depth_of_all};
+ghost use Rattle.rule_forms.specs.Stops.{or_stop};
 ghost use Rattle.rule_forms.specs.Forms.{expr_of_form, exprs_of_forms};
 ghost use Rattle.rule_eval.specs.Tests.{plain_truth, test_truth};
 ghost use Rattle.rule_eval.specs.Stacked.{stacked};
@@ -147,7 +146,7 @@ pub(crate) fn answer(
 ) -> Result<Answer, Overflow>
     requires view { IsView view.now }
     requires counts { AreCounts counts.old view.now }
-    requires room { depth_from (code_of (expr_of_form form.now)) (vec_len answers.old)
+    requires room { vec_len answers.old + depth_of (expr_of_form form.now)
         ≤ vec_capacity answers.old }
     ensures value { result_ok result ≡ meaning (expr_of_form form.now)
         (seen view.now variables.now) }
@@ -199,7 +198,7 @@ fn stack_answers(
 ) -> Result<(), Overflow>
     requires view { IsView view.now }
     requires counts { AreCounts counts.old view.now }
-    requires room { depth_from (codes_of (exprs_of_forms forms.now)) (vec_len answers.old)
+    requires room { vec_len answers.old + depth_of_all (exprs_of_forms forms.now)
         ≤ vec_capacity answers.old }
     ensures value { MatchResult result
         (λ _. stacked answers.old.items (meanings (exprs_of_forms forms.now)
@@ -237,8 +236,8 @@ pub(crate) fn run(
 ) -> Result<Answer, RuleStop>
     requires view { IsView view.now }
     requires counts { AreCounts counts.old view.now }
-    requires room { depth_of (code_of (expr_of_form form.now)) ≤ vec_capacity answers.old }
-    ensures value { result ≡ or_stop (answer_of (code_of (expr_of_form form.now))
+    requires room { depth_of (expr_of_form form.now) ≤ vec_capacity answers.old }
+    ensures value { result ≡ or_stop (meaning (expr_of_form form.now)
         (seen view.now variables.now)) }
     ensures capacity { vec_capacity answers.new ≡ vec_capacity answers.old }
     ensures counts { AreCounts counts.new view.now }

@@ -1,21 +1,18 @@
 // Evaluation of rules, form by form.
-ghost use Rattle.std.specs.Prelude.{◌≡◌, ◌≤◌, List, All, IfOk, IfSome, map, length};
+ghost use Rattle.std.specs.Prelude.{◌≡◌, ◌≤◌, All, IfOk, IfSome, map, length};
 ghost use Rattle.std.specs.Prelude.{vec_capacity, slice_set};
 ghost use Rattle.quantity.specs.declared.bounds.TheConstants.{MAX_DELAY};
-ghost use Rattle.rule_tree.specs.Expression.{Rule};
-ghost use Rattle.rule_tree.specs.Chosen.{chosen};
+ghost use Rattle.rule_tree.specs.Chosen.{chosen, given as given_by, values_of, variables_after};
 ghost use Rattle.rule_tree.specs.Meaning.{outs};
 ghost use Rattle.rule_eval.specs.Seen.{IsView, seen, sight_of};
 ghost use Rattle.rule_eval.specs.Kept.{AreCounts};
 ghost use Rattle.rule_eval.specs.Tallies.{IsTally};
-ghost use Rattle.rule_forms.specs.Code.{code_of};
-ghost use Rattle.rule_forms.specs.Depth.{depth_of};
+ghost use Rattle.rule_forms.specs.Depth.{depth_of, deepest, rule_depth};
 ghost use Rattle.rule_forms.specs.Forms.{expr_of_form};
-ghost use Rattle.rule_forms.specs.RuleCodes.{codes_of, deepest, rule_depth};
-ghost use Rattle.rule_forms.specs.Numbered.{plain};
-ghost use Rattle.rule_forms.specs.ByCode.{no_values, number_by_code, truth_by_code, given_by_code};
-ghost use Rattle.rule_forms.specs.ByCode.{set_by_code, delay_by_code, made_by_code, first_by_code};
-ghost use Rattle.rule_eval.specs.Evaluated.{Evaluates, Makes, GivesValues, SetsVariables};
+ghost use Rattle.rule_forms.specs.Numbered.{numbered};
+ghost use Rattle.rule_forms.specs.Stops.{number_by, truth_by, delay_by};
+ghost use Rattle.rule_forms.specs.ByPort.{Evaluates};
+ghost use Rattle.rule_eval.specs.Evaluated.{GivesValues, SetsVariables};
 ghost use Rattle.rule_eval.specs.Evaluated.{MayLend, filled, with_given};
 
 use crate::answers::{run, truth};
@@ -43,9 +40,7 @@ pub fn evaluate(
     requires view { IsView view.now }
     requires variables { length changed.old ≡ length view.now.variables.now }
     requires depth { All (λ rule. rule_depth rule ≤ stack.old.depth) rules.now }
-    // For all rules that the codes stand for.
-    ensures value { (trees : List Rule) → rules.now ≡ map codes_of trees
-        → Evaluates (chosen trees (sight_of view.now)) result changed.new }
+    ensures value { Evaluates (chosen rules.now (sight_of view.now)) result changed.new }
     ensures stack { stack.new ≡ stack.old }
     ensures delay { IfOk result (λ made. made.1 ≤ MAX_DELAY) }
 {
@@ -79,9 +74,7 @@ pub fn evaluate_into<'r>(
     requires view { IsView view.now }
     requires variables { length changed.old ≡ length view.now.variables.now }
     requires depth { All (λ rule. rule_depth rule ≤ stack.old.depth) rules.now }
-    // For all rules that the codes stand for.
-    ensures value { (trees : List Rule) → rules.now ≡ map codes_of trees
-        → MayLend (Evaluates (chosen trees (sight_of view.now))) result
+    ensures value { MayLend (Evaluates (chosen rules.now (sight_of view.now))) result
         given.new changed.new view.now.variables.now }
     ensures stack { stack.new ≡ stack.old }
     ensures delay { IfOk result (λ made. made.1 ≤ MAX_DELAY) }
@@ -104,9 +97,7 @@ pub fn evaluate_counted<'r>(
     requires known { IfSome known (λ t. IsTally t (outs (sight_of view.now))) }
     requires variables { length changed.old ≡ length view.now.variables.now }
     requires depth { All (λ rule. rule_depth rule ≤ stack.old.depth) rules.now }
-    // For all rules that the codes stand for.
-    ensures value { (trees : List Rule) → rules.now ≡ map codes_of trees
-        → MayLend (Evaluates (chosen trees (sight_of view.now))) result
+    ensures value { MayLend (Evaluates (chosen rules.now (sight_of view.now))) result
         given.new changed.new view.now.variables.now }
     ensures stack { stack.new ≡ stack.old }
     ensures delay { IfOk result (λ made. made.1 ≤ MAX_DELAY) }
@@ -128,7 +119,7 @@ fn first_true<'r>(
     requires counts { AreCounts counts.old view.now }
     requires variables { length changed.old ≡ length view.now.variables.now }
     requires room { All (λ rule. rule_depth rule ≤ vec_capacity answers.old) rules.now }
-    ensures value { MayLend (Makes (first_by_code rules.now (sight_of view.now))) result
+    ensures value { MayLend (Evaluates (chosen rules.now (sight_of view.now))) result
         given.new changed.new view.now.variables.now }
     ensures capacity { vec_capacity answers.new ≡ vec_capacity answers.old }
     ensures counts { AreCounts counts.new view.now }
@@ -153,7 +144,7 @@ fn condition(
     requires view { IsView view.now }
     requires counts { AreCounts counts.old view.now }
     requires room { rule_depth rule.now ≤ vec_capacity answers.old }
-    ensures value { result ≡ truth_by_code rule.now.condition (sight_of view.now) }
+    ensures value { result ≡ truth_by rule.now.condition (sight_of view.now) }
     ensures capacity { vec_capacity answers.new ≡ vec_capacity answers.old }
     ensures counts { AreCounts counts.new view.now }
 {
@@ -170,8 +161,8 @@ fn truth_of(
 ) -> Result<Tri, RuleStop>
     requires view { IsView view.now }
     requires counts { AreCounts counts.old view.now }
-    requires room { depth_of (code_of (expr_of_form form.now)) ≤ vec_capacity answers.old }
-    ensures value { result ≡ truth_by_code (code_of (expr_of_form form.now)) (sight_of view.now) }
+    requires room { depth_of (expr_of_form form.now) ≤ vec_capacity answers.old }
+    ensures value { result ≡ truth_by (expr_of_form form.now) (sight_of view.now) }
     ensures capacity { vec_capacity answers.new ≡ vec_capacity answers.old }
     ensures counts { AreCounts counts.new view.now }
 {
@@ -191,8 +182,8 @@ fn truth_run(
 ) -> Result<Tri, RuleStop>
     requires view { IsView view.now }
     requires counts { AreCounts counts.old view.now }
-    requires room { depth_of (code_of (expr_of_form form.now)) ≤ vec_capacity answers.old }
-    ensures value { result ≡ truth_by_code (code_of (expr_of_form form.now)) (sight_of view.now) }
+    requires room { depth_of (expr_of_form form.now) ≤ vec_capacity answers.old }
+    ensures value { result ≡ truth_by (expr_of_form form.now) (sight_of view.now) }
     ensures capacity { vec_capacity answers.new ≡ vec_capacity answers.old }
     ensures counts { AreCounts counts.new view.now }
 {
@@ -216,7 +207,7 @@ fn give<'r>(
     requires counts { AreCounts counts.old view.now }
     requires variables { length changed.old ≡ length view.now.variables.now }
     requires room { rule_depth rule.now ≤ vec_capacity answers.old }
-    ensures value { MayLend (Makes (made_by_code rule.now (sight_of view.now))) result
+    ensures value { MayLend (Evaluates (given_by rule.now (sight_of view.now))) result
         given.new changed.new view.now.variables.now }
     ensures capacity { vec_capacity answers.new ≡ vec_capacity answers.old }
     ensures counts { AreCounts counts.new view.now }
@@ -245,7 +236,7 @@ fn give_formed(
     requires counts { AreCounts counts.old view.now }
     requires variables { length changed.old ≡ length view.now.variables.now }
     requires room { rule_depth rule.now ≤ vec_capacity answers.old }
-    ensures value { Makes (made_by_code rule.now (sight_of view.now))
+    ensures value { Evaluates (given_by rule.now (sight_of view.now))
         (with_given given.new result) changed.new }
     ensures capacity { vec_capacity answers.new ≡ vec_capacity answers.old }
     ensures counts { AreCounts counts.new view.now }
@@ -269,7 +260,7 @@ fn delay(
     requires view { IsView view.now }
     requires counts { AreCounts counts.old view.now }
     requires room { rule_depth rule.now ≤ vec_capacity answers.old }
-    ensures value { result ≡ delay_by_code rule.now.delay (sight_of view.now) }
+    ensures value { result ≡ delay_by rule.now.delay (sight_of view.now) }
     ensures bounded { IfOk result (λ ms. ms ≤ MAX_DELAY) }
     ensures capacity { vec_capacity answers.new ≡ vec_capacity answers.old }
     ensures counts { AreCounts counts.new view.now }
@@ -290,9 +281,8 @@ fn delay_of(
 ) -> Result<Time, RuleStop>
     requires view { IsView view.now }
     requires counts { AreCounts counts.old view.now }
-    requires room { depth_of (code_of (expr_of_form form.now)) ≤ vec_capacity answers.old }
-    ensures value { result
-        ≡ delay_by_code (code_of (expr_of_form form.now)) (sight_of view.now) }
+    requires room { depth_of (expr_of_form form.now) ≤ vec_capacity answers.old }
+    ensures value { result ≡ delay_by (expr_of_form form.now) (sight_of view.now) }
     ensures bounded { IfOk result (λ ms. ms ≤ MAX_DELAY) }
     ensures capacity { vec_capacity answers.new ≡ vec_capacity answers.old }
     ensures counts { AreCounts counts.new view.now }
@@ -311,9 +301,9 @@ fn give_values(
 ) -> Result<(), RuleStop>
     requires view { IsView view.now }
     requires counts { AreCounts counts.old view.now }
-    requires room { deepest (map plain gives.now) ≤ vec_capacity answers.old }
-    ensures value { GivesValues (given_by_code (map plain gives.now)
-        (sight_of view.now) no_values) (filled given.new result) }
+    requires room { deepest (map numbered gives.now) ≤ vec_capacity answers.old }
+    ensures value { GivesValues (values_of (map numbered gives.now) (sight_of view.now))
+        (filled given.new result) }
     ensures capacity { vec_capacity answers.new ≡ vec_capacity answers.old }
     ensures counts { AreCounts counts.new view.now }
 {
@@ -334,8 +324,8 @@ fn set_variables(
 ) -> Result<(), RuleStop>
     requires view { IsView view.now }
     requires counts { AreCounts counts.old view.now }
-    requires room { deepest (map plain sets.now) ≤ vec_capacity answers.old }
-    ensures value { SetsVariables (set_by_code (map plain sets.now)
+    requires room { deepest (map numbered sets.now) ≤ vec_capacity answers.old }
+    ensures value { SetsVariables (variables_after (map numbered sets.now)
         (seen view.now changed.old)) result changed.new }
     ensures capacity { vec_capacity answers.new ≡ vec_capacity answers.old }
     ensures counts { AreCounts counts.new view.now }
@@ -376,8 +366,8 @@ fn number(
 ) -> Result<Value, RuleStop>
     requires view { IsView view.now }
     requires counts { AreCounts counts.old view.now }
-    requires room { depth_of (code_of (expr_of_form form.now)) ≤ vec_capacity answers.old }
-    ensures value { result ≡ number_by_code (code_of (expr_of_form form.now))
+    requires room { depth_of (expr_of_form form.now) ≤ vec_capacity answers.old }
+    ensures value { result ≡ number_by (expr_of_form form.now)
         (seen view.now variables.now) }
     ensures capacity { vec_capacity answers.new ≡ vec_capacity answers.old }
     ensures counts { AreCounts counts.new view.now }

@@ -1,7 +1,6 @@
 // Whether rules go by a cell's own value and by counts alone.
 ghost use Rattle.std.specs.Prelude.{◌≡◌, IsTrue};
 ghost use Rattle.std.specs.List.{All};
-ghost use Rattle.rule_forms.specs.Code.{code_of};
 ghost use Rattle.rule_forms.specs.Forms.{expr_of_form};
 ghost use Rattle.rule_eval.specs.Few.{GoByFew, GoesByFew, IsByFew, plain_reads_few, reads_few};
 
@@ -36,7 +35,7 @@ fn goes_by_few(rule: &RuleCode, own: u8) -> bool
 }
 
 fn form_by_few(form: &Form, own: u8) -> bool
-    ensures { IsTrue result → IsByFew own (code_of (expr_of_form form.now)) }
+    ensures { IsTrue result → IsByFew own (expr_of_form form.now) }
 {
     match form {
         Form::Test(test) => reads_few(test, own),

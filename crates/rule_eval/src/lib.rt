@@ -24,7 +24,7 @@ pub mod view;
 
 pub use evaluation::{evaluate, evaluate_counted, evaluate_into};
 pub use few::go_by_few;
-pub use rule_forms::{Constant, Given, Op, RuleCode, postfix};
+pub use rule_forms::{Constant, Given, RuleCode};
 pub use stack::Stack;
 pub use tally::Tally;
 pub use view::View;

@@ -1,12 +1,11 @@
 // The numbers that forms answer, with no answers between.
-ghost use Rattle.std.specs.Prelude.{◌≡◌, ◌≤◌, OnOk, vec_len, vec_capacity};
+ghost use Rattle.std.specs.Prelude.{◌≡◌, ◌+◌, ◌≤◌, OnOk, vec_len, vec_capacity};
 ghost use Rattle.std.specs.Result.{result_ok};
 ghost use Rattle.rule_eval.specs.Seen.{IsView, seen};
 ghost use Rattle.rule_eval.specs.Kept.{AreCounts};
 ghost use Rattle.rule_eval.specs.Numbers.{number_meant};
-ghost use Rattle.rule_forms.specs.Code.{code_of};
-ghost use Rattle.rule_forms.specs.Depth.{depth_from, depth_of};
-ghost use Rattle.rule_forms.specs.ByCode.{number_by_code};
+ghost use Rattle.rule_forms.specs.Depth.{depth_of};
+ghost use Rattle.rule_forms.specs.Stops.{number_by};
 ghost use Rattle.rule_forms.specs.Forms.{expr_of_form};
 
 use crate::answers::answer;
@@ -30,7 +29,7 @@ fn number_of(
 ) -> Result<Value, Overflow>
     requires view { IsView view.now }
     requires counts { AreCounts counts.old view.now }
-    requires room { depth_from (code_of (expr_of_form form.now)) (vec_len answers.old)
+    requires room { vec_len answers.old + depth_of (expr_of_form form.now)
         ≤ vec_capacity answers.old }
     ensures value { result_ok result ≡ number_meant (expr_of_form form.now)
         (seen view.now variables.now) }
@@ -66,7 +65,7 @@ fn number_answered(
 ) -> Result<Value, Overflow>
     requires view { IsView view.now }
     requires counts { AreCounts counts.old view.now }
-    requires room { depth_from (code_of (expr_of_form form.now)) (vec_len answers.old)
+    requires room { vec_len answers.old + depth_of (expr_of_form form.now)
         ≤ vec_capacity answers.old }
     ensures value { result_ok result ≡ number_meant (expr_of_form form.now)
         (seen view.now variables.now) }
@@ -90,8 +89,8 @@ pub(crate) fn run_number(
 ) -> Result<Value, RuleStop>
     requires view { IsView view.now }
     requires counts { AreCounts counts.old view.now }
-    requires room { depth_of (code_of (expr_of_form form.now)) ≤ vec_capacity answers.old }
-    ensures value { result ≡ number_by_code (code_of (expr_of_form form.now))
+    requires room { depth_of (expr_of_form form.now) ≤ vec_capacity answers.old }
+    ensures value { result ≡ number_by (expr_of_form form.now)
         (seen view.now variables.now) }
     ensures capacity { vec_capacity answers.new ≡ vec_capacity answers.old }
     ensures counts { AreCounts counts.new view.now }

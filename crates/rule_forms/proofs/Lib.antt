@@ -1,9 +1,8 @@
-mod Calls
 pub mod Stacks
-pub mod Depths
+mod Depths
 mod Beforehand
 mod Alone
-pub mod Stands
-pub mod Deepest
+mod Deepest
+pub mod Puts
 pub mod FormTrees
 pub mod WholeNumbers

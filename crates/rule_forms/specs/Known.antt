@@ -6,58 +6,51 @@ use Rattle.std.specs.Option.{option_and_then}
 use Rattle.std.specs.declared.result.Result.TheVariants.{Ok}
 use Rattle.quantity.specs.declared.bounds.TheConstants.{MAX_DELAY}
 use Rattle.quantity.specs.declared.value.Value.{Value}
+use Rattle.rule_tree.specs.Expression as E
+use Rattle.rule_tree.specs.Expression.{Expr, Rule}
 use Rattle.rule_tree.specs.Meaning.{Sight}
-use Rattle.rule_tree.specs.Chosen.{delay_of}
-use Rattle.rule_forms.specs.declared.code.Op.{Op}
-use Rattle.rule_forms.specs.declared.code.Op.TheVariants.{Number}
+use Rattle.rule_tree.specs.Chosen.{delay_of, given}
 use Rattle.rule_forms.specs.declared.known.Constant.{Constant}
-use Rattle.rule_forms.specs.RuleCodes.{Codes, rule_depth}
-use Rattle.rule_forms.specs.ByCode.{delay_by_code, made_by_code}
+use Rattle.rule_forms.specs.Depth.{rule_depth}
+use Rattle.rule_forms.specs.Stops.{delay_by}
+use Rattle.rule_forms.specs.ByPort.{Evaluates}
 
--- the number that a step puts on the stack
-abbrev pub number_put : Op → Option Value
-number_put (Number v) = Some v
-number_put op = None
+-- the number that an expression is, where it is no more than that
+abbrev pub number_alone : Expr → Option Value
+number_alone (E.number v) = Some v
+number_alone e = None
 
--- the number that code is, where it is no more than that
-abbrev pub number_alone : List Op → Option Value
-number_alone [] = None
-number_alone (op ∷ []) = number_put op
-number_alone (op ∷ next ∷ ops) = None
+-- the delay that an expression is, where it is no more than a number
+abbrev pub delay_alone : Expr → Option ℕ
+delay_alone e = option_and_then delay_of (number_alone e)
 
--- the delay that code is, where it is no more than a number
-abbrev pub delay_alone : List Op → Option ℕ
-delay_alone code = option_and_then delay_of (number_alone code)
-
--- whether code for ports or variables is numbers alone
-abbrev pub are_numbers : List (ℕ × List Op) → Bool
+-- whether expressions for ports or variables are numbers alone
+abbrev pub are_numbers : List (ℕ × Expr) → Bool
 are_numbers parts = list_all (λ p. is_some (number_alone p.1)) parts
 
 -- whether nothing is set
-abbrev pub sets_nothing : List (ℕ × List Op) → Bool
+abbrev pub sets_nothing : List (ℕ × Expr) → Bool
 sets_nothing [] = true
 sets_nothing (s ∷ ss) = false
 
 -- whether all that a rule gives is known from its text: each value is a number, its delay is a
 -- delay, and nothing is set
-abbrev pub is_constant : Codes → Bool
+abbrev pub is_constant : Rule → Bool
 is_constant r = are_numbers r.gives && is_some (delay_alone r.delay) && sets_nothing r.sets
 
--- code gives this delay whatever a cell sees
-pub record AlwaysWaits (code : List Op) (ms : ℕ) : Type 0 where
-  pub delay : (s : Sight) → delay_by_code code s ≡ Ok ms
+-- an expression means this delay whatever a cell sees
+pub record AlwaysWaits (e : Expr) (ms : ℕ) : Type 0 where
+  pub delay : (s : Sight) → delay_by e s ≡ Ok ms
   pub bounded : ms ≤ MAX_DELAY
 
 -- a rule gives this whatever a cell sees, and sets nothing
-pub record AlwaysMakes (rule : Codes) (c : Constant) : Type 0 where
-  pub made : (s : Sight)
-      → made_by_code rule s
-      ≡ Ok (record { values = c.given.values; delay = c.delay; variables = s.variables })
+pub record AlwaysMakes (rule : Rule) (c : Constant) : Type 0 where
+  pub made : (s : Sight) → Evaluates (given rule s) (Ok (c.given, c.delay)) s.variables
   pub bounded : c.delay ≤ MAX_DELAY
 
--- what is kept beside the codes of a rule: its depth, its delay and all that it gives, where these
+-- what is kept beside the forms of a rule: its depth, its delay and all that it gives, where these
 -- are known
-pub record IsKnown (rule : Codes) (most : ℕ) (ms : Option ℕ) (c : Option Constant) : Type 0 where
+pub record IsKnown (rule : Rule) (most : ℕ) (ms : Option ℕ) (c : Option Constant) : Type 0 where
   pub depth : most ≡ rule_depth rule
   pub delay : IfSome ms (AlwaysWaits rule.delay)
   pub each_delay : ms ≡ delay_alone rule.delay

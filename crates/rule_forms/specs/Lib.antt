@@ -1,10 +1,9 @@
-pub mod Code
-pub mod Machine
+pub mod Signs
 pub mod Depth
-pub mod Ran
-pub mod RuleCodes
+pub mod Stops
+pub mod ByPort
 pub mod Forms
 pub mod Numbered
-pub mod ByCode
 pub mod Known
+pub mod Puts
 pub mod WholeNumbers

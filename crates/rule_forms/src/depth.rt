@@ -1,82 +1,95 @@
-// How many answers stand on the stack while postfix code runs.
-ghost use Rattle.std.specs.Prelude.{◌≡◌, ◌<◌, IfOk, map};
+// How many arguments of functions stand on the stack while a rule is evaluated.
+ghost use Rattle.std.specs.Prelude.{◌≡◌, ◌+◌, IfOk, map};
 ghost use Rattle.rule_tree.specs.Expression.{expr_of, rule_of};
 ghost use Rattle.rule_tree.specs.declared.node.Give.{Give as AnyGive};
 ghost use Rattle.rule_tree.specs.declared.node.SetVariable.{SetVariable as AnySet};
-ghost use Rattle.rule_forms.specs.Code.{code_of};
-ghost use Rattle.rule_forms.specs.Depth.{depth_of, height_after};
-ghost use Rattle.rule_forms.specs.RuleCodes.{coded, codes_of, deepest, rule_depth};
+ghost use Rattle.rule_forms.specs.Forms.{exprs_in};
+ghost use Rattle.rule_forms.specs.Depth.{deepest, depth_of, depth_of_all, rule_depth};
 
-use crate::code::{Op, postfix};
 use quantity::OutOfMemory;
 use rule_tree::{Give, Node, RuleTree, SetVariable};
-use std::alloc::Global;
 
-/// The most answers that stand on the stack at once, whichever part of the rule is evaluated.
-pub(crate) fn depth_of_rule(alloc: Global, tree: &RuleTree) -> Result<usize, OutOfMemory>
-    ensures { IfOk result (λ depth. depth ≡ rule_depth (codes_of (rule_of tree.now))) }
+/// The most arguments that stand on the stack at once, whichever part of the rule is evaluated.
+/// `OutOfMemory` where that is no `usize`: no memory holds so many.
+pub(crate) fn depth_of_rule(tree: &RuleTree) -> Result<usize, OutOfMemory>
+    ensures { IfOk result (λ depth. depth ≡ rule_depth (rule_of tree.now)) }
 {
-    let condition = depth_of_node(alloc, &tree.condition)?;
-    let gives = deepest_of_gives(alloc, &tree.gives)?;
-    let delay = depth_of_node(alloc, &tree.delay)?;
-    let sets = deepest_of_sets(alloc, &tree.sets)?;
+    let condition = depth_of_node(&tree.condition)?;
+    let gives = deepest_of_gives(&tree.gives)?;
+    let delay = depth_of_node(&tree.delay)?;
+    let sets = deepest_of_sets(&tree.sets)?;
     Ok(condition.max(gives.max(delay.max(sets))))
 }
 
 #[tactic(auto, using(crate::proofs::Deepest::give_here, crate::proofs::Stacks::drop_end))]
-fn deepest_of_gives(alloc: Global, gives: &[Give]) -> Result<usize, OutOfMemory>
+fn deepest_of_gives(gives: &[Give]) -> Result<usize, OutOfMemory>
     ensures { IfOk result (λ depth. depth
-        ≡ deepest (map coded (map (λ (g : AnyGive). (g.port, expr_of g.value)) gives.now))) }
+        ≡ deepest (map (λ (g : AnyGive). (g.port, expr_of g.value)) gives.now)) }
 {
     let mut most = 0;
     for give in gives {
-        most = most.max(depth_of_node(alloc, &give.value)?);
+        most = most.max(depth_of_node(&give.value)?);
     }
     Ok(most)
 }
 
 #[tactic(auto, using(crate::proofs::Deepest::set_here, crate::proofs::Stacks::drop_end))]
-fn deepest_of_sets(alloc: Global, sets: &[SetVariable]) -> Result<usize, OutOfMemory>
+fn deepest_of_sets(sets: &[SetVariable]) -> Result<usize, OutOfMemory>
     ensures { IfOk result (λ depth. depth
-        ≡ deepest (map coded (map (λ (x : AnySet). (x.variable, expr_of x.value)) sets.now))) }
+        ≡ deepest (map (λ (x : AnySet). (x.variable, expr_of x.value)) sets.now)) }
 {
     let mut most = 0;
     for set in sets {
-        most = most.max(depth_of_node(alloc, &set.value)?);
+        most = most.max(depth_of_node(&set.value)?);
     }
     Ok(most)
 }
 
-/// The same for one expression, whose postfix code is made for that and let go.
-fn depth_of_node(alloc: Global, node: &Node) -> Result<usize, OutOfMemory>
-    ensures { IfOk result (λ depth. depth ≡ depth_of (code_of (expr_of node.now))) }
+/// The same for one expression. Only a function has its arguments on the stack.
+#[cycle(depth)]
+fn depth_of_node(node: &Node) -> Result<usize, OutOfMemory>
+    ensures { IfOk result (λ depth. depth ≡ depth_of (expr_of node.now)) }
 {
-    let code = postfix(alloc, node)?;
-    Ok(depth_of(&code))
+    match node {
+        Node::One(_, operand) => {
+            let operand = depth_of_node(operand)?;
+            Ok(operand)
+        }
+        Node::Two(_, left, right) => {
+            let left = depth_of_node(left)?;
+            let right = depth_of_node(right)?;
+            Ok(left.max(right))
+        }
+        Node::Call(_, nodes) => {
+            let arguments = depth_of_nodes(nodes)?;
+            Ok(arguments)
+        }
+        _ => Ok(0),
+    }
 }
 
-/// The most answers that stand on the stack at once while code runs.
-fn depth_of(code: &[Op]) -> usize
-    ensures { result ≡ depth_of code.now }
+/// The same for the arguments of a function: each is evaluated above those before it, and at the
+/// end all of them stand there.
+#[cycle(depth)]
+fn depth_of_nodes(nodes: &[Node]) -> Result<usize, OutOfMemory>
+    ensures { IfOk result (λ depth. depth ≡ depth_of_all (exprs_in (map expr_of nodes.now))) }
 {
-    let mut height = 0;
+    let mut below = 0;
     let mut most = 0;
-    for op in code {
-        height = height_after(op, height);
-        most = most.max(height);
+    for node in nodes {
+        let own = depth_of_node(node)?;
+        let top = above(below, own)?;
+        most = most.max(top);
+        below += 1;
     }
-    most
+    let height = most.max(below);
+    Ok(height)
 }
 
-/// How many answers stand on the stack after a step, where so many stood before it.
-fn height_after(op: &Op, height: usize) -> usize
-    requires { height < usize.MAX }
-    ensures { result ≡ height_after op.now height }
+/// How many stand on the stack where so many more stand above others.
+fn above(below: usize, more: usize) -> Result<usize, OutOfMemory>
+    ensures { IfOk result (λ sum. sum ≡ below + more) }
 {
-    match op {
-        Op::One(_) => height,
-        Op::Two(_) => height.saturating_sub(1),
-        Op::Call(_, count) => height.saturating_sub(*count) + 1,
-        _ => height + 1,
-    }
+    let sum = below.checked_add(more).ok_or(OutOfMemory)?;
+    Ok(sum)
 }

@@ -1,7 +1,6 @@
 // Expressions as they are evaluated.
 ghost use Rattle.std.specs.Prelude.{◌≡◌, IfSome, Some};
 ghost use Rattle.rule_tree.specs.Expression as E;
-ghost use Rattle.rule_forms.specs.Code.{code_of};
 ghost use Rattle.rule_forms.specs.Forms.{expr_of_form};
 ghost use Rattle.rule_forms.specs.Known.{number_alone};
 
@@ -65,7 +64,7 @@ pub enum Form {
 pub fn plain_number(form: &Form) -> Option<Value>
     ensures value { IfSome result (λ v. expr_of_form form.now ≡ E.number v) }
     ensures found { (v : Value) → form.now ≡ Form.Number v → result ≡ Some v }
-    ensures alone { result ≡ number_alone (code_of (expr_of_form form.now)) }
+    ensures alone { result ≡ number_alone (expr_of_form form.now) }
 {
     match form {
         Form::Number(value) => Some(*value),

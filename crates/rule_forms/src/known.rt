@@ -2,11 +2,11 @@
 ghost use Rattle.std.specs.Prelude.{◌≡◌, ◌≤◌, IfOk, IfSome, is_some, List, Ok, map};
 ghost use Rattle.quantity.specs.declared.bounds.TheConstants.{MAX_DELAY};
 ghost use Rattle.rule_tree.specs.Meaning.{Sight};
-ghost use Rattle.rule_forms.specs.Code.{code_of};
 ghost use Rattle.rule_forms.specs.Forms.{expr_of_form};
-ghost use Rattle.rule_forms.specs.Numbered.{plain, codes_of_forms};
-ghost use Rattle.rule_forms.specs.ByCode.{no_values, given_by_code, delay_in};
-ghost use Rattle.rule_forms.specs.Known.{AlwaysWaits, AlwaysMakes, are_numbers, delay_alone, is_constant};
+ghost use Rattle.rule_forms.specs.Numbered.{numbered, rule_of_forms};
+ghost use Rattle.rule_forms.specs.Stops.{delay_in};
+ghost use Rattle.rule_forms.specs.Puts.{no_values, put_by, AlwaysPuts};
+ghost use Rattle.rule_forms.specs.Known.{AlwaysWaits, are_numbers, delay_alone, is_constant};
 ghost use Rattle.rule_forms.specs.declared.forms.Form.{Form as AnyForm};
 
 use crate::forms::{Form, plain_number};
@@ -30,10 +30,10 @@ pub(crate) fn constant_of(
     delay: &Form,
     sets: &[NumberedForm],
 ) -> Option<Constant>
-    ensures always { IfSome result (λ c. (condition : AnyForm)
-        → AlwaysMakes (codes_of_forms gives.now delay.now condition sets.now) c) }
+    ensures always { IfSome result (AlwaysPuts (map numbered gives.now) (expr_of_form delay.now)
+        (map numbered sets.now)) }
     ensures each { (condition : AnyForm) → is_some result
-        ≡ is_constant (codes_of_forms gives.now delay.now condition sets.now) }
+        ≡ is_constant (rule_of_forms gives.now delay.now condition sets.now) }
 {
     if !sets.is_empty() {
         return None;
@@ -45,8 +45,8 @@ pub(crate) fn constant_of(
 
 /// The delay of a rule, where it is the same whatever a cell sees.
 pub(crate) fn constant_delay(form: &Form) -> Option<Time>
-    ensures always { IfSome result (AlwaysWaits (code_of (expr_of_form form.now))) }
-    ensures each { result ≡ delay_alone (code_of (expr_of_form form.now)) }
+    ensures always { IfSome result (AlwaysWaits (expr_of_form form.now)) }
+    ensures each { result ≡ delay_alone (expr_of_form form.now) }
 {
     let value = plain_number(form)?;
     match delay_in(&value) {
@@ -58,8 +58,8 @@ pub(crate) fn constant_delay(form: &Form) -> Option<Time>
 /// The values that a rule gives, where they are numbers.
 fn constant_values(gives: &[NumberedForm]) -> Option<Given>
     ensures always { IfSome result (λ given. (s : Sight)
-        → given_by_code (map plain gives.now) s no_values ≡ Ok given.values) }
-    ensures each { is_some result ≡ are_numbers (map plain gives.now) }
+        → put_by (map numbered gives.now) s no_values ≡ Ok given.values) }
+    ensures each { is_some result ≡ are_numbers (map numbered gives.now) }
 {
     let mut given = Given { values: [None; 4] };
     for give in gives {

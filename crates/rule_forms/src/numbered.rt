@@ -3,10 +3,8 @@ ghost use Rattle.std.specs.Prelude.{◌≡◌, [], ◌∷◌, ◌++◌, IfOk, On
 ghost use Rattle.rule_tree.specs.Expression.{expr_of};
 ghost use Rattle.rule_tree.specs.declared.node.Give.{Give as AnyGive};
 ghost use Rattle.rule_tree.specs.declared.node.SetVariable.{SetVariable as AnySet};
-ghost use Rattle.rule_forms.specs.Code.{code_of};
 ghost use Rattle.rule_forms.specs.Forms.{expr_of_form};
-ghost use Rattle.rule_forms.specs.RuleCodes.{coded};
-ghost use Rattle.rule_forms.specs.Numbered.{plain};
+ghost use Rattle.rule_forms.specs.Numbered.{numbered};
 
 use crate::forms::Form;
 use crate::lowering::form_of;
@@ -26,8 +24,8 @@ pub(crate) fn forms_of_gives(
     alloc: Global,
     gives: &[Give],
 ) -> Result<Vec<NumberedForm>, OutOfMemory>
-    ensures { IfOk result (λ forms. map plain forms.items
-        ≡ map coded (map (λ (g : AnyGive). (g.port, expr_of g.value)) gives.now)) }
+    ensures { IfOk result (λ forms. map numbered forms.items
+        ≡ map (λ (g : AnyGive). (g.port, expr_of g.value)) gives.now) }
 {
     let mut forms = Vec::new(alloc);
     for give in gives {
@@ -42,8 +40,8 @@ pub(crate) fn forms_of_sets(
     alloc: Global,
     sets: &[SetVariable],
 ) -> Result<Vec<NumberedForm>, OutOfMemory>
-    ensures { IfOk result (λ forms. map plain forms.items
-        ≡ map coded (map (λ (x : AnySet). (x.variable, expr_of x.value)) sets.now)) }
+    ensures { IfOk result (λ forms. map numbered forms.items
+        ≡ map (λ (x : AnySet). (x.variable, expr_of x.value)) sets.now) }
 {
     let mut forms = Vec::new(alloc);
     for set in sets {
@@ -54,8 +52,8 @@ pub(crate) fn forms_of_sets(
 }
 
 fn add(forms: &mut Vec<NumberedForm>, number: u8, form: Form) -> Result<(), OutOfMemory>
-    ensures { OnOk result (map plain forms.new.items
-        ≡ map plain forms.old.items ++ (number, code_of (expr_of_form form)) ∷ []) }
+    ensures { OnOk result (map numbered forms.new.items
+        ≡ map numbered forms.old.items ++ (number, expr_of_form form) ∷ []) }
 {
     forms
         .push(NumberedForm { number, form })

@@ -1,10 +1,9 @@
 // A rule as it is evaluated.
 ghost use Rattle.std.specs.Prelude.{◌≡◌, ◌≤◌, IfOk, IfSome, is_some, map};
 ghost use Rattle.rule_tree.specs.Expression.{rule_of};
-ghost use Rattle.rule_forms.specs.Code.{code_of};
+ghost use Rattle.rule_forms.specs.Depth.{rule_depth, rule_nodes};
 ghost use Rattle.rule_forms.specs.Forms.{expr_of_form};
-ghost use Rattle.rule_forms.specs.RuleCodes.{codes_of, rule_depth, rule_nodes};
-ghost use Rattle.rule_forms.specs.Numbered.{plain, codes_of_forms};
+ghost use Rattle.rule_forms.specs.Numbered.{numbered, rule_of_forms};
 ghost use Rattle.rule_forms.specs.Known.{AlwaysWaits, AlwaysMakes, delay_alone, is_constant};
 
 use crate::depth::depth_of_rule;
@@ -17,7 +16,8 @@ use rule_tree::RuleTree;
 use std::alloc::Global;
 use std::marker::Model;
 
-/// A rule as it is evaluated: trees of forms. It is seen as the postfix code that stands for them.
+/// A rule as it is evaluated: trees of forms. It is seen as the rule whose expressions they stand
+/// for.
 #[derive(Drop)]
 pub struct RuleCode {
     gives: Vec<NumberedForm>,
@@ -32,27 +32,30 @@ pub struct RuleCode {
 }
 
 impl Model for RuleCode {
-    ghost use Rattle.rule_forms.specs.RuleCodes.{Codes};
-    ghost use Rattle.rule_forms.specs.Numbered.{codes_of_forms};
+    ghost use Rattle.std.specs.Coded.{codes};
+    ghost use Rattle.rule_tree.specs.Expression.{Rule};
+    ghost use Rattle.rule_forms.specs.Signs.{expr_code};
+    ghost use Rattle.rule_forms.specs.Numbered.{rule_of_forms};
     ghost use Rattle.rule_forms.specs.Known.{IsKnown};
 
-    ghost Value = { Codes };
+    ghost Value = { Rule };
 
-    ghost view = { λ r. codes_of_forms r.gives.items r.delay r.condition r.sets.items };
+    ghost coded = { Prim.hlevel (codes, expr_code (Prim.hlevel codes)) };
+
+    ghost view = { λ r. rule_of_forms r.gives.items r.delay r.condition r.sets.items };
 
     ghost invariant = { λ r.
-        IsKnown (codes_of_forms r.gives.items r.delay r.condition r.sets.items)
+        IsKnown (rule_of_forms r.gives.items r.delay r.condition r.sets.items)
         r.depth r.constant_delay r.constant };
 }
 
 impl RuleCode {
-    /// The code that stands for a rule's tree: for each of its expressions the postfix code, in the
-    /// tree's order.
+    /// The forms of a rule's tree. Its depth is at most the number of nodes of the tree.
     pub fn make(alloc: Global, tree: &RuleTree) -> Result<RuleCode, OutOfMemory>
-        ensures codes { IfOk result (λ code. code ≡ codes_of (rule_of tree.now)) }
+        ensures rule { IfOk result (λ code. code ≡ rule_of tree.now) }
         ensures depth { IfOk result (λ code. rule_depth code ≤ rule_nodes (rule_of tree.now)) }
     {
-        let depth = depth_of_rule(alloc, tree)?;
+        let depth = depth_of_rule(tree)?;
         let gives = forms_of_gives(alloc, &tree.gives)?;
         let delay = form_of(alloc, &tree.delay)?;
         let condition = form_of(alloc, &tree.condition)?;
@@ -67,8 +70,8 @@ impl RuleCode {
         sets: Vec<NumberedForm>,
         depth: usize,
     ) -> RuleCode
-        requires { depth ≡ rule_depth (codes_of_forms gives.items delay condition sets.items) }
-        ensures { result ≡ codes_of_forms gives.items delay condition sets.items }
+        requires { depth ≡ rule_depth (rule_of_forms gives.items delay condition sets.items) }
+        ensures { result ≡ rule_of_forms gives.items delay condition sets.items }
     {
         let constant_delay = constant_delay(&delay);
         let constant = constant_of(&gives, &delay, &sets);
@@ -86,7 +89,7 @@ impl RuleCode {
     /// The forms of the values that it gives, each for a port.
     #[inline(always)]
     pub fn gives(&self) -> &[NumberedForm]
-        ensures { map plain result.now ≡ self.now.gives }
+        ensures { map numbered result.now ≡ self.now.gives }
     {
         &self.gives
     }
@@ -94,7 +97,7 @@ impl RuleCode {
     /// The form of its delay.
     #[inline(always)]
     pub fn delay(&self) -> &Form
-        ensures { code_of (expr_of_form result.now) ≡ self.now.delay }
+        ensures { expr_of_form result.now ≡ self.now.delay }
     {
         &self.delay
     }
@@ -102,7 +105,7 @@ impl RuleCode {
     /// The form of its condition.
     #[inline(always)]
     pub fn condition(&self) -> &Form
-        ensures { code_of (expr_of_form result.now) ≡ self.now.condition }
+        ensures { expr_of_form result.now ≡ self.now.condition }
     {
         &self.condition
     }
@@ -110,7 +113,7 @@ impl RuleCode {
     /// The forms of the values that it sets, each for a variable.
     #[inline(always)]
     pub fn sets(&self) -> &[NumberedForm]
-        ensures { map plain result.now ≡ self.now.sets }
+        ensures { map numbered result.now ≡ self.now.sets }
     {
         &self.sets
     }
@@ -137,8 +140,8 @@ impl RuleCode {
         }
     }
 
-    /// The most answers that stand on the stack at once while a part of the rule is evaluated: at
-    /// most the number of nodes of the rule's trees.
+    /// The most arguments of functions that stand on the stack at once while a part of the rule is
+    /// evaluated: at most the number of nodes of the rule's trees.
     pub fn depth(&self) -> usize
         ensures { result ≡ rule_depth self.now }
     {

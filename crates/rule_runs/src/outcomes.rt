@@ -4,8 +4,9 @@ ghost use Rattle.quantity.specs.declared.bounds.TheConstants.{MAX_TIME};
 ghost use Rattle.rule_eval.specs.Seen.{IsView};
 
 use quantity::{Compare, OutOfMemory, Place, Raw, Time, Tri, Value};
-use rule_eval::{Given, Op, RuleCode, Stack, View, evaluate, postfix};
-use rule_tree::{Binary, Give, Node, RuleStop, RuleTree, SetVariable};
+use rule_eval::{Given, RuleCode, Stack, View, evaluate};
+use rule_forms::Form;
+use rule_tree::{Binary, Function, Give, Node, RuleStop, RuleTree, SetVariable};
 use std::alloc::{AllocError, Global};
 use std::process::Abort;
 
@@ -143,15 +144,31 @@ fn stops_are_told(rt: HostRuntime) {
     }
 }
 
+// A rule that gives nothing, after this delay.
+fn waiting(rt: &(impl Abort + AllocGlobal), delay: Node) -> RuleTree {
+    RuleTree {
+        gives: Vec::new(rt.alloc()),
+        delay,
+        condition: Node::Truth(Tri::True),
+        sets: Vec::new(rt.alloc()),
+    }
+}
+
 #[test]
-fn code_is_postfix(rt: HostRuntime) {
-    let code = postfix(rt.alloc(), &delay(&rt)).expect(&rt, "memory");
-    assert!(rt;
-        matches!(
-            code.as_slice(),
-            [Op::Number(_), Op::Now, Op::Two(Binary::Sub)]
-        )
-    );
+fn a_rule_is_kept_as_forms(rt: HostRuntime) {
+    let code = RuleCode::make(rt.alloc(), &waiting(&rt, delay(&rt))).expect(&rt, "memory");
+    assert!(rt; matches!(code.delay(), Form::Two(Binary::Sub, _, _)));
+    assert_eq!(rt; code.depth(), 0);
+}
+
+// min(time, max(1, 2)): while 2 is put on the stack, 1 and the time stand there.
+#[test]
+fn arguments_stand_on_the_stack(rt: HostRuntime) {
+    let inner = vec![in rt.alloc(); n(100_000), n(200_000)].expect(&rt, "memory");
+    let outer = vec![in rt.alloc(); Node::Now, Node::Call(Function::Max, inner)];
+    let least = Node::Call(Function::Min, outer.expect(&rt, "memory"));
+    let code = RuleCode::make(rt.alloc(), &waiting(&rt, least)).expect(&rt, "memory");
+    assert_eq!(rt; code.depth(), 3);
 }
 
 // What the rules give over a view.

@@ -1,7 +1,6 @@
 use Rattle.std.proofs.Common.{◌≡◌, map, take}
 use Rattle.rule_tree.specs.Expression.{rule_of}
-use Rattle.rule_forms.specs.RuleCodes.{codes_of}
 use Rattle.cell_engine.proofs.make.codes_of_sets.Given as goal
 
 abbrev pub invariant-loop-rules : goal.invariant-loop-rules
-invariant-loop-rules l = map (λ rules. rules.items) l.codes.items ≡ map (map codes_of) (map (λ rules. map rule_of rules.items) (take l.rules-index l.sets))
+invariant-loop-rules l = map (λ rules. rules.items) l.codes.items ≡ map (λ rules. map rule_of rules.items) (take l.rules-index l.sets)

@@ -6,7 +6,8 @@ use Rattle.quantity.specs.declared.value.Value.TheVariants.{Undefined}
 use Rattle.rule_tree.specs.declared.outcome.RuleStop.{RuleStop}
 use Rattle.rule_tree.specs.Chosen.{chosen}
 use Rattle.rule_tree.specs.Meaning.{Sight, outs}
-use Rattle.rule_eval.specs.Evaluated.{Evaluates, IsLent}
+use Rattle.rule_forms.specs.ByPort.{Evaluates}
+use Rattle.rule_eval.specs.Evaluated.{IsLent}
 use Rattle.rule_eval.specs.Seen.{sight_of}
 use Rattle.rule_eval.specs.Room.{Room}
 use Rattle.rule_eval.specs.Tallies.{IsTally}
@@ -54,7 +55,8 @@ evaluate_counted-requires-clause-known c =
     subst (λ (x : Sight). IsTally c.args.tally (outs x)) (sym shown) c.requires.tally
 
 pub returns-in-Some-clause-given : goal.returns-in-Some-clause-given
-returns-in-Some-clause-given c = λ trees stand.
+returns-in-Some-clause-given c =
+    let own = c.args.rules.now in
     let l = c.args.plan.now in
     let tb = c.args.table.now in
     let i = c.args.i in
@@ -65,9 +67,9 @@ returns-in-Some-clause-given c = λ trees stand.
     shows c.view-view.result c.args.t l tb i Undefined c.view-view.ensures.table c.requires.ready.cells here c.view-view.ensures.looks in
     let seen = c.view-view.result.variables.now in
     let made : Result (Given × ℕ) RuleStop = Ok (c.in-Some.known.now.given, c.in-Ok.made.1) in
-    let meant : Evaluates (chosen trees (sight_of c.view-view.result)) made seen =
-    subst (λ (o : Option (Bor Constant)). IsLent (Evaluates (chosen trees (sight_of c.view-view.result))) o c.in-Ok.made.1 c.evaluate_counted.new.given c.evaluate_counted.new.changed seen) c.in-Some.is (c.in-Ok.ensures.value trees stand) in
-    subst (λ (x : Sight). Evaluates (chosen trees x) made x.variables) shown meant
+    let meant : Evaluates (chosen own (sight_of c.view-view.result)) made seen =
+    subst (λ (o : Option (Bor Constant)). IsLent (Evaluates (chosen own (sight_of c.view-view.result))) o c.in-Ok.made.1 c.evaluate_counted.new.given c.evaluate_counted.new.changed seen) c.in-Some.is c.in-Ok.ensures.value in
+    subst (λ (x : Sight). Evaluates (chosen own x) made x.variables) shown meant
 
 pub returns-in-Some-clause-delay : goal.returns-in-Some-clause-delay
 returns-in-Some-clause-delay c = c.in-Ok.ensures.delay

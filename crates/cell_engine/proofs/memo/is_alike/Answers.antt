@@ -1,5 +1,5 @@
 use Rattle.std.proofs.Common.{List, subst, arith}
-use Rattle.rule_forms.specs.RuleCodes.{Codes}
+use Rattle.rule_tree.specs.Expression.{Rule}
 use Rattle.rule_eval.specs.Few.{GoByFew}
 use Rattle.cell_engine.proofs.memo.is_alike.Goals as goal
 
@@ -13,5 +13,5 @@ returns-then-is_single c = λ so.
       variables = parts.0;
       single = parts.1;
       own_offset = c.requires;
-      few = subst (λ (rs : List Codes). GoByFew c.args.own rs) c.codes_at-rules.ensures (c.go_by_few.ensures so);
+      few = subst (λ (rs : List Rule). GoByFew c.args.own rs) c.codes_at-rules.ensures (c.go_by_few.ensures so);
     }

@@ -8,7 +8,8 @@ use Rattle.quantity.specs.declared.value.Value.{Value}
 use Rattle.rule_tree.specs.declared.outcome.RuleStop.{RuleStop}
 use Rattle.rule_tree.specs.Chosen.{chosen}
 use Rattle.rule_tree.specs.Meaning.{Sight, outs}
-use Rattle.rule_eval.specs.Evaluated.{Evaluates, IsLent}
+use Rattle.rule_forms.specs.ByPort.{Evaluates}
+use Rattle.rule_eval.specs.Evaluated.{IsLent}
 use Rattle.rule_eval.specs.Seen.{sight_of}
 use Rattle.rule_eval.specs.Room.{Room}
 use Rattle.rule_eval.specs.Tallies.{IsTally}
@@ -107,7 +108,8 @@ returns-in-Err-clause-ready c =
     (ap (λ (room : Room). room.depth) c.evaluate_counted.ensures.stack) c.requires.ready
 
 pub returns-in-None-clause-cell : goal.returns-in-None-clause-cell
-returns-in-None-clause-cell c = λ trees st.
+returns-in-None-clause-cell c = λ apart.
+    let own = c.args.rules.now in
     let l = c.args.plan.now in
     let tb = c.args.table.now in
     let i = c.args.i in
@@ -120,18 +122,19 @@ returns-in-None-clause-cell c = λ trees st.
     let changed = c.evaluate_counted.new.changed in
     let after : c.deref-in-None.result.now ≡ changed = c.deref-in-None.ensures.value ∙ with_items_is xs changed (omega (arith, c.evaluate_counted.auto.changed, xs.ok.0)) in
     let made : Result (Given × ℕ) RuleStop = Ok (given, c.in-Ok.made.1) in
-    let meant : Evaluates (chosen trees (sight_of c.view-view.result)) made changed =
-    subst (λ (o : Option (Bor Constant)). IsLent (Evaluates (chosen trees (sight_of c.view-view.result))) o c.in-Ok.made.1 given changed c.view-view.result.variables.now) c.in-None.is (c.in-Ok.ensures.value trees st.codes_are) in
-    let evaluated : Evaluates (chosen trees (record s { variables = cell.variables })) made changed =
-    subst (λ (x : Sight). Evaluates (chosen trees x) made changed) shown meant in
-    subst (λ (kind : DelayKind). Computes i tb.cells c.take_made.new.table.cells (ruled kind s trees cell) c.take_made.result) (ap (λ (m : Layout). m.kind) c.plan.view_is)
-    (rules_finish _ c.take_made.result i tb.cells c.take_made.new.table.cells c.plan.inside.kind c.later-at.result s cell.variables cell trees
-    (given, c.in-Ok.made.1) c.deref-in-None.result.now refl st.apart
-    (subst (λ (ys : List Value). Evaluates (chosen trees (record s { variables = cell.variables })) made ys) (sym after) evaluated)
+    let meant : Evaluates (chosen own (sight_of c.view-view.result)) made changed =
+    subst (λ (o : Option (Bor Constant)). IsLent (Evaluates (chosen own (sight_of c.view-view.result))) o c.in-Ok.made.1 given changed c.view-view.result.variables.now) c.in-None.is c.in-Ok.ensures.value in
+    let evaluated : Evaluates (chosen own (record s { variables = cell.variables })) made changed =
+    subst (λ (x : Sight). Evaluates (chosen own x) made changed) shown meant in
+    subst (λ (kind : DelayKind). Computes i tb.cells c.take_made.new.table.cells (ruled kind s own cell) c.take_made.result) (ap (λ (m : Layout). m.kind) c.plan.view_is)
+    (rules_finish _ c.take_made.result i tb.cells c.take_made.new.table.cells c.plan.inside.kind c.later-at.result s cell.variables cell own
+    (given, c.in-Ok.made.1) c.deref-in-None.result.now refl apart
+    (subst (λ (ys : List Value). Evaluates (chosen own (record s { variables = cell.variables })) made ys) (sym after) evaluated)
     (λ _. c.later-at.ensures) c.take_made.ensures.memory c.take_made.ensures.cell)
 
 pub returns-in-Some-clause-cell : goal.returns-in-Some-clause-cell
-returns-in-Some-clause-cell c = λ trees st.
+returns-in-Some-clause-cell c = λ apart.
+    let own = c.args.rules.now in
     let l = c.args.plan.now in
     let tb = c.args.table.now in
     let i = c.args.i in
@@ -142,17 +145,18 @@ returns-in-Some-clause-cell c = λ trees st.
     let seen = c.view-view.result.variables.now in
     let given = c.in-Some.known.now.given in
     let made : Result (Given × ℕ) RuleStop = Ok (given, c.in-Ok.made.1) in
-    let meant : Evaluates (chosen trees (sight_of c.view-view.result)) made seen =
-    subst (λ (o : Option (Bor Constant)). IsLent (Evaluates (chosen trees (sight_of c.view-view.result))) o c.in-Ok.made.1 c.evaluate_counted.new.given c.evaluate_counted.new.changed seen) c.in-Some.is (c.in-Ok.ensures.value trees st.codes_are) in
-    let evaluated : Evaluates (chosen trees (record s { variables = cell.variables })) made cell.variables =
-    subst (λ (x : Sight). Evaluates (chosen trees x) made x.variables) shown meant in
-    subst (λ (kind : DelayKind). Computes i tb.cells c.take_lent.new.table.cells (ruled kind s trees cell) c.take_lent.result) (ap (λ (m : Layout). m.kind) c.plan.view_is)
-    (rules_finish _ c.take_lent.result i tb.cells c.take_lent.new.table.cells c.plan.inside.kind c.later-at.result s cell.variables cell trees
-    (given, c.in-Ok.made.1) cell.variables refl st.apart evaluated
+    let meant : Evaluates (chosen own (sight_of c.view-view.result)) made seen =
+    subst (λ (o : Option (Bor Constant)). IsLent (Evaluates (chosen own (sight_of c.view-view.result))) o c.in-Ok.made.1 c.evaluate_counted.new.given c.evaluate_counted.new.changed seen) c.in-Some.is c.in-Ok.ensures.value in
+    let evaluated : Evaluates (chosen own (record s { variables = cell.variables })) made cell.variables =
+    subst (λ (x : Sight). Evaluates (chosen own x) made x.variables) shown meant in
+    subst (λ (kind : DelayKind). Computes i tb.cells c.take_lent.new.table.cells (ruled kind s own cell) c.take_lent.result) (ap (λ (m : Layout). m.kind) c.plan.view_is)
+    (rules_finish _ c.take_lent.result i tb.cells c.take_lent.new.table.cells c.plan.inside.kind c.later-at.result s cell.variables cell own
+    (given, c.in-Ok.made.1) cell.variables refl apart evaluated
     (λ _. c.later-at.ensures) c.take_lent.ensures.memory c.take_lent.ensures.cell)
 
 pub returns-in-Err-clause-cell : goal.returns-in-Err-clause-cell
-returns-in-Err-clause-cell c = λ trees st.
+returns-in-Err-clause-cell c = λ apart.
+    let own = c.args.rules.now in
     let l = c.args.plan.now in
     let tb = c.args.table.now in
     let i = c.args.i in
@@ -160,6 +164,6 @@ returns-in-Err-clause-cell c = λ trees st.
     let s = at_port c.args.port (sees l c.args.t tb i) in
     let here : i < cell_count l.space = omega (arith, c.requires.cell, c.requires.ready.cells) in
     let shown : sight_of c.view-view.result ≡ record s { variables = cell.variables } = shows c.view-view.result c.args.t l tb i c.args.port c.view-view.ensures.table c.requires.ready.cells here c.view-view.ensures.looks in
-    rules_stop _ i tb.cells tb.cells l.kind s cell.variables cell trees
+    rules_stop _ i tb.cells tb.cells l.kind s cell.variables cell own
     c.in-Err.stop c.stop_of.result c.evaluate_counted.new.changed refl c.stop_of.ensures
-    (subst (λ (x : Sight). let e : Result (Given × ℕ) RuleStop = Err c.in-Err.stop in Evaluates (chosen trees x) e c.evaluate_counted.new.changed) shown (c.in-Err.ensures.value trees st.codes_are))
+    (subst (λ (x : Sight). let e : Result (Given × ℕ) RuleStop = Err c.in-Err.stop in Evaluates (chosen own x) e c.evaluate_counted.new.changed) shown c.in-Err.ensures.value)

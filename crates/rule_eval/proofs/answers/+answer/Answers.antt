@@ -19,8 +19,7 @@ use Rattle.rule_forms.specs.declared.forms.Form.{Form}
 use Rattle.rule_forms.specs.declared.forms.Form.TheViews.{the_lemmas}
 use Rattle.rule_eval.specs.Stacked.{stacked}
 use Rattle.rule_eval.specs.Seen.{neighbours_of, seen}
-use Rattle.rule_forms.specs.Code.{code_of, codes_of}
-use Rattle.rule_forms.specs.Depth.{depth_from}
+use Rattle.rule_forms.specs.Depth.{depth_of, depth_of_all}
 use Rattle.rule_forms.specs.Forms.{expr_of_form, exprs_of_forms}
 use Rattle.rule_eval.specs.Sums.{port_value_at, sum_from}
 use Rattle.rule_forms.proofs.Stacks.{slice_rest}
@@ -48,7 +47,7 @@ answer-answer-requires t c =
     let h = vec_len c.args.answers.now in
     let room = vec_capacity c.args.answers.now in
     let part = operand_room c.in-One.operator (expr_of_form c.args.form.now) (expr_of_form c.in-One.a.value) h room (ap expr_of_form c.in-One.is) c.requires.room in
-    let fits = subst (λ (f : Form). depth_from (code_of (expr_of_form f)) h ≤ room) (sym c.deref-in-One.ensures) part in
+    let fits = subst (λ (f : Form). h + depth_of (expr_of_form f) ≤ room) (sym c.deref-in-One.ensures) part in
     (search (rules, the_lemmas), (c.requires.view, (c.requires.counts, fits)))
 
 pub answer-answer-requires-in-Two : goal.answer-answer-requires-in-Two
@@ -56,7 +55,7 @@ answer-answer-requires-in-Two t c =
     let h = vec_len c.args.answers.now in
     let room = vec_capacity c.args.answers.now in
     let part = left_room c.in-Two.operator (expr_of_form c.args.form.now) (expr_of_form c.in-Two.a.value) (expr_of_form c.in-Two.c.value) h room (ap expr_of_form c.in-Two.is) c.requires.room in
-    let fits = subst (λ (f : Form). depth_from (code_of (expr_of_form f)) h ≤ room) (sym c.deref-in-Two.ensures) part in
+    let fits = subst (λ (f : Form). h + depth_of (expr_of_form f) ≤ room) (sym c.deref-in-Two.ensures) part in
     (search (rules, the_lemmas), (c.requires.view, (c.requires.counts, fits)))
 
 pub answer-answer-requires-in-None : goal.answer-answer-requires-in-None
@@ -64,8 +63,8 @@ answer-answer-requires-in-None t c =
     let before = c.args.answers.now in
     let now = c.answer-in-Two.new.answers in
     let part = right_room c.in-Two.operator (expr_of_form c.args.form.now) (expr_of_form c.in-Two.a.value) (expr_of_form c.in-Two.c.value) (vec_len before) (vec_capacity before) (ap expr_of_form c.in-Two.is) c.requires.room in
-    let moved = moved_room (code_of (expr_of_form c.in-Two.c.value)) (vec_len before) (vec_len now) (vec_capacity before) (vec_capacity now) (same_height before now c.in_ok-a-in-Two.ensures.stack) c.in_ok-a-in-Two.ensures.capacity part in
-    let fits = subst (λ (f : Form). depth_from (code_of (expr_of_form f)) (vec_len now) ≤ vec_capacity now) (sym c.deref-in-None.ensures) moved in
+    let moved = moved_room (depth_of (expr_of_form c.in-Two.c.value)) (vec_len before) (vec_len now) (vec_capacity before) (vec_capacity now) (same_height before now c.in_ok-a-in-Two.ensures.stack) c.in_ok-a-in-Two.ensures.capacity part in
+    let fits = subst (λ (f : Form). vec_len now + depth_of (expr_of_form f) ≤ vec_capacity now) (sym c.deref-in-None.ensures) moved in
     (search (rules, the_lemmas), (c.requires.view, (c.in_ok-a-in-Two.ensures.counts, fits)))
 
 pub answer-stack_answers-requires : goal.answer-stack_answers-requires
@@ -74,7 +73,7 @@ answer-stack_answers-requires t c =
     let room = vec_capacity c.args.answers.now in
     let is = ap expr_of_form c.in-Call.is ∙ form_call c.in-Call.function c.in-Call.arguments in
     let part = arguments_room c.in-Call.function (expr_of_form c.args.form.now) (exprs_of_forms c.in-Call.arguments.items) h room is c.requires.room in
-    let fits = subst (λ (fs : List Form). depth_from (codes_of (exprs_of_forms fs)) h ≤ room) (sym c.deref-in-Call.ensures.value) part in
+    let fits = subst (λ (fs : List Form). h + depth_of_all (exprs_of_forms fs) ≤ room) (sym c.deref-in-Call.ensures.value) part in
     (search (rules, the_lemmas), (c.requires.view, (c.requires.counts, fits)))
 
 pub answer-returns-in_err-stack_answers-in-Call-clause-value : goal.answer-returns-in_err-stack_answers-in-Call-clause-value
@@ -221,7 +220,7 @@ stack_answers-loop-form-preserved t c =
     let step = stacked_here c.args.forms.now i c.form-item.result s now.items argument c.loop-form-test.true c.form-item.is c.in_ok-argument.ensures.value in
     record {
       same = ap (λ (st : List Answer). stacked st (meanings rest s)) grown ∙ sym step ∙ c.loop-form.invariant.same;
-      room = moved_room (codes_of rest) (vec_len now + 1) (vec_len c.push.new.answers) (vec_capacity now) (vec_capacity c.push.new.answers) (one_higher now c.push.new.answers argument grown) capacity behind;
+      room = moved_room (depth_of_all rest) (vec_len now + 1) (vec_len c.push.new.answers) (vec_capacity now) (vec_capacity c.push.new.answers) (one_higher now c.push.new.answers argument grown) capacity behind;
       capacity = capacity ∙ c.loop-form.invariant.capacity;
       counts = c.in_ok-argument.ensures.counts;
     }

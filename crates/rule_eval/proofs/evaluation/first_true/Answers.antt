@@ -3,11 +3,12 @@ use Rattle.std.specs.declared.result.Result.{Result}
 use Rattle.std.proofs.lemmas.List.{drop_all}
 use Rattle.rule_tree.specs.declared.outcome.RuleStop.{RuleStop}
 use Rattle.std.specs.Borrow.{Bor}
-use Rattle.rule_eval.specs.Evaluated.{Makes, MayLend}
+use Rattle.rule_forms.specs.ByPort.{Evaluates}
+use Rattle.rule_eval.specs.Evaluated.{MayLend}
 use Rattle.rule_eval.specs.Seen.{sight_of}
 use Rattle.rule_forms.specs.declared.known.Constant.{Constant}
-use Rattle.rule_forms.specs.ByCode.{Outcome, first_by_code, if_holds, made_by_code}
-use Rattle.rule_forms.specs.RuleCodes.{Codes}
+use Rattle.rule_tree.specs.Expression.{Rule}
+use Rattle.rule_tree.specs.Chosen.{Chosen, chosen, if_true, given}
 use Rattle.rule_eval.proofs.Making.{left_to, rule_holds, rule_stops}
 use Rattle.rule_eval.proofs.evaluation.first_true.Goals as goal
 
@@ -18,8 +19,8 @@ returns-in_err-condition c =
     let is : c.from_residual.result ≡ Err stop = search rules in
     let stops = rule_stops c.args.rules.now c.loop-rule.rule-index c.rule-item.result s stop c.loop-rule-test.true c.rule-item.is c.in_err-condition.ensures.value in
     let seen = c.args.view.now.variables.now in
-    let P : Outcome → Type 0 = λ o. MayLend (Makes o) c.from_residual.result c.loop-rule.given c.loop-rule.changed seen in
-    let Q : Result (Option (Bor Constant) × ℕ) RuleStop → Type 0 = λ r. MayLend (Makes (Err stop)) r c.loop-rule.given c.loop-rule.changed seen in
+    let P : Chosen → Type 0 = λ o. MayLend (Evaluates o) c.from_residual.result c.loop-rule.given c.loop-rule.changed seen in
+    let Q : Result (Option (Bor Constant) × ℕ) RuleStop → Type 0 = λ r. MayLend (Evaluates (Err stop)) r c.loop-rule.given c.loop-rule.changed seen in
     record {
       value = subst P (sym stops ∙ c.loop-rule.invariant.same) (subst Q (sym is) refl);
       capacity = c.condition.ensures.capacity ∙ c.loop-rule.invariant.capacity;
@@ -33,9 +34,9 @@ returns-in-True c =
     let i = c.loop-rule.rule-index in
     let rule = c.rule-item.result in
     let s = sight_of c.args.view.now in
-    let holds = ap (λ t. if_holds t (made_by_code rule s) (first_by_code (drop (i + 1) rules) s)) c.in-True.is in
-    let now = rule_holds rules i rule s c.in_ok-condition.field-0 (made_by_code rule s) c.loop-rule-test.true c.rule-item.is c.in_ok-condition.ensures.value holds in
-    let P : Outcome → Type 0 = λ o. MayLend (Makes o) c.give.result c.give.new.given c.give.new.changed c.args.view.now.variables.now in
+    let holds = ap (λ t. if_true t (given rule s) (chosen (drop (i + 1) rules) s)) c.in-True.is in
+    let now = rule_holds rules i rule s c.in_ok-condition.field-0 (given rule s) c.loop-rule-test.true c.rule-item.is c.in_ok-condition.ensures.value holds in
+    let P : Chosen → Type 0 = λ o. MayLend (Evaluates o) c.give.result c.give.new.given c.give.new.changed c.args.view.now.variables.now in
     record {
       value = subst P (sym now ∙ c.loop-rule.invariant.same) c.give.ensures.value;
       capacity = c.give.ensures.capacity ∙ c.condition.ensures.capacity ∙ c.loop-rule.invariant.capacity;
@@ -49,8 +50,8 @@ loop-rule-preserved c =
     let i = c.loop-rule.rule-index in
     let rule = c.rule-item.result in
     let s = sight_of c.args.view.now in
-    let later = first_by_code (drop (i + 1) rules) s in
-    let left = left_to c.in_ok-condition.field-0 (made_by_code rule s) later c.in-False.is in
+    let later = chosen (drop (i + 1) rules) s in
+    let left = left_to c.in_ok-condition.field-0 (given rule s) later c.in-False.is in
     let goes = rule_holds rules i rule s c.in_ok-condition.field-0 later c.loop-rule-test.true c.rule-item.is c.in_ok-condition.ensures.value left in
     record {
       same = sym goes ∙ c.loop-rule.invariant.same;
@@ -61,8 +62,8 @@ loop-rule-preserved c =
 pub returns : goal.returns
 returns c =
     let s = sight_of c.args.view.now in
-    let none = ap (λ (rs : List Codes). first_by_code rs s) (drop_all c.loop-rule.rule-index c.args.rules.now c.loop-rule-test.false) in
-    let P : Outcome → Type 0 = λ o. MayLend (Makes o) (Err RuleStop.NoTrueRule) c.loop-rule.given c.loop-rule.changed c.args.view.now.variables.now in
+    let none = ap (λ (rs : List Rule). chosen rs s) (drop_all c.loop-rule.rule-index c.args.rules.now c.loop-rule-test.false) in
+    let P : Chosen → Type 0 = λ o. MayLend (Evaluates o) (Err RuleStop.NoTrueRule) c.loop-rule.given c.loop-rule.changed c.args.view.now.variables.now in
     record {
       value = subst P (sym none ∙ c.loop-rule.invariant.same) refl;
       capacity = c.loop-rule.invariant.capacity;

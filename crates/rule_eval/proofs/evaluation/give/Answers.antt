@@ -1,10 +1,8 @@
 use Rattle.rule_eval.specs.Seen.{sight_of}
-use Rattle.rule_eval.proofs.Making.{made_always}
 use Rattle.rule_eval.proofs.evaluation.give.Goals as goal
 
 pub returns-in-Some-clause-value : goal.returns-in-Some-clause-value
-returns-in-Some-clause-value c =
-    made_always c.args.rule.now c.in-Some.constant.now (sight_of c.args.view.now) c.in-Some.ensures.always
+returns-in-Some-clause-value c = c.in-Some.ensures.always.made (sight_of c.args.view.now)
 
 pub returns-in-Ok-clause-value : goal.returns-in-Ok-clause-value
 returns-in-Ok-clause-value c = c.in-Ok.ensures.value

@@ -1,14 +1,14 @@
-use Rattle.std.proofs.Common.{◌≡◌, ◌∙◌, ◌+◌, Option, Ok, Err, List, map, drop, refl, sym, ap, subst, arith, rules}
+use Rattle.std.proofs.Common.{◌≡◌, ◌∙◌, ◌+◌, Err, List, map, drop, sym, ap, subst, arith, rules}
 use Rattle.std.specs.declared.result.Result.{Result}
 use Rattle.std.proofs.lemmas.List.{drop_all}
-use Rattle.quantity.specs.declared.value.Value.{Value}
 use Rattle.rule_tree.specs.declared.outcome.RuleStop.{RuleStop}
 use Rattle.rule_eval.specs.Evaluated.{GivesValues, filled}
 use Rattle.rule_eval.specs.Seen.{sight_of}
 use Rattle.rule_forms.specs.declared.numbered.NumberedForm.{NumberedForm}
-use Rattle.rule_forms.specs.ByCode.{given_by_code}
-use Rattle.rule_forms.specs.Numbered.{plain}
-use Rattle.rule_eval.proofs.Making.{deepest_here, give_goes, give_stops}
+use Rattle.rule_tree.specs.Chosen.{values_of}
+use Rattle.rule_forms.specs.Numbered.{numbered}
+use Rattle.rule_forms.specs.Puts.{put_by}
+use Rattle.rule_eval.proofs.Making.{deepest_here, give_goes, give_stops, values_given, values_stopped}
 use Rattle.rule_eval.proofs.evaluation.give_values.Goals as goal
 
 pub number-requires : goal.number-requires
@@ -25,7 +25,7 @@ loop-give-preserved c =
     let here = deepest_here gives i give c.loop-give-test.true c.give-item.is in
     let goes = give_goes gives i give s c.loop-give.given.values c.in_ok-value.value c.loop-give-test.true c.give-item.is c.in_ok-value.ensures.value in
     record {
-      same = ap (λ vs. given_by_code (map plain (drop (i + 1) gives)) s vs) c.put.ensures ∙ sym goes ∙ c.loop-give.invariant.same;
+      same = ap (λ vs. put_by (map numbered (drop (i + 1) gives)) s vs) c.put.ensures ∙ sym goes ∙ c.loop-give.invariant.same;
       room = omega (arith, here, c.loop-give.invariant.room, c.number.ensures.capacity);
       capacity = c.number.ensures.capacity ∙ c.loop-give.invariant.capacity;
       counts = c.number.ensures.counts;
@@ -37,10 +37,11 @@ returns-in_err-value c =
     let is : c.from_residual.result ≡ Err stop = search rules in
     let stops = give_stops c.args.gives.now c.loop-give.give-index c.give-item.result (sight_of c.args.view.now) c.loop-give.given.values stop c.loop-give-test.true c.give-item.is c.in_err-value.ensures.value in
     let given = c.loop-give.given in
-    let P : Result (List (Option Value)) RuleStop → Type 0 = λ o. GivesValues o (filled {U = Unit {0}} given c.from_residual.result) in
-    let Q : Result (Unit {0}) RuleStop → Type 0 = λ r. GivesValues (Err stop) (filled given r) in
+    let all = map numbered c.args.gives.now in
+    let s = sight_of c.args.view.now in
+    let Q : Result (Unit {0}) RuleStop → Type 0 = λ r. GivesValues (values_of all s) (filled given r) in
     record {
-      value = subst P (sym stops ∙ c.loop-give.invariant.same) (subst Q (sym is) refl);
+      value = subst Q (sym is) (values_stopped all s stop (sym c.loop-give.invariant.same ∙ stops));
       capacity = c.number.ensures.capacity ∙ c.loop-give.invariant.capacity;
       counts = c.number.ensures.counts;
     }
@@ -49,10 +50,9 @@ pub returns : goal.returns
 returns c =
     let s = sight_of c.args.view.now in
     let given = c.loop-give.given in
-    let none = ap (λ (gs : List NumberedForm). given_by_code (map plain gs) s given.values) (drop_all c.loop-give.give-index c.args.gives.now c.loop-give-test.false) in
-    let P : Result (List (Option Value)) RuleStop → Type 0 = λ o. GivesValues o (Ok given) in
+    let none = ap (λ (gs : List NumberedForm). put_by (map numbered gs) s given.values) (drop_all c.loop-give.give-index c.args.gives.now c.loop-give-test.false) in
     record {
-      value = subst P (sym none ∙ c.loop-give.invariant.same) refl;
+      value = values_given (map numbered c.args.gives.now) s given (sym none ∙ c.loop-give.invariant.same);
       capacity = c.loop-give.invariant.capacity;
       counts = c.loop-give.invariant.counts;
     }

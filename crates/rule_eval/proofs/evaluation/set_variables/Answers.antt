@@ -6,8 +6,8 @@ use Rattle.rule_tree.specs.declared.outcome.RuleStop.{RuleStop}
 use Rattle.rule_eval.specs.Evaluated.{SetsVariables}
 use Rattle.rule_eval.specs.Seen.{seen}
 use Rattle.rule_forms.specs.declared.numbered.NumberedForm.{NumberedForm}
-use Rattle.rule_forms.specs.ByCode.{set_by_code}
-use Rattle.rule_forms.specs.Numbered.{plain}
+use Rattle.rule_tree.specs.Chosen.{variables_after}
+use Rattle.rule_forms.specs.Numbered.{numbered}
 use Rattle.rule_eval.proofs.Making.{deepest_here, set_goes, set_stops}
 use Rattle.rule_eval.proofs.evaluation.set_variables.Goals as goal
 
@@ -28,7 +28,7 @@ loop-set-preserved c =
     let here = deepest_here sets i item c.loop-set-test.true c.set-item.is in
     let goes = set_goes sets i item s value c.loop-set-test.true c.set-item.is c.in_ok-value.ensures.value in
     record {
-      same = ap (λ vs. set_by_code (map plain (drop (i + 1) sets)) (seen c.args.view.now vs)) changed ∙ sym goes ∙ c.loop-set.invariant.same;
+      same = ap (λ vs. variables_after (map numbered (drop (i + 1) sets)) (seen c.args.view.now vs)) changed ∙ sym goes ∙ c.loop-set.invariant.same;
       room = omega (arith, here, c.loop-set.invariant.room, c.number.ensures.capacity);
       capacity = c.number.ensures.capacity ∙ c.loop-set.invariant.capacity;
       counts = c.number.ensures.counts;
@@ -51,7 +51,7 @@ returns-in_err-value c =
 pub returns : goal.returns
 returns c =
     let changed = c.loop-set.changed in
-    let none = ap (λ (xs : List NumberedForm). set_by_code (map plain xs) (seen c.args.view.now changed)) (drop_all c.loop-set.set-index c.args.sets.now c.loop-set-test.false) in
+    let none = ap (λ (xs : List NumberedForm). variables_after (map numbered xs) (seen c.args.view.now changed)) (drop_all c.loop-set.set-index c.args.sets.now c.loop-set-test.false) in
     let P : Result (List Value) RuleStop → Type 0 = λ o. SetsVariables {U = Unit {0}} o (Ok tt) changed in
     record {
       value = subst P (sym none ∙ c.loop-set.invariant.same) refl;

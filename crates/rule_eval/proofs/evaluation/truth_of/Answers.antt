@@ -1,13 +1,11 @@
 use Rattle.std.proofs.Common.{Some, sym, ap, ◌∙◌}
 use Rattle.quantity.specs.declared.truth.Tri.{Tri}
 use Rattle.rule_tree.specs.declared.outcome.Answer.TheVariants.{Logic}
+use Rattle.rule_tree.specs.Meaning.{meaning}
 use Rattle.rule_forms.specs.declared.forms.Form.{Form}
 use Rattle.rule_eval.specs.Seen.{sight_of}
-use Rattle.rule_forms.specs.Code.{code_of}
-use Rattle.rule_forms.specs.Ran.{answer_of}
-use Rattle.rule_forms.specs.ByCode.{truth_or_stop}
-use Rattle.rule_forms.specs.Forms.{expr_of_test, expr_of_form}
-use Rattle.rule_eval.proofs.ByTrees.{answer_is}
+use Rattle.rule_forms.specs.Stops.{truth_or_stop}
+use Rattle.rule_forms.specs.Forms.{expr_of_form}
 use Rattle.rule_eval.proofs.FormTests.{test_means}
 use Rattle.rule_eval.proofs.evaluation.truth_of.Goals as goal
 
@@ -15,4 +13,4 @@ pub returns-in-Test-clause-value : goal.returns-in-Test-clause-value
 returns-in-Test-clause-value c =
     let s = sight_of c.args.view.now in
     ap (λ (t : Tri). truth_or_stop (Some (Logic t))) c.truth.ensures.value
-    ∙ sym (ap truth_or_stop (ap (λ (f : Form). answer_of (code_of (expr_of_form f)) s) c.in-Test.is ∙ answer_is (expr_of_test c.in-Test.test) s ∙ test_means c.in-Test.test s))
+    ∙ sym (ap truth_or_stop (ap (λ (f : Form). meaning (expr_of_form f) s) c.in-Test.is ∙ test_means c.in-Test.test s))

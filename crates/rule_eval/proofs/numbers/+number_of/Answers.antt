@@ -1,4 +1,4 @@
-use Rattle.std.proofs.Common.{◌≡◌, ◌≤◌, Option, Some, None, Err, List, vec_len, vec_capacity, subst, sym, ap, ◌∙◌, rules, refl}
+use Rattle.std.proofs.Common.{◌≡◌, ◌+◌, ◌≤◌, Option, Some, None, Err, List, vec_len, vec_capacity, subst, sym, ap, ◌∙◌, rules, refl}
 use Rattle.std.specs.Option.{option_map}
 use Rattle.std.specs.Result.{result_ok}
 use Rattle.quantity.specs.declared.value.Value.{Value}
@@ -10,8 +10,7 @@ use Rattle.rule_forms.specs.declared.forms.Form.{Form}
 use Rattle.rule_forms.specs.declared.forms.Form.TheViews.{the_lemmas}
 use Rattle.rule_eval.specs.Seen.{neighbours_of, seen}
 use Rattle.rule_eval.specs.Numbers.{number_meant}
-use Rattle.rule_forms.specs.Code.{code_of}
-use Rattle.rule_forms.specs.Depth.{depth_from}
+use Rattle.rule_forms.specs.Depth.{depth_of}
 use Rattle.rule_forms.specs.Forms.{expr_of_form}
 use Rattle.rule_eval.specs.Sums.{port_value_at, sum_from}
 use Rattle.rule_eval.proofs.FormSums.{sum_means}
@@ -24,7 +23,7 @@ number_of-requires t c =
     let h = vec_len c.args.answers.now in
     let room = vec_capacity c.args.answers.now in
     let part = left_room c.in-Two.operator (expr_of_form c.args.form.now) (expr_of_form c.in-Two.a.value) (expr_of_form c.in-Two.c.value) h room (ap expr_of_form c.in-Two.is) c.requires.room in
-    let fits = subst (λ (f : Form). depth_from (code_of (expr_of_form f)) h ≤ room) (sym c.deref-in-Two.ensures) part in
+    let fits = subst (λ (f : Form). h + depth_of (expr_of_form f) ≤ room) (sym c.deref-in-Two.ensures) part in
     (search (rules, the_lemmas), (c.requires.view, (c.requires.counts, fits)))
 
 pub number_of-requires-in-None : goal.number_of-requires-in-None
@@ -32,8 +31,8 @@ number_of-requires-in-None t c =
     let before = c.args.answers.now in
     let now = c.number_of.new.answers in
     let part = right_room c.in-Two.operator (expr_of_form c.args.form.now) (expr_of_form c.in-Two.a.value) (expr_of_form c.in-Two.c.value) (vec_len before) (vec_capacity before) (ap expr_of_form c.in-Two.is) c.requires.room in
-    let moved = moved_room (code_of (expr_of_form c.in-Two.c.value)) (vec_len before) (vec_len now) (vec_capacity before) (vec_capacity now) (same_height before now c.in_ok-a-in-Two.ensures.stack) c.in_ok-a-in-Two.ensures.capacity part in
-    let fits = subst (λ (f : Form). depth_from (code_of (expr_of_form f)) (vec_len now) ≤ vec_capacity now) (sym c.deref-in-None.ensures) moved in
+    let moved = moved_room (depth_of (expr_of_form c.in-Two.c.value)) (vec_len before) (vec_len now) (vec_capacity before) (vec_capacity now) (same_height before now c.in_ok-a-in-Two.ensures.stack) c.in_ok-a-in-Two.ensures.capacity part in
+    let fits = subst (λ (f : Form). vec_len now + depth_of (expr_of_form f) ≤ vec_capacity now) (sym c.deref-in-None.ensures) moved in
     (search (rules, the_lemmas), (c.requires.view, (c.in_ok-a-in-Two.ensures.counts, fits)))
 
 pub returns-in-Neighbour-clause-value : goal.returns-in-Neighbour-clause-value

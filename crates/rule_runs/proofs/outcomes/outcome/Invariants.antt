@@ -1,6 +1,6 @@
 use Rattle.std.proofs.Common.{◌≤◌}
 use Rattle.std.specs.Prelude.{All}
-use Rattle.rule_forms.specs.RuleCodes.{rule_depth}
+use Rattle.rule_forms.specs.Depth.{rule_depth}
 use Rattle.rule_runs.proofs.outcomes.outcome.Given as goal
 
 abbrev pub invariant-loop-tree : goal.invariant-loop-tree
