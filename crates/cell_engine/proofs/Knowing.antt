@@ -2,6 +2,7 @@
 use Rattle.std.proofs.Common.{true, set, replicate, inl, inr, refl, subst, Option, None, ℤ, ◌-ℤ◌, ◌≡◌, ℕ, ◌<◌, ◌≤◌, Some, List, [], map, length, get_or, pos, sym, ◌∙◌, ap, arith, Ok}
 use Rattle.std.proofs.lemmas.Int.{ints}
 use Rattle.std.specs.Int.RustNames.{unsigned_abs}
+use Rattle.std.specs.Borrow.{Bor}
 use Rattle.std.specs.Prelude.{◌&&◌, ◌==◌, IfSome}
 use Rattle.std.specs.List.{All}
 use Rattle.std.proofs.lemmas.Bool.{cases_eq, eqb-true}
@@ -115,6 +116,11 @@ sees_few l time own i t v k is here many none own_is shows tally =
   where
     no_variables : (t : Table) (i : ℕ) → IsTable t → i < length t.cells → t.variables ≡ 0 → (cell_at t.cells i).variables ≡ []
     no_variables t i is here none = nil_from_length (cell_at t.cells i).variables ((is.numbers i no_cell here).1 ∙ none)
+
+-- what is lent is what is kept
+pub as_made : (o : Option Constant) (r : Option (Bor Constant)) (P : Constant → Type 0) → IfSome r (λ c. o ≡ Some c.now) → IfSome o P → IfSome r (λ c. P c.now)
+as_made o None P is so = tt
+as_made o (Some c) P is so = subst (λ (k : Option Constant). IfSome k P) is so
 
 -- ---- places
 

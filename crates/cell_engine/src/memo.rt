@@ -1,6 +1,6 @@
 // What rules gave for an own value and counts, kept for the next time. The evaluator is asked once
 // for each; what it gave then is taken without it.
-ghost use Rattle.std.specs.Prelude.{◌≡◌, ◌<◌, ◌≤◌, ℕ, None, List, [], length, map, replicate, slice_index_or, IfOk, IfSome, IsTrue, Ok};
+ghost use Rattle.std.specs.Prelude.{◌≡◌, ◌<◌, ◌≤◌, ℕ, None, List, [], length, map, replicate, slice_index_or, IfOk, IfSome, IsTrue, Ok, Some};
 ghost use Rattle.std.specs.List.{All, list_all};
 ghost use Rattle.quantity.specs.declared.bounds.TheConstants.{MAX_DELAY};
 ghost use Rattle.rule_tree.specs.Expression.{Rule};
@@ -245,10 +245,10 @@ fn slot(own: &Value, tally: Tally) -> usize {
 
 /// The answer that is kept there, if it is for this own value and these counts.
 #[inline(always)]
-fn answer_at(known: &[Known], at: usize, own: &Value, tally: Tally) -> Option<Constant>
+fn answer_at<'k>(known: &'k [Known], at: usize, own: &Value, tally: Tally) -> Option<&'k Constant>
     // For each offset and rules of which answers are kept.
     ensures { (n : ℕ) (rules : List Rule) → All (IsAnswer n rules) known.now
-        → IfSome result (AlwaysGive n rules own.now tally) }
+        → IfSome result (λ c. AlwaysGive n rules own.now tally c.now) }
 {
     if at < known.len() {
         answer_of(&known[at], own, tally)
@@ -258,14 +258,25 @@ fn answer_at(known: &[Known], at: usize, own: &Value, tally: Tally) -> Option<Co
 }
 
 #[inline(always)]
-fn answer_of(kept: &Known, own: &Value, tally: Tally) -> Option<Constant>
+fn answer_of<'k>(kept: &'k Known, own: &Value, tally: Tally) -> Option<&'k Constant>
     ensures { (n : ℕ) (rules : List Rule) → IsAnswer n rules kept.now
-        → IfSome result (AlwaysGive n rules own.now tally) }
+        → IfSome result (λ c. AlwaysGive n rules own.now tally c.now) }
 {
     if is_for(kept, own, tally) {
-        kept.made
+        made_of(kept)
     } else {
         None
+    }
+}
+
+/// What is kept in a place.
+#[inline(always)]
+fn made_of(kept: &Known) -> Option<&Constant>
+    ensures { IfSome result (λ c. kept.now.made ≡ Some c.now) }
+{
+    match &kept.made {
+        Some(made) => Some(made),
+        None => None,
     }
 }
 

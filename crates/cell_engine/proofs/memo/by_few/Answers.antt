@@ -39,13 +39,13 @@ returns-in-Some-clause-cell c = λ apart.
     let none = c.requires.ready.variables ∙ alike.variables in
     let few = sees_few l c.args.t memo.own i tb c.emitted-own.result c.args.tally c.width-width.ensures.table c.requires.cell c.requires.ready.cells none alike.own_offset c.emitted-own.ensures c.requires.tally in
     let gives = c.in-Some.ensures memo.own first (subst (λ (ks : List Known). All (IsAnswer memo.own first) ks) (sym c.deref.ensures.value) c.requires.memo.each) in
-    let made : Result (Given × ℕ) RuleStop = Ok (c.in-Some.kept.given, c.in-Some.kept.delay) in
+    let made : Result (Given × ℕ) RuleStop = Ok (c.in-Some.kept.now.given, c.in-Some.kept.now.delay) in
     let evaluated : Evaluates (chosen own (record s { variables = cell.variables })) made cell.variables =
     subst (λ (xs : List Value). Evaluates (chosen own (record s { variables = cell.variables })) made xs) (sym few.variables)
     (subst (λ (rs : List Rule). Evaluates (chosen rs (record s { variables = cell.variables })) made []) (sym c.requires.rules) (gives.given (seen_at s cell.variables) few)) in
     subst (λ (kind : DelayKind). Computes i tb.cells c.take_lent.new.table.cells (ruled kind s own cell) c.take_lent.result) (ap (λ (m : Layout). m.kind) c.plan.view_is)
     (rules_finish _ c.take_lent.result i tb.cells c.take_lent.new.table.cells c.plan.inside.kind c.later.result s cell.variables cell own
-    (c.in-Some.kept.given, c.in-Some.kept.delay) cell.variables refl apart evaluated (λ _. c.later.ensures) c.take_lent.ensures.memory c.take_lent.ensures.cell)
+    (c.in-Some.kept.now.given, c.in-Some.kept.now.delay) cell.variables refl apart evaluated (λ _. c.later.ensures) c.take_lent.ensures.memory c.take_lent.ensures.cell)
 
 pub returns-in-Some-clause-ready : goal.returns-in-Some-clause-ready
 returns-in-Some-clause-ready c =
