@@ -86,8 +86,7 @@ pub fn evaluate_into<'r>(
     ensures stack { stack.new ≡ stack.old }
     ensures delay { IfOk result (λ made. made.1 ≤ MAX_DELAY) }
 {
-    let mut counts = Counts::none(view);
-    first_true(rules, view, changed, &mut counts, given, &mut stack.answers)
+    evaluate_counted(rules, view, None, changed, given, stack)
 }
 
 /// The same, where the numbers of neighbours that words count may be known: then none is counted.
