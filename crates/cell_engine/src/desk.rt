@@ -35,6 +35,6 @@ pub(crate) fn desk_for(
         seen: vec![in alloc; Value::Undefined; places * width]?,
         given: Given { values: [None; 4] },
         changed: vec![in alloc; Value::Undefined; plan.variables]?,
-        stack: Stack::for_depth(alloc, deepest_of_sets(&plan.codes))?,
+        stack: Stack::for_depth(alloc, deepest_of_sets(&plan.rule_sets))?,
     })
 }

@@ -26,13 +26,13 @@ pub(crate) fn plan_of(alloc: Global, group: &CellGroup) -> Result<Plan, OutOfMem
     let sets = sets_of_cells(alloc, group)?;
     let port_rules = copies(alloc, &group.port_rules)?;
     let reach = Reach::new(alloc, group.grid, &group.offsets)?;
-    let codes = codes_of_sets(alloc, &group.rule_sets)?;
+    let rule_sets = codes_of_sets(alloc, &group.rule_sets)?;
     Ok(Plan {
         grid: group.grid,
         kind: group.kind,
         default_delay: group.default_delay,
         reach,
-        codes,
+        rule_sets,
         sets,
         port_rules,
         ports: group.port_values.len(),

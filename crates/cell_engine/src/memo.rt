@@ -117,7 +117,7 @@ fn is_single(plan: &Plan) -> bool
     ensures { IsTrue result → (plan.now.variables ≡ 0) × (length plan.now.rule_sets ≡ 1) }
 {
     let none = plan.variables == 0;
-    let one = plan.codes.len() == 1;
+    let one = plan.rule_sets.len() == 1;
     none & one
 }
 

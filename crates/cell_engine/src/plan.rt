@@ -14,7 +14,7 @@ pub(crate) struct Plan {
     pub kind: DelayKind,
     pub default_delay: Time,
     pub reach: Reach,
-    pub codes: Vec<Vec<RuleCode>>,
+    pub rule_sets: Vec<Vec<RuleCode>>,
     // For each cell the number of its rule set.
     pub sets: Vec<usize>,
     pub port_rules: Vec<PortRule>,
@@ -39,7 +39,7 @@ impl Model for Plan {
       kind = p.kind;
       default_delay = p.default_delay;
       offsets = p.reach.offsets;
-      rule_sets = map (λ rules. rules.items) p.codes.items;
+      rule_sets = map (λ rules. rules.items) p.rule_sets.items;
       sets = p.sets.items;
       port_rules = p.port_rules.items;
       ports = p.ports;
@@ -51,7 +51,7 @@ impl Model for Plan {
       kind = p.kind;
       default_delay = p.default_delay;
       offsets = p.reach.offsets;
-      rule_sets = map (λ rules. rules.items) p.codes.items;
+      rule_sets = map (λ rules. rules.items) p.rule_sets.items;
       sets = p.sets.items;
       port_rules = p.port_rules.items;
       ports = p.ports;

@@ -74,7 +74,7 @@ pub(crate) fn codes_at(plan: &Plan, set: usize) -> &[RuleCode]
     requires { set < length plan.now.rule_sets }
     ensures { result.now ≡ slice_index_or plan.now.rule_sets set [] }
 {
-    &plan.codes[set]
+    &plan.rule_sets[set]
 }
 
 /// The time that is so much later.

@@ -49,7 +49,7 @@ pub(crate) fn short(places: usize) -> u8
 fn kept_for(plan: &Plan) -> usize
     ensures { 0 < result → result ≡ cell_count plan.now.space }
 {
-    if sets_count(&plan.codes) {
+    if sets_count(&plan.rule_sets) {
         plan.grid.cells() as usize
     } else {
         0
