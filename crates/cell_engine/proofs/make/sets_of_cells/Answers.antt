@@ -1,4 +1,4 @@
-use Rattle.std.proofs.Common.{◌≡◌, ◌∙◌, length, get_or, replicate, ap, rules}
+use Rattle.std.proofs.Common.{◌≡◌, ◌∙◌, get_or, replicate, ap, rules}
 use Rattle.std.proofs.lemmas.List.{with_items_is}
 use Rattle.cell_grid.specs.Numbered.{numbered}
 use Rattle.cell_grid.specs.Space.{cell_count}
