@@ -12,9 +12,9 @@ loop-rule-init c = λ so k d lt. absurd (omega (arith, lt))
 
 pub loop-rule-preserved : goal.loop-rule-preserved
 loop-rule-preserved c = λ so.
-    let both = and_parts c.loop-rule.all c.goes_by_few.result so in
+    let both = and_parts c.loop-rule.all c.goes_by_few-all.result so in
     All-more (GoesByFew c.args.own) c.args.rules.now c.loop-rule.rule-index c.rule-item.result c.loop-rule-test.true (c.loop-rule.invariant both.0)
-    (subst (λ (r : Rule). GoesByFew c.args.own r) c.rule-item.is (c.goes_by_few.ensures both.1))
+    (subst (λ (r : Rule). GoesByFew c.args.own r) c.rule-item.is (c.goes_by_few-all.ensures both.1))
 
 pub returns : goal.returns
 returns c = λ so.
