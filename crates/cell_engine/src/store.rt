@@ -148,7 +148,7 @@ impl CellStore {
             &self.plan,
             &self.table,
             i,
-            before,
+            &before,
             &mut self.desk,
             &mut self.tallies,
         );
@@ -179,7 +179,7 @@ impl CellStore {
             &self.plan,
             &self.table,
             i,
-            before,
+            &before,
             &mut self.desk,
             &mut self.tallies,
         );
@@ -290,7 +290,7 @@ impl CellStore {
             &self.plan,
             &self.table,
             i,
-            before,
+            &before,
             &mut self.desk,
             &mut self.tallies,
         );

@@ -83,13 +83,13 @@ pub(crate) fn follow(
     plan: &Plan,
     table: &CellTable,
     i: u32,
-    before: Value,
+    before: &Value,
     desk: &mut Desk,
     tallies: &mut Vec<Tally>,
 )
     requires cell { i < length table.now.cells }
     requires ready { IsAtDesk plan.now table.now desk.old }
-    requires kept { AreKept (near plan.now) (slice_set (outs_of table.now) i before)
+    requires kept { AreKept (near plan.now) (slice_set (outs_of table.now) i before.now)
         tallies.old.items }
     ensures ready { IsAtDesk plan.now table.now desk.new }
     ensures kept { AreKept (near plan.now) (outs_of table.now) tallies.new.items }
@@ -107,7 +107,7 @@ fn move_on(
     plan: &Plan,
     table: &CellTable,
     i: u32,
-    before: Value,
+    before: &Value,
     around: &mut [Option<u32>],
     tallies: &mut [Tally],
 )
@@ -115,12 +115,13 @@ fn move_on(
     requires cells { length table.now.cells ≡ cell_count plan.now.space }
     requires places { length around.old ≡ length plan.now.offsets }
     requires whole { length tallies.old ≡ cell_count plan.now.space }
-    requires tallies { AreTallies (near plan.now) (slice_set (outs_of table.now) i before)
+    requires tallies { AreTallies (near plan.now) (slice_set (outs_of table.now) i before.now)
         tallies.old }
     ensures { AreTallies (near plan.now) (outs_of table.now) tallies.new }
 {
     let gone = Tally::one(before);
-    let come = Tally::one(table.emitted(i, 0));
+    let shown = table.emitted(i, 0);
+    let come = Tally::one(&shown);
     if are_same(gone, come) {
         return;
     }
@@ -145,7 +146,7 @@ fn move_all(
     plan: &Plan,
     table: &CellTable,
     i: u32,
-    before: Value,
+    before: &Value,
     gone: Tally,
     come: Tally,
     watchers: &[Option<u32>],
@@ -154,11 +155,11 @@ fn move_all(
     requires cell { i < cell_count plan.now.space }
     requires cells { length table.now.cells ≡ cell_count plan.now.space }
     requires few { length plan.now.offsets ≤ 128 }
-    requires gone { IsTally gone (before ∷ []) }
+    requires gone { IsTally gone (before.now ∷ []) }
     requires come { IsTally come (slice_index_or (outs_of table.now) i AnyValue.Undefined ∷ []) }
     requires watchers { watchers.now ≡ neighbours (turned (near plan.now)) i }
     requires whole { length tallies.old ≡ cell_count plan.now.space }
-    requires tallies { AreTallies (near plan.now) (slice_set (outs_of table.now) i before)
+    requires tallies { AreTallies (near plan.now) (slice_set (outs_of table.now) i before.now)
         tallies.old }
     ensures { AreTallies (near plan.now) (outs_of table.now) tallies.new }
 {

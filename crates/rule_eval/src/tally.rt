@@ -16,12 +16,12 @@ pub struct Tally {
 impl Tally {
     /// The tally of one neighbour that shows this value.
     #[inline(always)]
-    pub fn one(value: Value) -> Tally
-        ensures { IsTally result (value ∷ []) }
+    pub fn one(value: &Value) -> Tally
+        ensures { IsTally result (value.now ∷ []) }
     {
-        let ones = one_where(is_number(100_000, &value));
-        let zeros = one_where(is_number(0, &value));
-        let undefs = one_where(is_undefined(&value));
+        let ones = one_where(is_number(100_000, value));
+        let zeros = one_where(is_number(0, value));
+        let undefs = one_where(is_undefined(value));
         Tally {
             ones,
             zeros,

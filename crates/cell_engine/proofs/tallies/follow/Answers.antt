@@ -22,7 +22,7 @@ move_on-requires c =
       cells = c.requires.ready.cells;
       places = ap length c.deref_mut.ensures.value ∙ c.requires.ready.places;
       whole = ap length c.deref_mut-2.ensures.value ∙ c.requires.kept.whole some;
-      tallies = subst (λ (xs : List Tally). AreTallies (near c.args.plan.now) (set (outs_of c.args.table.now) c.args.i c.args.before) xs) (sym c.deref_mut-2.ensures.value) c.requires.kept.each;
+      tallies = subst (λ (xs : List Tally). AreTallies (near c.args.plan.now) (set (outs_of c.args.table.now) c.args.i c.args.before.now) xs) (sym c.deref_mut-2.ensures.value) c.requires.kept.each;
     }
 
 pub returns-clause-ready : goal.returns-clause-ready

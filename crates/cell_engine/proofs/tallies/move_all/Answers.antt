@@ -23,8 +23,8 @@ move_for-requires c =
     let whole = c.loop-watcher.auto.tallies ∙ c.requires.whole in
     let at = ap (λ (ms : List (Option ℕ)). get_or ms k None) c.requires.watchers in
     record {
-      within = within_at (near l) (outs_of tb) i c.args.before c.args.gone c.args.come c.requires.cell long c.requires.gone c.requires.come ts k (get_or ws k None) lt whole at;
-      can = can_at (near l) (outs_of tb) i c.args.before c.args.gone c.args.come c.requires.cell long c.requires.gone c.requires.come ts k (get_or ws k None) lt c.requires.few whole at c.loop-watcher.invariant;
+      within = within_at (near l) (outs_of tb) i c.args.before.now c.args.gone c.args.come c.requires.cell long c.requires.gone c.requires.come ts k (get_or ws k None) lt whole at;
+      can = can_at (near l) (outs_of tb) i c.args.before.now c.args.gone c.args.come c.requires.cell long c.requires.gone c.requires.come ts k (get_or ws k None) lt c.requires.few whole at c.loop-watcher.invariant;
     }
 
 pub loop-watcher-preserved : goal.loop-watcher-preserved
@@ -39,7 +39,7 @@ loop-watcher-preserved c =
     let lt : k < length l.offsets = omega (arith, c.loop-watcher-test.true, many) in
     let whole = c.loop-watcher.auto.tallies ∙ c.requires.whole in
     let at = ap (λ (ms : List (Option ℕ)). get_or ms k None) c.requires.watchers in
-    midway_more (near l) (outs_of tb) i c.args.before c.args.gone c.args.come c.requires.cell long c.requires.gone c.requires.come c.loop-watcher.tallies c.move_for.new.tallies k (get_or ws k None)
+    midway_more (near l) (outs_of tb) i c.args.before.now c.args.gone c.args.come c.requires.cell long c.requires.gone c.requires.come c.loop-watcher.tallies c.move_for.new.tallies k (get_or ws k None)
     lt whole at c.move_for.ensures c.move_for.auto.tallies c.loop-watcher.invariant
 
 pub returns : goal.returns
@@ -50,4 +50,4 @@ returns c =
     let many : length c.args.watchers.now ≡ length l.offsets =
     ap length c.requires.watchers ∙ length-map (map opposite l.offsets) (neighbour l.space c.args.i) ∙ length-map l.offsets opposite in
     let past : length l.offsets ≤ k = omega (arith, c.loop-watcher-test.false, many) in
-    all_moved (near l) (set es c.args.i c.args.before) es k c.loop-watcher.tallies past c.loop-watcher.invariant
+    all_moved (near l) (set es c.args.i c.args.before.now) es k c.loop-watcher.tallies past c.loop-watcher.invariant
