@@ -148,7 +148,7 @@ memo_starts l own count known k is nothing alike =
     record {
       alike = λ some. alike (omega (arith, some, long));
       each = λ j d lt. subst (λ (x : Known). IsAnswer own (get_or l.rule_sets 0 []) x)
-          (sym (ap (λ (xs : List Known). get_or xs j d) is ∙ get_or-replicate count k j d (omega (arith, lt, long)))) free;
+          (sym (ap (λ (xs : List Known). get_or xs j d) is ∙ get_or-replicate count j k d (omega (arith, lt, long)))) free;
     }
 
 -- ---- values

@@ -139,6 +139,8 @@ fn free() -> Known
 fn all_of(alloc: Global, known: Known, count: usize) -> Result<Vec<Known>, OutOfMemory>
     ensures { IfOk result (λ ks. ks.items ≡ replicate count known) }
 {
+    // The value's type is named for the prover's sake.
+    let _kind: Option<Value> = None;
     Ok(vec![in alloc; known; count]?)
 }
 
@@ -234,7 +236,7 @@ pub(crate) fn by_few(
 fn slot(own: &Value, tally: Tally) -> usize {
     let own = match own {
         Value::Undefined => 7,
-        Value::Num(raw) => raw.get() as u64,
+        Value::Num(raw) => raw.get().unsigned_abs(),
     };
     let counts = u64::from(tally.ones) * 256 + u64::from(tally.zeros);
     let mixed = own

@@ -13,4 +13,4 @@ by_few-requires-clause-rules c =
     c.requires.rules (c.requires.memo.alike some).single
 
 pub returns-in-None-clause-cell : goal.returns-in-None-clause-cell
-returns-in-None-clause-cell c = c.by_rules-2.ensures.cell
+returns-in-None-clause-cell c = c.by_rules-in-None.ensures.cell

@@ -3,8 +3,8 @@ use Rattle.rule_tree.specs.Expression.{Rule}
 use Rattle.rule_eval.specs.Few.{GoByFew}
 use Rattle.cell_engine.proofs.memo.is_alike.Goals as goal
 
-pub codes_at-requires : goal.codes_at-requires
-codes_at-requires c = omega (arith, (c.is_single.ensures c.if-is_single.true).1)
+pub codes_at-rules-requires : goal.codes_at-rules-requires
+codes_at-rules-requires c = omega (arith, (c.is_single.ensures c.if-is_single.true).1)
 
 pub returns-then-is_single : goal.returns-then-is_single
 returns-then-is_single c = λ so.

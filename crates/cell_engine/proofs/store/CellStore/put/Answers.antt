@@ -7,8 +7,8 @@ use Rattle.cell_engine.proofs.Put.{put_ready, put_ok, put_err}
 use Rattle.cell_engine.proofs.Shown.{kept_put}
 use Rattle.cell_engine.proofs.store.CellStore.put.Goals as goal
 
-pub put-requires : goal.put-requires
-put-requires c =
+pub put-done-requires : goal.put-done-requires
+put-done-requires c =
     record {
       cell = omega (arith, c.requires.within, ap (λ (s : Cells). length s.cells) c.self.view_is);
       ports = omega (arith, length-map c.args.state.now.ports.items port_of_saved, c.requires.state.ports, ap (λ (s : Cells). s.layout.ports) c.self.view_is, c.self.invariant.0.width);
