@@ -25,7 +25,7 @@ use crate::step::{by_rules, codes_at, later, take_lent};
 use crate::tallies::{are_same, short};
 use cell_table::CellTable;
 use quantity::{Offset, OutOfMemory, Time, Value};
-use rule_eval::{Constant, RuleCode, Tally, evaluate_counted, go_by_few};
+use rule_eval::{Constant, Given, RuleCode, Tally, evaluate_counted, go_by_few};
 use std::alloc::Global;
 
 /// An own value and counts, and what the rules give for them, where that is known.
@@ -139,8 +139,10 @@ fn free() -> Known
 fn all_of(alloc: Global, known: Known, count: usize) -> Result<Vec<Known>, OutOfMemory>
     ensures { IfOk result (λ ks. ks.items ≡ replicate count known) }
 {
-    // The value's type is named for the prover's sake.
-    let _kind: Option<Value> = None;
+    // The types of what is kept are named for the prover's sake.
+    let _own: Option<Value> = None;
+    let _given: Option<Given> = None;
+    let _made: Option<Constant> = None;
     Ok(vec![in alloc; known; count]?)
 }
 

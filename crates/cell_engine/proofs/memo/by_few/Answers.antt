@@ -1,4 +1,4 @@
-use Rattle.std.proofs.Common.{◌≡◌, ℕ, List, [], get_or, refl, sym, ◌∙◌, ap, subst, arith, Ok}
+use Rattle.std.proofs.Common.{ℕ, List, [], get_or, refl, sym, ◌∙◌, ap, subst, arith, Ok}
 use Rattle.std.specs.List.{All}
 use Rattle.std.specs.declared.result.Result.{Result}
 use Rattle.quantity.specs.declared.delay.DelayKind.{DelayKind}
