@@ -13,3 +13,6 @@ pub mod Takes
 pub mod Moving
 pub mod Grown
 pub mod Far
+pub mod Tallying
+pub mod Shown
+pub mod Knowing

@@ -3,3 +3,5 @@ pub mod Cells
 pub mod Laws
 pub mod Store
 pub mod Step
+pub mod Tallied
+pub mod Known

@@ -1,11 +1,13 @@
 // One step of a cell: its rules where it is woken, and what it takes of its bag.
 ghost use Rattle.std.specs.Prelude.{◌≡◌, ◌<◌, ◌≤◌, Option, None, []};
 ghost use Rattle.std.specs.Prelude.{length, slice_index_or, IfSome, IsTrue};
-ghost use Rattle.std.specs.List.{All, find};
+ghost use Rattle.std.specs.List.{All, find, list_all};
 ghost use Rattle.std.specs.Option.{option_map};
 ghost use Rattle.quantity.specs.declared.bounds.TheConstants.{MAX_DELAY};
 ghost use Rattle.quantity.specs.declared.value.Value.{Value as AnyValue};
-ghost use Rattle.rule_tree.specs.Meaning.{Sight};
+ghost use Rattle.rule_tree.specs.Meaning.{Sight, outs};
+ghost use Rattle.rule_forms.specs.Depth.{rule_depth};
+ghost use Rattle.rule_eval.specs.Tallies.{IsTally};
 ghost use Rattle.atomic_face.specs.declared.class.PortNo.{PortNo as Port};
 ghost use Rattle.cell_grid.specs.Space.{cell_count};
 ghost use Rattle.model_tree.specs.declared.group.PortRule.{PortRule as Ruling};
@@ -16,18 +18,22 @@ ghost use Rattle.cell_table.specs.Table.{HasShape};
 ghost use Rattle.cell_table.specs.Told.{cell_at, OnlyCell};
 ghost use Rattle.cell_engine.specs.Cells.{Computes};
 ghost use Rattle.cell_engine.specs.Layout.{StandsFor};
-ghost use Rattle.cell_engine.specs.Step.{IsOfGroup, is_for, sees, woken_at};
+ghost use Rattle.cell_engine.specs.Known.{IsMemo};
+ghost use Rattle.cell_engine.specs.Step.{IsOfGroup, gives_apart, is_for, near, ruled, sees, woken_at};
 ghost use Rattle.cell_engine.specs.Store.{IsAtDesk};
+ghost use Rattle.cell_engine.specs.Tallied.{outs_of, AreTallies};
 
 use crate::CellStop;
 use crate::desk::Desk;
+use crate::memo::{Memo, by_few};
 use crate::plan::Plan;
-use crate::step::{by_rules, take};
+use crate::step::{by_rules, codes_at, take};
+use crate::tallies::tally_of;
 use atomic_face::PortNo;
 use cell_table::CellTable;
 use model_tree::PortRule;
 use quantity::{Name, Time, Value};
-use rule_eval::{Given, RuleCode};
+use rule_eval::{Given, RuleCode, Tally};
 
 /// A cell after its emission moves: where it is woken its rules are evaluated, and then each value
 /// of its bag is treated. Only where rules are evaluated the neighbours are looked at.
@@ -38,6 +44,8 @@ pub(crate) fn advance(
     woken: bool,
     bag: &[(PortNo, Value)],
     ports: &[Name],
+    tallies: &[Tally],
+    memo: &mut Memo,
     table: &mut CellTable,
     desk: &mut Desk,
 ) -> Result<(), CellStop>
@@ -45,14 +53,17 @@ pub(crate) fn advance(
     requires time { t ≤ MAX_DELAY }
     requires cell { i < length table.old.cells }
     requires ports { All (λ (o : Port × AnyValue). o.0.0 < length ports.now) bag.now }
+    requires tallies { AreTallies (near plan.now) (outs_of table.old) tallies.now }
+    requires memo { IsMemo plan.now memo.old.own memo.old.known.items }
     ensures cell { (g : Group) → IsOfGroup g plan.now ports.now i
         → Computes i table.old.cells table.new.cells
         (cell_moved g i t woken (sees plan.now t table.old i) bag.now
         (cell_at table.old.cells i)) result }
     ensures only { OnlyCell i table.old.cells table.new.cells }
     ensures ready { IsAtDesk plan.now table.new desk.new }
+    ensures memo { IsMemo plan.now memo.new.own memo.new.known.items }
 {
-    wake(plan, i, t, woken, table, desk)?;
+    wake(plan, i, t, woken, tallies, memo, table, desk)?;
     treat_all(plan, i, t, bag, ports, table, desk)
 }
 
@@ -62,24 +73,69 @@ pub(crate) fn wake(
     i: u32,
     t: Time,
     woken: bool,
+    tallies: &[Tally],
+    memo: &mut Memo,
     table: &mut CellTable,
     desk: &mut Desk,
 ) -> Result<(), CellStop>
     requires ready { IsAtDesk plan.now table.old desk.old }
     requires time { t ≤ MAX_DELAY }
     requires cell { i < length table.old.cells }
+    requires tallies { AreTallies (near plan.now) (outs_of table.old) tallies.now }
+    requires memo { IsMemo plan.now memo.old.own memo.old.known.items }
     ensures cell { (g : Group) → StandsFor g plan.now → IsTrue (is_sound_group g)
         → Computes i table.old.cells table.new.cells
         (woken_at g t woken (sees plan.now t table.old i) i
         (cell_at table.old.cells i)) result }
     ensures only { OnlyCell i table.old.cells table.new.cells }
     ensures ready { IsAtDesk plan.now table.new desk.new }
+    ensures memo { IsMemo plan.now memo.new.own memo.new.known.items }
 {
     if woken {
         let rules = codes_at(plan, set_at(plan, i));
-        by_rules(plan, rules, i, t, Value::Undefined, table, desk)
+        let known = tally_of(tallies, i);
+        by_set(plan, rules, i, t, known, memo, table, desk)
     } else {
         Ok(())
+    }
+}
+
+/// A woken cell goes by what is kept, where its counts are known and answers are kept, else by its
+/// rules.
+#[inline(always)]
+fn by_set(
+    plan: &Plan,
+    rules: &[RuleCode],
+    i: u32,
+    t: Time,
+    known: Option<Tally>,
+    memo: &mut Memo,
+    table: &mut CellTable,
+    desk: &mut Desk,
+) -> Result<(), CellStop>
+    requires ready { IsAtDesk plan.now table.old desk.old }
+    requires time { t ≤ MAX_DELAY }
+    requires cell { i < length table.old.cells }
+    requires depth { All (λ rule. rule_depth rule ≤ desk.old.stack.depth) rules.now }
+    requires known { IfSome known (λ k. IsTally k (outs (sees plan.now t table.old i))) }
+    requires rules { length plan.now.rule_sets ≡ 1
+        → rules.now ≡ slice_index_or plan.now.rule_sets 0 [] }
+    requires memo { IsMemo plan.now memo.old.own memo.old.known.items }
+    ensures cell { IsTrue (list_all gives_apart rules.now)
+        → Computes i table.old.cells table.new.cells
+        (ruled plan.now.kind (sees plan.now t table.old i) rules.now
+        (cell_at table.old.cells i)) result }
+    ensures only { OnlyCell i table.old.cells table.new.cells }
+    ensures ready { IsAtDesk plan.now table.new desk.new }
+    ensures memo { IsMemo plan.now memo.new.own memo.new.known.items }
+{
+    let count = memo.known.len();
+    if count == 0 {
+        return by_rules(plan, rules, i, t, Value::Undefined, known, table, desk);
+    }
+    match known {
+        Some(tally) => by_few(plan, rules, i, t, tally, memo, table, desk),
+        None => by_rules(plan, rules, i, t, Value::Undefined, None, table, desk),
     }
 }
 
@@ -163,7 +219,7 @@ fn treat(
     match rules_for(plan, i, port) {
         Some(set) => {
             let rules = codes_at(plan, set);
-            by_rules(plan, rules, i, t, value, table, desk)
+            by_rules(plan, rules, i, t, value, None, table, desk)
         }
         None => take_itself(plan, i, t, value, table),
     }
@@ -202,14 +258,6 @@ fn set_at(plan: &Plan, i: u32) -> usize
     ensures within { result < length plan.now.rule_sets }
 {
     plan.sets[i as usize]
-}
-
-/// The codes of a rule set.
-fn codes_at(plan: &Plan, set: usize) -> &[RuleCode]
-    requires { set < length plan.now.rule_sets }
-    ensures { result.now ≡ slice_index_or plan.now.rule_sets set [] }
-{
-    &plan.rule_sets[set]
 }
 
 /// The number of the rule set for a port of a cell, where there is one.

@@ -4,6 +4,8 @@
 //!   cell that is due give (`Given`); `compute` moves a cell by its bag of inputs, and by its rules
 //!   where it is woken, or says by `CellStop` why it stops; `computed`, `cell`, `state` and `put`
 //!   tell and set.
+//! - While cells give, a store keeps for each cell how many neighbours show 1, 0 and `?`
+//!   (`tallies`), where rules count them.
 //! - `Steps` counts visits: calls that ask or move a cell.
 //! - Definitions: `run_model/specs/CellStep.antt`; the calls: `specs/Cells.antt` (`Computes`),
 //!   `Layout.antt`. It rests on `rule_eval`, `cell_reach` and `cell_table`.
@@ -12,15 +14,18 @@
 
 mod bag;
 pub mod computed;
+mod counting;
 mod desk;
 pub mod laws;
 mod make;
+mod memo;
 mod plan;
 mod sight;
 mod step;
 mod steps;
 pub mod stop;
 pub mod store;
+mod tallies;
 
 pub use cell_table::{Cell, CellState, PortState};
 pub use computed::Computed;

@@ -1,10 +1,12 @@
 // What one cell takes by a set of rules.
 ghost use Rattle.std.specs.Prelude.{◌≡◌, ℕ, ◌+◌, ◌<◌, ◌≤◌, List, IsTrue, length};
-ghost use Rattle.std.specs.Prelude.{OnOk, OnErr, slice_set};
+ghost use Rattle.std.specs.Prelude.{[], IfSome, OnOk, OnErr, slice_index_or, slice_set};
 ghost use Rattle.std.specs.List.{All, list_all};
 ghost use Rattle.quantity.specs.declared.bounds.TheConstants.{MAX_DELAY};
 ghost use Rattle.quantity.specs.declared.value.Value.{Value as AnyValue};
+ghost use Rattle.rule_tree.specs.Meaning.{outs};
 ghost use Rattle.rule_forms.specs.Depth.{rule_depth};
+ghost use Rattle.rule_eval.specs.Tallies.{IsTally};
 ghost use Rattle.run_model.specs.CellStep.{took};
 ghost use Rattle.cell_table.specs.Table.{HasShape, changed_cell, changed_ports};
 ghost use Rattle.cell_table.specs.Told.{cell_at, OnlyCell};
@@ -18,17 +20,18 @@ use crate::plan::Plan;
 use crate::sight::{look, place_of, view};
 use cell_table::CellTable;
 use quantity::{DelayKind, OutOfMemory, Time, Value};
-use rule_eval::{Given, RuleCode, evaluate_into};
+use rule_eval::{Given, RuleCode, Tally, evaluate_counted};
 use rule_tree::RuleStop;
 
 /// A cell takes what the first true rule gives over what it sees, with a value at the port that the
-/// rules are for.
+/// rules are for. How many neighbours show what is counted may be known.
 pub(crate) fn by_rules(
     plan: &Plan,
     rules: &[RuleCode],
     i: u32,
     t: Time,
     port: Value,
+    known: Option<Tally>,
     table: &mut CellTable,
     desk: &mut Desk,
 ) -> Result<(), CellStop>
@@ -36,6 +39,7 @@ pub(crate) fn by_rules(
     requires time { t ≤ MAX_DELAY }
     requires cell { i < length table.old.cells }
     requires depth { All (λ rule. rule_depth rule ≤ desk.old.stack.depth) rules.now }
+    requires known { IfSome known (λ k. IsTally k (outs (sees plan.now t table.old i))) }
     ensures cell { IsTrue (list_all gives_apart rules.now)
         → Computes i table.old.cells table.new.cells
         (ruled plan.now.kind (at_port port (sees plan.now t table.old i)) rules.now
@@ -46,9 +50,10 @@ pub(crate) fn by_rules(
     let place = place_of(plan, i);
     look(plan, table, i, place, &mut desk.neighbours, &mut desk.seen);
     let view = view(plan, table, i, place, t, port, &desk.seen);
-    match evaluate_into(
+    match evaluate_counted(
         rules,
         &view,
+        known,
         &mut desk.changed,
         &mut desk.given,
         &mut desk.stack,
@@ -64,8 +69,16 @@ pub(crate) fn by_rules(
     }
 }
 
+/// The codes of a rule set.
+pub(crate) fn codes_at(plan: &Plan, set: usize) -> &[RuleCode]
+    requires { set < length plan.now.rule_sets }
+    ensures { result.now ≡ slice_index_or plan.now.rule_sets set [] }
+{
+    &plan.rule_sets[set]
+}
+
 /// The time that is so much later.
-fn later(t: Time, delay: Time) -> Time
+pub(crate) fn later(t: Time, delay: Time) -> Time
     requires time { t ≤ MAX_DELAY }
     requires delay { delay ≤ MAX_DELAY }
     ensures { result ≡ t + delay }
@@ -86,7 +99,7 @@ fn stop_of(stop: RuleStop) -> CellStop
 
 /// A cell takes values after a delay, and its variables stay.
 #[inline(always)]
-fn take_lent(
+pub(crate) fn take_lent(
     table: &mut CellTable,
     i: u32,
     kind: DelayKind,

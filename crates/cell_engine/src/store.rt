@@ -17,13 +17,15 @@ ghost use Rattle.cell_engine.specs.Cells.{Cells, with_cell, computed_at, Compute
 use crate::bag::{advance, wake};
 use crate::desk::{Desk, desk_for};
 use crate::make::{plan_of, table_of};
+use crate::memo::{Memo, memo_of};
 use crate::plan::Plan;
+use crate::tallies::{first_tallies, follow};
 use crate::{Cell, CellState, CellStop, Computed, Steps};
 use atomic_face::PortNo;
 use cell_table::CellTable;
 use model_tree::CellGroup;
 use quantity::{Name, OutOfMemory, Time, Value};
-use rule_eval::Given;
+use rule_eval::{Given, Tally};
 use std::alloc::Global;
 use std::marker::Model;
 use std::sync::ledger::Ledger;
@@ -34,13 +36,20 @@ pub struct CellStore {
     plan: Plan,
     table: CellTable,
     desk: Desk,
+    // For each cell what is counted among its neighbours; none where no rule counts.
+    tallies: Vec<Tally>,
+    // What rules gave for an own value and counts.
+    memo: Memo,
 }
 
 impl Model for CellStore {
     ghost use Rattle.std.specs.Coded.{codes};
     ghost use Rattle.rule_forms.specs.Signs.{expr_code};
     ghost use Rattle.cell_engine.specs.Cells.{Cells};
+    ghost use Rattle.cell_engine.specs.Step.{near};
     ghost use Rattle.cell_engine.specs.Store.{IsAtDesk};
+    ghost use Rattle.cell_engine.specs.Tallied.{outs_of, AreKept};
+    ghost use Rattle.cell_engine.specs.Known.{IsMemo};
 
     ghost Value = { Cells };
 
@@ -48,7 +57,9 @@ impl Model for CellStore {
 
     ghost view = { λ s. record { layout = s.plan; cells = s.table.cells } };
 
-    ghost invariant = { λ s. IsAtDesk s.plan s.table s.desk };
+    ghost invariant = { λ s. IsAtDesk s.plan s.table s.desk
+        × AreKept (near s.plan) (outs_of s.table) s.tallies.items
+        × IsMemo s.plan s.memo.own s.memo.known.items };
 }
 
 impl CellStore {
@@ -61,8 +72,17 @@ impl CellStore {
     {
         let table = table_of(alloc, group)?;
         let plan = plan_of(alloc, group)?;
-        let desk = desk_for(alloc, &plan, group.offsets.len(), table.width())?;
-        Ok(CellStore { plan, table, desk })
+        let places = group.offsets.len();
+        let desk = desk_for(alloc, &plan, places, table.width())?;
+        let tallies = first_tallies(alloc, &plan, places)?;
+        let memo = memo_of(alloc, &plan, &group.offsets, &tallies)?;
+        Ok(CellStore {
+            plan,
+            table,
+            desk,
+            tallies,
+            memo,
+        })
     }
 
     /// How many cells there are.
@@ -122,7 +142,17 @@ impl CellStore {
         ensures steps { steps.new ≡ steps.old + 1 }
     {
         steps.tick();
-        self.table.emit(i, t)
+        let before = self.table.emitted(i, 0);
+        let given = self.table.emit(i, t);
+        follow(
+            &self.plan,
+            &self.table,
+            i,
+            &before,
+            &mut self.desk,
+            &mut self.tallies,
+        );
+        given
     }
 
     /// The same, appended to a bag. Where memory is refused the cell has given too.
@@ -143,7 +173,17 @@ impl CellStore {
         ensures steps { steps.new ≡ steps.old + 1 }
     {
         steps.tick();
-        self.table.emit_into(i, t, into)
+        let before = self.table.emitted(i, 0);
+        let done = self.table.emit_into(i, t, into);
+        follow(
+            &self.plan,
+            &self.table,
+            i,
+            &before,
+            &mut self.desk,
+            &mut self.tallies,
+        );
+        done
     }
 
     /// A cell after its emission moves: where it is woken its rules are evaluated over what the
@@ -180,6 +220,8 @@ impl CellStore {
             woken,
             bag,
             ports,
+            &self.tallies,
+            &mut self.memo,
             &mut self.table,
             &mut self.desk,
         )
@@ -207,7 +249,16 @@ impl CellStore {
         steps.tick();
         let places = self.desk.neighbours.len();
         steps.count(places);
-        wake(&self.plan, i, t, woken, &mut self.table, &mut self.desk)
+        wake(
+            &self.plan,
+            i,
+            t,
+            woken,
+            &self.tallies,
+            &mut self.memo,
+            &mut self.table,
+            &mut self.desk,
+        )
     }
 
     /// The state of a cell.
@@ -233,6 +284,16 @@ impl CellStore {
         ensures ok { OnOk result (self.new ≡ with_cell self.old i (cell_of_saved state.now)) }
         ensures err { OnErr result (self.new ≡ self.old) }
     {
-        self.table.put(i, state)
+        let before = self.table.emitted(i, 0);
+        let done = self.table.put(i, state);
+        follow(
+            &self.plan,
+            &self.table,
+            i,
+            &before,
+            &mut self.desk,
+            &mut self.tallies,
+        );
+        done
     }
 }

@@ -10,7 +10,7 @@ use Rattle.quantity.specs.declared.place.Offset.{Offset}
 use Rattle.cell_grid.specs.declared.step.Step.{Step}
 use Rattle.cell_reach.specs.declared.inner.Inner.{Inner}
 use Rattle.cell_grid.specs.Space.{Space, IsInside, cell_count, place_of, number_of, neighbour, neighbour_at, opposite}
-use Rattle.cell_reach.specs.Neighbourhoods.{Neighbourhood, neighbours, StaysInside, StandsInside, difference, AreWatchers, further, LeadsInside, AreDifferences}
+use Rattle.cell_reach.specs.Neighbourhoods.{Neighbourhood, neighbours, turned, StaysInside, StandsInside, difference, AreWatchers, further, LeadsInside, AreDifferences}
 use Rattle.cell_grid.specs.Steps.{offset_of_step}
 use Rattle.cell_reach.specs.FixedSteps.{AreFixed, AreFixedAt, AreInner, IsInner, stepped}
 use Rattle.cell_grid.proofs.Places.{number-of_place, number-inside}
@@ -170,6 +170,11 @@ module _ (s : Space) (cell : ℕ) (p : Place) (held steps : List Step) (n : Neig
       subst Kept (sym equal) (subst Far is seen)
 
 -- ---- watchers
+
+-- a neighbourhood of the opposite offsets
+pub turned_neighbours : (n m back : Neighbourhood) (cell : ℕ) → back.space ≡ n.space → back.offsets ≡ map opposite n.offsets → n ≡ m → neighbours back cell ≡ neighbours (turned m) cell
+turned_neighbours n m back cell space offsets is =
+    (λ k. map (neighbour (space k) cell) (offsets k)) ∙ ap (λ (h : Neighbourhood). neighbours (turned h) cell) is
 
 module _ (n back : Neighbourhood) (cell : ℕ) (found : List ℕ) (space : back.space ≡ n.space) (offsets : back.offsets ≡ map opposite n.offsets)
     (is : found ≡ filter_map (neighbour back.space cell) back.offsets) where

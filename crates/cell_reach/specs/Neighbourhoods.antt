@@ -3,7 +3,7 @@ use Rattle.std.specs.Prelude.{◌≡◌, ℕ, ◌==◌, Bool, ◌&&◌, nat_lt, 
 use Rattle.std.specs.List.{All, list_any}
 use Rattle.quantity.specs.declared.place.Offset.{Offset}
 use Rattle.quantity.specs.declared.place.Place.{Place}
-use Rattle.cell_grid.specs.Space.{Space, IsInside, plane_count, cell_count, neighbour, leads_to}
+use Rattle.cell_grid.specs.Space.{Space, IsInside, plane_count, cell_count, neighbour, opposite, leads_to}
 
 -- a space, and the offsets by which each cell has neighbours
 pub record Neighbourhood : Type 0 where
@@ -15,6 +15,11 @@ abbrev pub neighbours : Neighbourhood → ℕ → List (Option ℕ)
 neighbours n cell = map (neighbour n.space cell) n.offsets
 
 -- ---- watchers
+
+-- the neighbourhood of the opposite offsets: by each the cell is found that has this cell as its
+-- neighbour by the offset itself
+abbrev pub turned : Neighbourhood → Neighbourhood
+turned n = record { space = n.space; offsets = map opposite n.offsets }
 
 -- whether a list has a cell
 abbrev pub is_among : List ℕ → ℕ → Bool

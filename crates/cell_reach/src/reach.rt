@@ -3,7 +3,7 @@ ghost use Rattle.std.specs.Prelude.{◌≡◌, ℕ, ◌<◌, ◌≤◌, ◌↔�
 ghost use Rattle.std.specs.List.{All};
 ghost use Rattle.std.specs.Vec.{vec_capacity};
 ghost use Rattle.cell_grid.specs.Space.{cell_count, place_of};
-ghost use Rattle.cell_reach.specs.Neighbourhoods.{Neighbourhood, neighbours};
+ghost use Rattle.cell_reach.specs.Neighbourhoods.{Neighbourhood, neighbours, turned};
 ghost use Rattle.cell_reach.specs.Neighbourhoods.{StandsInside, AreDifferences, AreWatchers};
 
 use crate::strides::Strides;
@@ -70,6 +70,17 @@ impl Reach {
         ensures { into.new ≡ neighbours self.now cell }
     {
         self.ahead.fill(cell, into);
+    }
+
+    /// Writes for each offset, in their order, the cell that has this cell as its neighbour by it,
+    /// into a slice that has as many elements. None where no cell has. A cell to which two offsets
+    /// of a small wrapped space belong stands there twice.
+    pub fn watchers_by_offset(&self, cell: u32, into: &mut [Option<u32>])
+        requires here { cell < cell_count self.now.space }
+        requires length { length into.old ≡ length self.now.offsets }
+        ensures { into.new ≡ neighbours (turned self.now) cell }
+    {
+        self.back.fill(cell, into);
     }
 
     /// Puts into `into`, in place of what it holds, exactly the cells that have this cell as a

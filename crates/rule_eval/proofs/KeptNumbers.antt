@@ -7,7 +7,9 @@ use Rattle.rule_tree.specs.declared.node.Count.TheVariants.{Ones, Zeros, Undefs}
 use Rattle.rule_tree.specs.Meaning.{outs, counted}
 use Rattle.rule_eval.specs.Seen.{sight_of}
 use Rattle.rule_eval.specs.Kept.{AreCounts, place_of, kept_number}
+use Rattle.rule_eval.specs.Tallies.{IsTally}
 use Rattle.rule_eval.specs.declared.counts.Counts.{Counts}
+use Rattle.rule_eval.specs.declared.tally.Tally.{Tally}
 use Rattle.rule_eval.specs.declared.view.View.{View}
 
 -- a number, if it is there, is this one
@@ -24,6 +26,19 @@ none_kept v = record { each = at_word }
     at_word Ones = tt
     at_word Zeros = tt
     at_word Undefs = tt
+
+-- all are kept as a tally has them
+pub all_kept : (v : View) (t : Tally) → IsTally t (outs (sight_of v))
+    → AreCounts (record { numbers = Some t.ones ∷ Some t.zeros ∷ Some t.undefs ∷ [] }) v
+all_kept v t is = record { each = at_word }
+  where
+    at_word : (count : Count)
+        → IsNumber
+        (kept_number (record { numbers = Some t.ones ∷ Some t.zeros ∷ Some t.undefs ∷ [] }) count)
+        (counted count (outs (sight_of v)))
+    at_word Ones = is.ones
+    at_word Zeros = is.zeros
+    at_word Undefs = is.undefs
 
 -- a number that was kept is that of the view
 pub kept_is_counted : (c : Counts) (v : View) (count : Count) (n : ℕ) → AreCounts c v

@@ -6,3 +6,5 @@ pub mod Tests
 pub mod Sums
 pub mod Numbers
 pub mod Stacked
+pub mod Tallies
+pub mod Few

@@ -1,10 +1,12 @@
 // Counts that are made at most once in one evaluation.
-ghost use Rattle.std.specs.Prelude.{◌≡◌, ◌<◌};
+ghost use Rattle.std.specs.Prelude.{◌≡◌, ◌<◌, IfSome};
 ghost use Rattle.rule_tree.specs.Meaning.{outs, counted};
 ghost use Rattle.rule_eval.specs.Seen.{IsView, sight_of};
 ghost use Rattle.rule_eval.specs.Kept.{AreCounts, place_of};
+ghost use Rattle.rule_eval.specs.Tallies.{IsTally};
 
 use crate::seen::{counted_first, counted_outs};
+use crate::tally::Tally;
 use crate::view::View;
 use rule_tree::Count;
 
@@ -25,6 +27,32 @@ impl Counts {
         let _view = view;
         Counts {
             numbers: [None, None, None],
+        }
+    }
+
+    /// All are counted, as this tally has them.
+    #[tactic(auto, using(crate::proofs::KeptNumbers::all_kept))]
+    #[inline(always)]
+    fn of(tally: Tally, view: &View) -> Counts
+        requires { IsTally tally (outs (sight_of view.now)) }
+        ensures { AreCounts result view.now }
+    {
+        // Only the clauses speak of it.
+        let _view = view;
+        Counts {
+            numbers: [Some(tally.ones), Some(tally.zeros), Some(tally.undefs)],
+        }
+    }
+
+    /// All are counted where they are known, else none yet.
+    #[inline(always)]
+    pub(crate) fn known(tally: Option<Tally>, view: &View) -> Counts
+        requires { IfSome tally (λ t. IsTally t (outs (sight_of view.now))) }
+        ensures { AreCounts result view.now }
+    {
+        match tally {
+            Some(tally) => Counts::of(tally, view),
+            None => Counts::none(view),
         }
     }
 

@@ -1,10 +1,12 @@
 // Evaluation of rules, form by form.
-ghost use Rattle.std.specs.Prelude.{◌≡◌, ◌≤◌, All, IfOk, map, length};
+ghost use Rattle.std.specs.Prelude.{◌≡◌, ◌≤◌, All, IfOk, IfSome, map, length};
 ghost use Rattle.std.specs.Prelude.{vec_capacity, slice_set};
 ghost use Rattle.quantity.specs.declared.bounds.TheConstants.{MAX_DELAY};
 ghost use Rattle.rule_tree.specs.Chosen.{chosen, given as given_by, values_of, variables_after};
+ghost use Rattle.rule_tree.specs.Meaning.{outs};
 ghost use Rattle.rule_eval.specs.Seen.{IsView, seen, sight_of};
 ghost use Rattle.rule_eval.specs.Kept.{AreCounts};
+ghost use Rattle.rule_eval.specs.Tallies.{IsTally};
 ghost use Rattle.rule_forms.specs.Depth.{depth_of, deepest, rule_depth};
 ghost use Rattle.rule_forms.specs.Forms.{expr_of_form};
 ghost use Rattle.rule_forms.specs.Numbered.{numbered};
@@ -18,6 +20,7 @@ use crate::apply::truth_in;
 use crate::counts::Counts;
 use crate::numbers::run_number;
 use crate::stack::Stack;
+use crate::tally::Tally;
 use crate::view::View;
 use quantity::{Time, Tri, Value};
 use rule_forms::{Constant, Form, Given, NumberedForm, RuleCode, delay_in, plain_number};
@@ -76,7 +79,29 @@ pub fn evaluate_into<'r>(
     ensures stack { stack.new ≡ stack.old }
     ensures delay { IfOk result (λ made. made.1 ≤ MAX_DELAY) }
 {
-    let mut counts = Counts::none(view);
+    evaluate_counted(rules, view, None, changed, given, stack)
+}
+
+/// The same, where the numbers of neighbours that words count may be known: then none is counted.
+#[inline(always)]
+pub fn evaluate_counted<'r>(
+    rules: &'r [RuleCode],
+    view: &View,
+    known: Option<Tally>,
+    changed: &mut [Value],
+    given: &mut Given,
+    stack: &mut Stack,
+) -> Result<(Option<&'r Constant>, Time), RuleStop>
+    requires view { IsView view.now }
+    requires known { IfSome known (λ t. IsTally t (outs (sight_of view.now))) }
+    requires variables { length changed.old ≡ length view.now.variables.now }
+    requires depth { All (λ rule. rule_depth rule ≤ stack.old.depth) rules.now }
+    ensures value { MayLend (Evaluates (chosen rules.now (sight_of view.now))) result
+        given.new changed.new view.now.variables.now }
+    ensures stack { stack.new ≡ stack.old }
+    ensures delay { IfOk result (λ made. made.1 ≤ MAX_DELAY) }
+{
+    let mut counts = Counts::known(known, view);
     first_true(rules, view, changed, &mut counts, given, &mut stack.answers)
 }
 

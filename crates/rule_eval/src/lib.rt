@@ -3,7 +3,7 @@
 //! - `evaluate` takes the `RuleCode`s of a rule set, a `View` (what the cell sees: time, place,
 //!   neighbours' values, variables) and room on a `Stack`, and gives the values by port with their
 //!   delay, and the variables after the sets; or `RuleStop`: no true rule, an overflow, or a delay
-//!   that is none. It takes no memory.
+//!   that is none. It takes no memory. `evaluate_counted` goes by counts that are kept (`Tally`).
 //! - Definitions: `rule_tree/specs/Chosen.antt` (`chosen`) over the sight that a view shows
 //!   (`specs/Seen.antt`); what forms answer: `specs/Tests.antt`, `Sums.antt`.
 //! - It rests on `rule_forms`, by whose forms it goes.
@@ -13,14 +13,18 @@ mod answers;
 mod apply;
 mod counts;
 mod evaluation;
+mod few;
 mod numbers;
 mod outs;
 mod seen;
 pub mod stack;
 mod sums;
+pub mod tally;
 pub mod view;
 
-pub use evaluation::{evaluate, evaluate_into};
+pub use evaluation::{evaluate, evaluate_counted, evaluate_into};
+pub use few::go_by_few;
 pub use rule_forms::{Constant, Given, RuleCode};
 pub use stack::Stack;
+pub use tally::Tally;
 pub use view::View;

@@ -90,7 +90,7 @@ fn how_many_undefined(values: &[Value]) -> u64
 
 /// Whether a value is `?`.
 #[inline(always)]
-fn is_undefined(value: &Value) -> bool
+pub(crate) fn is_undefined(value: &Value) -> bool
     ensures { result ≡ same_value AnyValue.Undefined value.now }
 {
     match value {
@@ -116,7 +116,7 @@ fn how_many_numbers(wanted: i64, values: &[Value]) -> u64
 
 /// Whether a value is a number of so many hundred-thousandths.
 #[inline(always)]
-fn is_number(wanted: i64, value: &Value) -> bool
+pub(crate) fn is_number(wanted: i64, value: &Value) -> bool
     ensures { result ≡ same_value (AnyValue.Num wanted) value.now }
 {
     match value {

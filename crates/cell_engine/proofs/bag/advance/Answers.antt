@@ -12,7 +12,7 @@ use Rattle.cell_engine.proofs.Looking.{sees_still}
 use Rattle.cell_engine.proofs.bag.advance.Goals as goal
 
 pub wake-requires : goal.wake-requires
-wake-requires c = record { ready = c.requires.ready; time = c.requires.time; cell = c.requires.cell }
+wake-requires c = record { ready = c.requires.ready; time = c.requires.time; cell = c.requires.cell; tallies = c.requires.tallies; memo = c.requires.memo }
 
 pub treat_all-requires : goal.treat_all-requires
 treat_all-requires c =
@@ -41,6 +41,12 @@ returns-in_err-wake-clause-only c = c.wake.ensures.only
 
 pub returns-in_err-wake-clause-ready : goal.returns-in_err-wake-clause-ready
 returns-in_err-wake-clause-ready c = c.wake.ensures.ready
+
+pub returns-in_err-wake-clause-memo : goal.returns-in_err-wake-clause-memo
+returns-in_err-wake-clause-memo c = c.wake.ensures.memo
+
+pub returns-clause-memo : goal.returns-clause-memo
+returns-clause-memo c = c.wake.ensures.memo
 
 pub returns-clause-ready : goal.returns-clause-ready
 returns-clause-ready c = c.treat_all.ensures.ready

@@ -1,16 +1,19 @@
 use Rattle.std.proofs.Common.{◌≡◌, ◌<◌, ℕ, Option, List, length, refl, sym, ◌∙◌, ap, subst, arith, Ok, Err}
 use Rattle.std.specs.Borrow.{Bor}
+use Rattle.std.specs.Prelude.{IfSome}
 use Rattle.std.specs.declared.result.Result.{Result}
 use Rattle.std.proofs.lemmas.List.{with_items_is}
 use Rattle.quantity.specs.declared.delay.DelayKind.{DelayKind}
 use Rattle.quantity.specs.declared.value.Value.{Value}
 use Rattle.rule_tree.specs.declared.outcome.RuleStop.{RuleStop}
 use Rattle.rule_tree.specs.Chosen.{chosen}
-use Rattle.rule_tree.specs.Meaning.{Sight}
+use Rattle.rule_tree.specs.Meaning.{Sight, outs}
 use Rattle.rule_forms.specs.ByPort.{Evaluates}
 use Rattle.rule_eval.specs.Evaluated.{IsLent}
 use Rattle.rule_eval.specs.Seen.{sight_of}
 use Rattle.rule_eval.specs.Room.{Room}
+use Rattle.rule_eval.specs.Tallies.{IsTally}
+use Rattle.rule_eval.specs.declared.tally.Tally.{Tally}
 use Rattle.rule_forms.specs.declared.given.Given.{Given}
 use Rattle.rule_forms.specs.declared.known.Constant.{Constant}
 use Rattle.cell_grid.specs.Space.{cell_count}
@@ -34,23 +37,34 @@ look-requires c =
       room = c.requires.ready.room;
     }
 
-pub evaluate_into-requires-clause-variables : goal.evaluate_into-requires-clause-variables
-evaluate_into-requires-clause-variables c =
+pub evaluate_counted-requires-clause-variables : goal.evaluate_counted-requires-clause-variables
+evaluate_counted-requires-clause-variables c =
     ap length c.deref_mut-2.ensures.value ∙ c.requires.ready.changed ∙ sym c.requires.ready.variables ∙ sym c.view-view.ensures.count
 
-pub evaluate_into-requires-clause-depth : goal.evaluate_into-requires-clause-depth
-evaluate_into-requires-clause-depth c = c.requires.depth
+pub evaluate_counted-requires-clause-depth : goal.evaluate_counted-requires-clause-depth
+evaluate_counted-requires-clause-depth c = c.requires.depth
 
-pub evaluate_into-requires-clause-view : goal.evaluate_into-requires-clause-view
-evaluate_into-requires-clause-view c =
+pub evaluate_counted-requires-clause-view : goal.evaluate_counted-requires-clause-view
+evaluate_counted-requires-clause-view c =
     let here : c.args.i < cell_count c.args.plan.now.space = omega (arith, c.requires.cell, c.requires.ready.cells) in
     is_view c.view-view.result c.args.t c.args.plan.now c.args.table.now c.args.i c.args.port c.view-view.ensures.table c.requires.ready.cells here c.view-view.ensures.looks c.view-view.ensures.few
+
+pub evaluate_counted-requires-clause-known : goal.evaluate_counted-requires-clause-known
+evaluate_counted-requires-clause-known c =
+    let l = c.args.plan.now in
+    let tb = c.args.table.now in
+    let i = c.args.i in
+    let s = at_port c.args.port (sees l c.args.t tb i) in
+    let here : i < cell_count l.space = omega (arith, c.requires.cell, c.requires.ready.cells) in
+    let seen : sight_of c.view-view.result ≡ record s { variables = (cell_at tb.cells i).variables } =
+    shows c.view-view.result c.args.t l tb i c.args.port c.view-view.ensures.table c.requires.ready.cells here c.view-view.ensures.looks in
+    subst (λ (x : Sight). IfSome c.args.known (λ (k : Tally). IsTally k (outs x))) (sym seen) c.requires.known
 
 pub take_made-requires : goal.take_made-requires
 take_made-requires c =
     let xs = c.args.desk.now.changed in
-    let long : length c.evaluate_into.new.changed ≡ length xs.items = omega (arith, c.evaluate_into.auto.changed, ap length c.deref_mut-2.ensures.value) in
-    let after = c.deref-in-None.ensures.value ∙ with_items_is xs c.evaluate_into.new.changed (omega (arith, long, xs.ok.0)) in
+    let long : length c.evaluate_counted.new.changed ≡ length xs.items = omega (arith, c.evaluate_counted.auto.changed, ap length c.deref_mut-2.ensures.value) in
+    let after = c.deref-in-None.ensures.value ∙ with_items_is xs c.evaluate_counted.new.changed (omega (arith, long, xs.ok.0)) in
     record { cell = c.requires.cell; variables = ap length after ∙ long ∙ c.requires.ready.changed ∙ sym c.requires.ready.variables }
 
 pub returns-in-None-clause-only : goal.returns-in-None-clause-only
@@ -63,21 +77,21 @@ pub returns-in-None-clause-ready : goal.returns-in-None-clause-ready
 returns-in-None-clause-ready c =
     let desk = c.args.desk.now in
     let around : length c.look.new.around ≡ length desk.neighbours.items = omega (arith, c.look.auto.around, ap length c.deref_mut.ensures.value) in
-    let changed : length c.evaluate_into.new.changed ≡ length desk.changed.items = omega (arith, c.evaluate_into.auto.changed, ap length c.deref_mut-2.ensures.value) in
+    let changed : length c.evaluate_counted.new.changed ≡ length desk.changed.items = omega (arith, c.evaluate_counted.auto.changed, ap length c.deref_mut-2.ensures.value) in
     let places = ap length (with_items_is desk.neighbours c.look.new.around (omega (arith, around, desk.neighbours.ok.0))) ∙ around in
-    let set = ap length (with_items_is desk.changed c.evaluate_into.new.changed (omega (arith, changed, desk.changed.ok.0))) ∙ changed in
+    let set = ap length (with_items_is desk.changed c.evaluate_counted.new.changed (omega (arith, changed, desk.changed.ok.0))) ∙ changed in
     desk_after c.args.plan.now c.args.table.now c.take_made.new.table _ _ _ _ _ _ _ _ c.take_made.ensures.shape places c.look.ensures.room set
-    (ap (λ (room : Room). room.depth) c.evaluate_into.ensures.stack) c.requires.ready
+    (ap (λ (room : Room). room.depth) c.evaluate_counted.ensures.stack) c.requires.ready
 
 pub returns-in-Some-clause-ready : goal.returns-in-Some-clause-ready
 returns-in-Some-clause-ready c =
     let desk = c.args.desk.now in
     let around : length c.look.new.around ≡ length desk.neighbours.items = omega (arith, c.look.auto.around, ap length c.deref_mut.ensures.value) in
-    let changed : length c.evaluate_into.new.changed ≡ length desk.changed.items = omega (arith, c.evaluate_into.auto.changed, ap length c.deref_mut-2.ensures.value) in
+    let changed : length c.evaluate_counted.new.changed ≡ length desk.changed.items = omega (arith, c.evaluate_counted.auto.changed, ap length c.deref_mut-2.ensures.value) in
     let places = ap length (with_items_is desk.neighbours c.look.new.around (omega (arith, around, desk.neighbours.ok.0))) ∙ around in
-    let set = ap length (with_items_is desk.changed c.evaluate_into.new.changed (omega (arith, changed, desk.changed.ok.0))) ∙ changed in
+    let set = ap length (with_items_is desk.changed c.evaluate_counted.new.changed (omega (arith, changed, desk.changed.ok.0))) ∙ changed in
     desk_after c.args.plan.now c.args.table.now c.take_lent.new.table _ _ _ _ _ _ _ _ c.take_lent.ensures.shape places c.look.ensures.room set
-    (ap (λ (room : Room). room.depth) c.evaluate_into.ensures.stack) c.requires.ready
+    (ap (λ (room : Room). room.depth) c.evaluate_counted.ensures.stack) c.requires.ready
 
 pub returns-in-Err-clause-only : goal.returns-in-Err-clause-only
 returns-in-Err-clause-only c = only_itself c.args.i c.args.table.now.cells
@@ -87,11 +101,11 @@ returns-in-Err-clause-ready c =
     let desk = c.args.desk.now in
     let table = c.args.table.now in
     let around : length c.look.new.around ≡ length desk.neighbours.items = omega (arith, c.look.auto.around, ap length c.deref_mut.ensures.value) in
-    let changed : length c.evaluate_into.new.changed ≡ length desk.changed.items = omega (arith, c.evaluate_into.auto.changed, ap length c.deref_mut-2.ensures.value) in
+    let changed : length c.evaluate_counted.new.changed ≡ length desk.changed.items = omega (arith, c.evaluate_counted.auto.changed, ap length c.deref_mut-2.ensures.value) in
     let places = ap length (with_items_is desk.neighbours c.look.new.around (omega (arith, around, desk.neighbours.ok.0))) ∙ around in
-    let set = ap length (with_items_is desk.changed c.evaluate_into.new.changed (omega (arith, changed, desk.changed.ok.0))) ∙ changed in
+    let set = ap length (with_items_is desk.changed c.evaluate_counted.new.changed (omega (arith, changed, desk.changed.ok.0))) ∙ changed in
     desk_after c.args.plan.now table table _ _ _ _ _ _ _ _ (record { width = refl; variables = refl; cells = refl }) places c.look.ensures.room set
-    (ap (λ (room : Room). room.depth) c.evaluate_into.ensures.stack) c.requires.ready
+    (ap (λ (room : Room). room.depth) c.evaluate_counted.ensures.stack) c.requires.ready
 
 pub returns-in-None-clause-cell : goal.returns-in-None-clause-cell
 returns-in-None-clause-cell c = λ apart.
@@ -104,9 +118,9 @@ returns-in-None-clause-cell c = λ apart.
     let here : i < cell_count l.space = omega (arith, c.requires.cell, c.requires.ready.cells) in
     let shown : sight_of c.view-view.result ≡ record s { variables = cell.variables } = shows c.view-view.result c.args.t l tb i c.args.port c.view-view.ensures.table c.requires.ready.cells here c.view-view.ensures.looks in
     let xs = c.args.desk.now.changed in
-    let given = c.evaluate_into.new.given in
-    let changed = c.evaluate_into.new.changed in
-    let after : c.deref-in-None.result.now ≡ changed = c.deref-in-None.ensures.value ∙ with_items_is xs changed (omega (arith, c.evaluate_into.auto.changed, xs.ok.0)) in
+    let given = c.evaluate_counted.new.given in
+    let changed = c.evaluate_counted.new.changed in
+    let after : c.deref-in-None.result.now ≡ changed = c.deref-in-None.ensures.value ∙ with_items_is xs changed (omega (arith, c.evaluate_counted.auto.changed, xs.ok.0)) in
     let made : Result (Given × ℕ) RuleStop = Ok (given, c.in-Ok.made.1) in
     let meant : Evaluates (chosen own (sight_of c.view-view.result)) made changed =
     subst (λ (o : Option (Bor Constant)). IsLent (Evaluates (chosen own (sight_of c.view-view.result))) o c.in-Ok.made.1 given changed c.view-view.result.variables.now) c.in-None.is c.in-Ok.ensures.value in
@@ -132,7 +146,7 @@ returns-in-Some-clause-cell c = λ apart.
     let given = c.in-Some.known.now.given in
     let made : Result (Given × ℕ) RuleStop = Ok (given, c.in-Ok.made.1) in
     let meant : Evaluates (chosen own (sight_of c.view-view.result)) made seen =
-    subst (λ (o : Option (Bor Constant)). IsLent (Evaluates (chosen own (sight_of c.view-view.result))) o c.in-Ok.made.1 c.evaluate_into.new.given c.evaluate_into.new.changed seen) c.in-Some.is c.in-Ok.ensures.value in
+    subst (λ (o : Option (Bor Constant)). IsLent (Evaluates (chosen own (sight_of c.view-view.result))) o c.in-Ok.made.1 c.evaluate_counted.new.given c.evaluate_counted.new.changed seen) c.in-Some.is c.in-Ok.ensures.value in
     let evaluated : Evaluates (chosen own (record s { variables = cell.variables })) made cell.variables =
     subst (λ (x : Sight). Evaluates (chosen own x) made x.variables) shown meant in
     subst (λ (kind : DelayKind). Computes i tb.cells c.take_lent.new.table.cells (ruled kind s own cell) c.take_lent.result) (ap (λ (m : Layout). m.kind) c.plan.view_is)
@@ -151,5 +165,5 @@ returns-in-Err-clause-cell c = λ apart.
     let here : i < cell_count l.space = omega (arith, c.requires.cell, c.requires.ready.cells) in
     let shown : sight_of c.view-view.result ≡ record s { variables = cell.variables } = shows c.view-view.result c.args.t l tb i c.args.port c.view-view.ensures.table c.requires.ready.cells here c.view-view.ensures.looks in
     rules_stop _ i tb.cells tb.cells l.kind s cell.variables cell own
-    c.in-Err.stop c.stop_of.result c.evaluate_into.new.changed refl c.stop_of.ensures
-    (subst (λ (x : Sight). let e : Result (Given × ℕ) RuleStop = Err c.in-Err.stop in Evaluates (chosen own x) e c.evaluate_into.new.changed) shown c.in-Err.ensures.value)
+    c.in-Err.stop c.stop_of.result c.evaluate_counted.new.changed refl c.stop_of.ensures
+    (subst (λ (x : Sight). let e : Result (Given × ℕ) RuleStop = Err c.in-Err.stop in Evaluates (chosen own x) e c.evaluate_counted.new.changed) shown c.in-Err.ensures.value)

@@ -1,0 +1,208 @@
+// How many neighbours show 1, 0 and `?` to each cell, kept while cells give.
+ghost use Rattle.std.specs.Prelude.{◌≡◌, [], ◌∷◌, ◌<◌, ◌≤◌, ◌&&◌, ◌==◌, length, replicate, slice_set, slice_index_or, IfOk, IfSome};
+ghost use Rattle.quantity.specs.declared.value.Value.{Value as AnyValue};
+ghost use Rattle.rule_eval.specs.Tallies.{IsTally, CanMove, moved_tally};
+ghost use Rattle.cell_grid.specs.Space.{cell_count};
+ghost use Rattle.cell_reach.specs.Neighbourhoods.{neighbours, turned};
+ghost use Rattle.cell_engine.specs.Step.{near};
+ghost use Rattle.cell_engine.specs.Store.{IsAtDesk};
+ghost use Rattle.cell_engine.specs.Tallied.{outs_of, no_tally, moved_at};
+ghost use Rattle.cell_engine.specs.Tallied.{AreTallies, AreKept, AreUnseen};
+
+use crate::counting::sets_count;
+use crate::desk::Desk;
+use crate::plan::Plan;
+use cell_table::CellTable;
+use quantity::{OutOfMemory, Value};
+use rule_eval::Tally;
+use std::alloc::Global;
+
+/// The tallies before the first cycle, when each neighbour shows `?`. None are kept where no rule
+/// counts neighbours.
+pub(crate) fn first_tallies(
+    alloc: Global,
+    plan: &Plan,
+    places: usize,
+) -> Result<Vec<Tally>, OutOfMemory>
+    requires { places ≤ 128 }
+    ensures { IfOk result (λ ts. AreUnseen places (cell_count plan.now.space) ts.items) }
+{
+    let undefs = short(places);
+    let unseen = Tally {
+        ones: 0,
+        zeros: 0,
+        undefs,
+    };
+    let count = kept_for(plan);
+    all_of(alloc, unseen, count)
+}
+
+/// The same number, which is small.
+pub(crate) fn short(places: usize) -> u8
+    requires { places ≤ 128 }
+    ensures { result ≡ places }
+{
+    places as u8
+}
+
+/// For how many cells tallies are kept: for all, or for none.
+fn kept_for(plan: &Plan) -> usize
+    ensures { 0 < result → result ≡ cell_count plan.now.space }
+{
+    if sets_count(&plan.rule_sets) {
+        plan.grid.cells() as usize
+    } else {
+        0
+    }
+}
+
+/// So many times the same tally.
+fn all_of(alloc: Global, tally: Tally, count: usize) -> Result<Vec<Tally>, OutOfMemory>
+    ensures { IfOk result (λ ts. ts.items ≡ replicate count tally) }
+{
+    Ok(vec![in alloc; tally; count]?)
+}
+
+/// The tally of a cell, where it is kept.
+#[inline(always)]
+pub(crate) fn tally_of(tallies: &[Tally], i: u32) -> Option<Tally>
+    ensures within { IfSome result (λ t. i < length tallies.now) }
+    ensures value { IfSome result (λ t. t ≡ slice_index_or tallies.now i no_tally) }
+{
+    let at = i as usize;
+    if at < tallies.len() {
+        Some(tallies[at])
+    } else {
+        None
+    }
+}
+
+/// The tallies follow what a cell shows, which showed this value before.
+#[inline(always)]
+pub(crate) fn follow(
+    plan: &Plan,
+    table: &CellTable,
+    i: u32,
+    before: &Value,
+    desk: &mut Desk,
+    tallies: &mut Vec<Tally>,
+)
+    requires cell { i < length table.now.cells }
+    requires ready { IsAtDesk plan.now table.now desk.old }
+    requires kept { AreKept (near plan.now) (slice_set (outs_of table.now) i before.now)
+        tallies.old.items }
+    ensures ready { IsAtDesk plan.now table.now desk.new }
+    ensures kept { AreKept (near plan.now) (outs_of table.now) tallies.new.items }
+{
+    let count = tallies.len();
+    if count == 0 {
+        return;
+    }
+    move_on(plan, table, i, before, &mut desk.neighbours, tallies);
+}
+
+/// The same where they are kept. Nothing is done where the cell is counted as before.
+#[inline(never)]
+fn move_on(
+    plan: &Plan,
+    table: &CellTable,
+    i: u32,
+    before: &Value,
+    around: &mut [Option<u32>],
+    tallies: &mut [Tally],
+)
+    requires cell { i < cell_count plan.now.space }
+    requires cells { length table.now.cells ≡ cell_count plan.now.space }
+    requires places { length around.old ≡ length plan.now.offsets }
+    requires whole { length tallies.old ≡ cell_count plan.now.space }
+    requires tallies { AreTallies (near plan.now) (slice_set (outs_of table.now) i before.now)
+        tallies.old }
+    ensures { AreTallies (near plan.now) (outs_of table.now) tallies.new }
+{
+    let gone = Tally::one(before);
+    let shown = table.emitted(i, 0);
+    let come = Tally::one(&shown);
+    if are_same(gone, come) {
+        return;
+    }
+    plan.reach.watchers_by_offset(i, around);
+    move_all(plan, table, i, before, gone, come, around, tallies);
+}
+
+/// Whether two tallies have the same numbers.
+#[inline(always)]
+pub(crate) fn are_same(a: Tally, b: Tally) -> bool
+    ensures { result ≡ ((a.ones == b.ones) && (a.zeros == b.zeros) && (a.undefs == b.undefs)) }
+{
+    let ones = a.ones == b.ones;
+    let zeros = a.zeros == b.zeros;
+    let undefs = a.undefs == b.undefs;
+    ones & zeros & undefs
+}
+
+/// Each cell that has cell i as its neighbour counts it by what it shows now, once for each offset
+/// that leads there.
+fn move_all(
+    plan: &Plan,
+    table: &CellTable,
+    i: u32,
+    before: &Value,
+    gone: Tally,
+    come: Tally,
+    watchers: &[Option<u32>],
+    tallies: &mut [Tally],
+)
+    requires cell { i < cell_count plan.now.space }
+    requires cells { length table.now.cells ≡ cell_count plan.now.space }
+    requires few { length plan.now.offsets ≤ 128 }
+    requires gone { IsTally gone (before.now ∷ []) }
+    requires come { IsTally come (slice_index_or (outs_of table.now) i AnyValue.Undefined ∷ []) }
+    requires watchers { watchers.now ≡ neighbours (turned (near plan.now)) i }
+    requires whole { length tallies.old ≡ cell_count plan.now.space }
+    requires tallies { AreTallies (near plan.now) (slice_set (outs_of table.now) i before.now)
+        tallies.old }
+    ensures { AreTallies (near plan.now) (outs_of table.now) tallies.new }
+{
+    for watcher in watchers {
+        move_for(*watcher, gone, come, tallies);
+    }
+    // Only the clauses and the loop's invariant speak of these.
+    let _plan = plan;
+    let _table = table;
+    let _cell = i;
+    let _before = before;
+}
+
+/// The tally of a cell is moved, if one is.
+#[inline(always)]
+fn move_for(watcher: Option<u32>, gone: Tally, come: Tally, tallies: &mut [Tally])
+    requires within { IfSome watcher (λ x. x < length tallies.old) }
+    requires can { IfSome watcher
+        (λ x. CanMove (slice_index_or tallies.old x no_tally) gone come) }
+    ensures { tallies.new ≡ moved_at watcher gone come tallies.old }
+{
+    match watcher {
+        Some(cell) => move_one(tallies, cell, gone, come),
+        None => {}
+    }
+}
+
+#[inline(always)]
+fn move_one(tallies: &mut [Tally], cell: u32, gone: Tally, come: Tally)
+    requires within { cell < length tallies.old }
+    requires can { CanMove (slice_index_or tallies.old cell no_tally) gone come }
+    ensures { tallies.new ≡ slice_set tallies.old cell
+        (moved_tally (slice_index_or tallies.old cell no_tally) gone come) }
+{
+    let tally = tally_at(tallies, cell);
+    tallies[cell as usize] = tally.moved(gone, come);
+}
+
+/// The tally of a cell, of which it is known that it is kept.
+#[inline(always)]
+fn tally_at(tallies: &[Tally], cell: u32) -> Tally
+    requires { cell < length tallies.now }
+    ensures { result ≡ slice_index_or tallies.now cell no_tally }
+{
+    tallies[cell as usize]
+}
