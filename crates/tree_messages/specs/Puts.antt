@@ -1,5 +1,5 @@
--- What a served message changes, by the tables: what is put behind those that wait, what is kept, how
--- leaves lie and when they are due.
+-- What a served message changes, by the tables: what is put behind those that wait, what is kept,
+-- how leaves lie and when they are due.
 use Rattle.std.specs.Prelude.{◌≡◌, ℕ, ◌==◌, Bool, true, false, ◌||◌, Option, Some, None, List, [], ◌∷◌, ◌++◌, map, length, slice_get, slice_set, if◌then◌else◌}
 use Rattle.std.specs.List.{list_any, enumerate_from}
 use Rattle.quantity.specs.declared.place.Offset.{Offset}
