@@ -231,14 +231,19 @@ fn changed_is_refused(
     is_refused(rt, &model, kind)
 }
 
+/// Compares what was answered with the end of a run.
+fn has_run(rt: &impl Abort, status: u8, room: &MemoryRoom) {
+    assert_eq!(rt;
+        (status, room.shown()),
+        (0, b"end 00:00:00:100 cycles 1\n".as_slice())
+    );
+}
+
 /// Runs the model as it is in the room.
 fn runs_in(rt: &(impl Abort + AllocGlobal), room: &mut MemoryRoom) -> Result<(), Fail> {
     room.put_file("m.ma", MODEL.as_bytes())?;
     let status = run(rt.alloc(), "cdpp -m m.ma -t 00:00:00:100", room)?;
-    assert_eq!(rt;
-        (status.number(), room.shown()),
-        (0, b"end 00:00:00:100 cycles 1\n".as_slice())
-    );
+    has_run(rt, status.number(), room);
     Ok(())
 }
 

@@ -8,8 +8,9 @@ use std::sync::ledger::Ledger;
 use time_queue::TimeQueue;
 use tree_serve::ServedRun;
 
-/// A run whose state can be told, so that another goes on from it: but where its messages are served
-/// in an order, of which no state is kept.
+/// A run whose state can be told, so that another goes on from it. Of one whose messages are served in
+/// an order no state is kept: it answers as where there is no memory, and those that ask have a
+/// condition (`unserved`) by which it is never asked.
 pub trait Resumable<L: Ledger>: Cycles<L> {
     ghost use Rattle.std.specs.Prelude.{◌≡◌, ◌+◌, ◌<◌, ◌≤◌, ◌++◌, None, IfOk, OnOk, IsTrue, length};
     ghost use Rattle.run_model.specs.Fitting.{FitsTree};
@@ -21,7 +22,6 @@ pub trait Resumable<L: Ledger>: Cycles<L> {
 
     /// The value that a cell emitted last. It takes one visit.
     fn emitted(&self, leaf: u32, steps: &mut Steps<L>) -> Result<Value, OutOfMemory>
-        requires unserved { Self.marking self.now ≡ None }
         requires goes { (Self.standing self.now).stopped ≡ None }
         requires cell { IsTrue (is_cell (leaf_of (Self.standing self.now).state.leaf_states leaf)) }
         requires within { leaf < length (Self.standing self.now).state.leaf_states }
@@ -32,7 +32,6 @@ pub trait Resumable<L: Ledger>: Cycles<L> {
     /// Appends the text of the state in which the run stands, at this time. It takes at most one
     /// visit a leaf.
     fn save(&self, at: Time, into: &mut Vec<u8>, steps: &mut Steps<L>) -> Result<(), OutOfMemory>
-        requires unserved { Self.marking self.now ≡ None }
         requires goes { (Self.standing self.now).stopped ≡ None }
         requires fits { let s = Self.standing self.now in
             FitsTree (tree_in s) s.state.leaf_states }
@@ -53,8 +52,9 @@ impl<Q: TimeQueue, M: AtomicModel, L: Ledger> Resumable<L> for FlatRun<Q, M> {
 }
 
 impl<M: AtomicModel, L: Ledger> Resumable<L> for ServedRun<M> {
-    fn emitted(&self, _leaf: u32, _steps: &mut Steps<L>) -> Result<Value, OutOfMemory> {
-        unreachable!()
+    fn emitted(&self, _leaf: u32, steps: &mut Steps<L>) -> Result<Value, OutOfMemory> {
+        steps.count(1);
+        Err(OutOfMemory)
     }
 
     fn save(
@@ -63,6 +63,6 @@ impl<M: AtomicModel, L: Ledger> Resumable<L> for ServedRun<M> {
         _into: &mut Vec<u8>,
         _steps: &mut Steps<L>,
     ) -> Result<(), OutOfMemory> {
-        unreachable!()
+        Err(OutOfMemory)
     }
 }

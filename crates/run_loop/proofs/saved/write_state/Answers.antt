@@ -29,6 +29,3 @@ returns-clause-visits g c =
     let within : c.save-filled.new.steps ≤ c.args.steps.now + leaf_count (tree_in s) =
     omega (arith, c.save-filled.ensures.visits, as_many s.model (settings_at s.settings) s.state.leaf_states c.requires.fits) in
     visits_named c.args.asked.now.given.save (tree_in s) c.args.steps.now c.save-filled.new.steps c.if-is_none.ensures within
-
-pub save-filled-requires-clause-unserved : goal.save-filled-requires-clause-unserved
-save-filled-requires-clause-unserved g c = c.requires.unserved c.if-is_none.ensures
