@@ -3,7 +3,7 @@
 //!
 //! - `PieceList::push` puts an item behind all others, `take` takes the one of a number out, `len`
 //!   counts them, `clear` lets all go. It is seen as the list of its items.
-//! - Definitions: `specs/Joined.antt` (the items of all pieces). `tree_serve` uses it.
+//! - Definitions: `specs/Joined.antt` (the items of all pieces). `tree_messages` uses it.
 #![tactic(auto)]
 
 pub mod list;

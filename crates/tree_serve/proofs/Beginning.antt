@@ -25,20 +25,20 @@ use Rattle.served_tree.specs.Orders.{IsServable, SoundServes}
 use Rattle.served_tree.proofs.Counting.{total-zero}
 use Rattle.served_tree.proofs.Through.{begins}
 use Rattle.served_tree.proofs.Whole.{works}
-use Rattle.tree_serve.specs.declared.kept.Became.TheVariants.{Stayed, Moved}
-use Rattle.tree_serve.specs.declared.mail.Mail.{Mail}
-use Rattle.tree_serve.specs.declared.tables.Tables.{Tables}
+use Rattle.tree_messages.specs.declared.kept.Became.TheVariants.{Stayed, Moved}
+use Rattle.tree_messages.specs.declared.mail.Mail.{Mail}
+use Rattle.tree_messages.specs.declared.tables.Tables.{Tables}
+use Rattle.tree_messages.specs.Notes.{Note, notes_of, fresh_note, has_given, has_answered, lacking, still}
+use Rattle.tree_messages.specs.Mail.{messages_in, all_kept}
+use Rattle.tree_messages.specs.Puts.{Puts}
+use Rattle.tree_messages.specs.Starting.{least_among, AreInputsOf}
+use Rattle.tree_messages.proofs.Inputs.{inputs-are}
 use Rattle.tree_serve.specs.Processing.{Processing}
 use Rattle.tree_serve.specs.InCycle.{LeavesLie, InCycle}
 use Rattle.tree_serve.specs.Calls.{Begins}
-use Rattle.tree_serve.specs.Notes.{Note, notes_of, fresh_note, has_given, has_answered, lacking, still}
-use Rattle.tree_serve.specs.Mail.{messages_in, all_kept}
-use Rattle.tree_serve.specs.Puts.{Puts}
-use Rattle.tree_serve.specs.Starting.{least_among, AreInputsOf}
 use Rattle.tree_serve.specs.Holds.{seen_as, AtRest, AreKept, HoldsServed}
 use Rattle.tree_serve.proofs.Entries.{many}
 use Rattle.tree_serve.proofs.Left.{lacking-all}
-use Rattle.tree_serve.proofs.Inputs.{inputs-are}
 use Rattle.tree_serve.proofs.Within.{state-at, as-leaf}
 
 -- ---- times

@@ -14,14 +14,14 @@ use Rattle.flat_run.specs.declared.progress.Stop.{Stop}
 use Rattle.flat_run.specs.Running.{stop_of_halt}
 use Rattle.run_leaves.specs.Seated.{Seated}
 use Rattle.served_tree.specs.Orders.{EachServes}
-use Rattle.tree_serve.specs.declared.message.Message as code
-use Rattle.tree_serve.specs.declared.mail.Mail.{Mail}
-use Rattle.tree_serve.specs.declared.tables.Tables.{Tables}
+use Rattle.tree_messages.specs.declared.message.Message as code
+use Rattle.tree_messages.specs.declared.mail.Mail.{Mail}
+use Rattle.tree_messages.specs.declared.tables.Tables.{Tables}
+use Rattle.tree_messages.specs.Mail.{message_in}
+use Rattle.tree_messages.specs.Notes.{notes_of}
+use Rattle.tree_messages.specs.Recorded.{EndsBy, stop_in}
 use Rattle.tree_serve.specs.Processing.{Processing}
 use Rattle.tree_serve.specs.Calls.{IsBetween, FinishesBy, Finishes}
-use Rattle.tree_serve.specs.Mail.{message_in}
-use Rattle.tree_serve.specs.Notes.{notes_of}
-use Rattle.tree_serve.specs.Recorded.{EndsBy, stop_in}
 use Rattle.tree_serve.specs.Holds.{seen_as, InService, HoldsAt, HoldsServed}
 use Rattle.tree_serve.proofs.Closing.{nothing-kept, stopped-holds, finishes, finished-holds, finishes-stopped, no-stop}
 

@@ -16,8 +16,8 @@ use Rattle.served_tree.specs.Service.{Stopped, kept_of, gave_of, changed, cell_g
 use Rattle.served_tree.specs.Rows.{Ref, own_input, output_of, read, read_rows}
 use Rattle.served_tree.proofs.Counting.{found-in, changed-same, changed-other, changed-long}
 use Rattle.served_tree.proofs.Lists.{same-by-places}
-use Rattle.tree_serve.specs.Notes.{Note, heard, all_heard, noted, has_given, has_answered, left_at}
-use Rattle.tree_serve.specs.Mail.{kept_in, all_kept}
+use Rattle.tree_messages.specs.Notes.{Note, heard, all_heard, noted, has_given, has_answered, left_at}
+use Rattle.tree_messages.specs.Mail.{kept_in, all_kept}
 use Rattle.tree_serve.proofs.Choosing.{get-same, get-other}
 
 -- ---- one processor's note

@@ -19,13 +19,13 @@ use Rattle.run_leaves.specs.Seated.{Seated, settings_in, settings_at, tree_at}
 use Rattle.run_leaves.specs.Waiting.{WaitsAtStart}
 use Rattle.run_leaves.proofs.AtStart.{initial-wait}
 use Rattle.served_tree.specs.Linked.{HasPorts}
-use Rattle.tree_serve.specs.declared.mail.Mail.{Mail}
-use Rattle.tree_serve.specs.declared.tables.Tables.{Tables}
+use Rattle.tree_messages.specs.declared.mail.Mail.{Mail}
+use Rattle.tree_messages.specs.declared.tables.Tables.{Tables}
 use Rattle.tree_tables.specs.declared.entry.Entry.{Entry}
+use Rattle.tree_messages.specs.Notes.{notes_of}
+use Rattle.tree_messages.specs.Mail.{messages_in, all_kept, service_of}
+use Rattle.tree_messages.specs.Tabled.{AreTables}
 use Rattle.tree_serve.specs.Processing.{no_service}
-use Rattle.tree_serve.specs.Notes.{notes_of}
-use Rattle.tree_serve.specs.Mail.{messages_in, all_kept, service_of}
-use Rattle.tree_serve.specs.Tabled.{AreTables}
 use Rattle.tree_serve.specs.Holds.{seen_as, HoldsServed}
 use Rattle.tree_serve.proofs.Keeping.{none-kept}
 

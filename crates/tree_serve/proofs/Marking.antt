@@ -17,8 +17,8 @@ use Rattle.flat_run.specs.Marking.{Marking, serving_from, left_of, marking_behin
 use Rattle.served_tree.specs.Processors.{size}
 use Rattle.served_tree.specs.Service.{instant_of, begun}
 use Rattle.served_tree.specs.Order.{Serving, serve_times, serve_cycle}
-use Rattle.tree_serve.specs.declared.message.Started.{Started}
-use Rattle.tree_serve.specs.declared.message.Started.TheVariants.{Cycle}
+use Rattle.tree_serve.specs.declared.started.Started.{Started}
+use Rattle.tree_serve.specs.declared.started.Started.TheVariants.{Cycle}
 use Rattle.tree_serve.specs.declared.ordered.Order.{Order}
 use Rattle.tree_serve.specs.Processing.{Processing, tree_on, standing_at}
 use Rattle.tree_serve.specs.InCycle.{InCycle}

@@ -32,14 +32,15 @@ use Rattle.served_tree.proofs.Lists.{length-range}
 use Rattle.served_tree.proofs.Placing.{cell_processor}
 use Rattle.served_tree.proofs.Finishing.{leaves-many}
 use Rattle.served_tree.proofs.Whole.{works}
-use Rattle.tree_serve.specs.declared.kept.Became.TheVariants as leaf
-use Rattle.tree_serve.specs.declared.tables.GroupSpace.{GroupSpace}
-use Rattle.tree_serve.specs.InCycle.{due_at, LeavesLie}
-use Rattle.tree_serve.specs.Notes.{Note, heard, all_heard, move_noted, AreLeft}
-use Rattle.tree_serve.specs.Mail.{messages_in, kept_in, all_kept}
-use Rattle.tree_serve.specs.Puts.{Changing, ins_read, woken_in, handed_to, first_leaf, group_at, IsGroupOf, space_at, passed_on, Passes}
-use Rattle.tree_serve.specs.Ready.{CanPass}
-use Rattle.tree_serve.specs.Tabled.{IsSpaceOf, AreSpacesOf}
+use Rattle.tree_messages.specs.declared.kept.Became.TheVariants as leaf
+use Rattle.tree_messages.specs.declared.tables.GroupSpace.{GroupSpace}
+use Rattle.tree_messages.specs.Due.{due_at}
+use Rattle.tree_messages.specs.Notes.{Note, heard, all_heard, move_noted, AreLeft}
+use Rattle.tree_messages.specs.Mail.{messages_in, kept_in, all_kept}
+use Rattle.tree_messages.specs.Puts.{Changing, ins_read, woken_in, handed_to, first_leaf, group_at, IsGroupOf, space_at, passed_on, Passes}
+use Rattle.tree_messages.specs.Ready.{CanPass}
+use Rattle.tree_messages.specs.Tabled.{IsSpaceOf, AreSpacesOf}
+use Rattle.tree_serve.specs.InCycle.{LeavesLie}
 use Rattle.tree_serve.specs.Holds.{AreTold, AreKept}
 use Rattle.tree_serve.proofs.KindAt.{NoCell, KindOf, kind-at}
 use Rattle.tree_serve.proofs.Leaves.{leaf-is}

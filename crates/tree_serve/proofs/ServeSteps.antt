@@ -12,14 +12,14 @@ use Rattle.flat_run.specs.Steps.{Keeps}
 use Rattle.run_leaves.specs.Seated.{Seated}
 use Rattle.run_leaves.specs.Moving.{StaysAs}
 use Rattle.served_tree.specs.Rows.{RowsBring}
-use Rattle.tree_serve.specs.declared.message.Message as code
-use Rattle.tree_serve.specs.declared.message.Served.{Served}
-use Rattle.tree_serve.specs.declared.mail.Mail.{Mail}
-use Rattle.tree_serve.specs.declared.tables.Tables.{Tables}
+use Rattle.tree_messages.specs.declared.message.Message as code
+use Rattle.tree_messages.specs.declared.message.Served.{Served}
+use Rattle.tree_messages.specs.declared.mail.Mail.{Mail}
+use Rattle.tree_messages.specs.declared.tables.Tables.{Tables}
+use Rattle.tree_messages.specs.Mail.{message_in, told_by, served_of}
+use Rattle.tree_messages.specs.Puts.{changing, Changes}
 use Rattle.tree_serve.specs.Processing.{Processing}
-use Rattle.tree_serve.specs.Calls.{served_of, Halts, ServesBy}
-use Rattle.tree_serve.specs.Mail.{message_in, told_by}
-use Rattle.tree_serve.specs.Puts.{changing, Changes}
+use Rattle.tree_serve.specs.Calls.{Halts, ServesBy}
 use Rattle.tree_serve.specs.Holds.{seen_as, IsCalm, HoldsAt, HoldsServed}
 use Rattle.tree_serve.proofs.Turning.{serves-all}
 use Rattle.tree_serve.proofs.Closing.{nothing-kept}

@@ -16,15 +16,15 @@ use Rattle.flat_run.proofs.Instants.{first-event-of, events-later, done-where-no
 use Rattle.run_leaves.specs.Seated.{Seated, tree_at}
 use Rattle.served_tree.specs.Service.{collect}
 use Rattle.served_tree.specs.Orders.{SoundServes}
-use Rattle.tree_serve.specs.declared.mail.Mail.{Mail}
-use Rattle.tree_serve.specs.declared.message.Started.{Started}
-use Rattle.tree_serve.specs.declared.message.Started.TheVariants.{Cycle, Done}
-use Rattle.tree_serve.specs.declared.tables.Tables.{Tables}
+use Rattle.tree_messages.specs.declared.mail.Mail.{Mail}
+use Rattle.tree_messages.specs.declared.tables.Tables.{Tables}
+use Rattle.tree_messages.specs.Notes.{notes_of, fresh_note}
+use Rattle.tree_messages.specs.Puts.{Puts}
+use Rattle.tree_messages.specs.Starting.{least_among, AreInputsOf}
+use Rattle.tree_serve.specs.declared.started.Started.{Started}
+use Rattle.tree_serve.specs.declared.started.Started.TheVariants.{Cycle, Done}
 use Rattle.tree_serve.specs.Processing.{Processing}
 use Rattle.tree_serve.specs.Calls.{IsBetween, Halts, StartsBy, Starts}
-use Rattle.tree_serve.specs.Notes.{notes_of, fresh_note}
-use Rattle.tree_serve.specs.Puts.{Puts}
-use Rattle.tree_serve.specs.Starting.{least_among, AreInputsOf}
 use Rattle.tree_serve.specs.Holds.{seen_as, HoldsServed}
 use Rattle.tree_serve.proofs.Beginning.{next-is, begins-so, begun-holds}
 use Rattle.tree_serve.proofs.Closing.{nothing-kept, stopped-holds}

@@ -16,10 +16,11 @@ use Rattle.served_tree.specs.Course.{Counts, IsChild, times, Stands}
 use Rattle.served_tree.specs.Orders.{IsServable}
 use Rattle.served_tree.proofs.Counting.{found-in, parent-is}
 use Rattle.served_tree.proofs.Whole.{works}
-use Rattle.tree_serve.specs.InCycle.{due_at, Lies, LeavesLie}
-use Rattle.tree_serve.specs.Notes.{Note, all_heard, answer_noted, one_less, left_at, has_given, has_answered, AreLeft}
-use Rattle.tree_serve.specs.Mail.{messages_in, parent_at, kept_in, all_kept}
-use Rattle.tree_serve.specs.Puts.{Changing, is_last, done_with, joined_answer, component_answers, answered_puts, after_answered, Answers}
+use Rattle.tree_messages.specs.Due.{due_at}
+use Rattle.tree_messages.specs.Notes.{Note, all_heard, answer_noted, one_less, left_at, has_given, has_answered, AreLeft}
+use Rattle.tree_messages.specs.Mail.{messages_in, parent_at, kept_in, all_kept}
+use Rattle.tree_messages.specs.Puts.{Changing, is_last, done_with, joined_answer, component_answers, answered_puts, after_answered, Answers}
+use Rattle.tree_serve.specs.InCycle.{Lies, LeavesLie}
 use Rattle.tree_serve.specs.Holds.{AreTold, AreKept}
 use Rattle.tree_serve.proofs.Entries.{many, processor-at, entry-at, no-processor, parent-same, children-of}
 use Rattle.tree_serve.proofs.Keeping.{noted-same, noted-other, noted-length, kept-changed, unseen, Alike, heard-alike, least-same, first-same, has-answered-same}

@@ -33,17 +33,18 @@ use Rattle.served_tree.proofs.Counting.{bump, found-in, total-bump}
 use Rattle.served_tree.proofs.Through.{serve-is}
 use Rattle.served_tree.proofs.Placing.{size-is}
 use Rattle.served_tree.proofs.Whole.{works}
-use Rattle.tree_serve.specs.declared.message.Message as code
-use Rattle.tree_serve.specs.declared.message.Served.{Served}
-use Rattle.tree_serve.specs.declared.mail.Mail.{Mail}
-use Rattle.tree_serve.specs.declared.tables.Tables.{Tables}
+use Rattle.tree_messages.specs.declared.message.Message as code
+use Rattle.tree_messages.specs.declared.message.Served.{Served}
+use Rattle.tree_messages.specs.declared.mail.Mail.{Mail}
+use Rattle.tree_messages.specs.declared.tables.Tables.{Tables}
+use Rattle.tree_messages.specs.Due.{due_at}
+use Rattle.tree_messages.specs.Notes.{notes_of}
+use Rattle.tree_messages.specs.Mail.{message_in, messages_in, all_kept, told_by, served_of}
+use Rattle.tree_messages.specs.Puts.{Changing, changing, Transits, Changes}
+use Rattle.tree_messages.specs.Ready.{CanAsk, CanTransit, CanServe}
 use Rattle.tree_serve.specs.Processing.{Processing, tree_on}
-use Rattle.tree_serve.specs.InCycle.{due_at, Lies, LeavesLie, InCycle}
-use Rattle.tree_serve.specs.Calls.{served_of, Serves}
-use Rattle.tree_serve.specs.Notes.{notes_of}
-use Rattle.tree_serve.specs.Mail.{message_in, messages_in, all_kept, told_by}
-use Rattle.tree_serve.specs.Puts.{Changing, changing, Transits, Changes}
-use Rattle.tree_serve.specs.Ready.{CanAsk, CanTransit, CanServe}
+use Rattle.tree_serve.specs.InCycle.{Lies, LeavesLie, InCycle}
+use Rattle.tree_serve.specs.Calls.{Serves}
 use Rattle.tree_serve.specs.Holds.{seen_as, IsServed, AreKept, InService, HoldsAt, HoldsServed}
 use Rattle.tree_serve.proofs.Entries.{many, processor-at, leaf-of, told-same}
 use Rattle.tree_serve.proofs.Bounds.{IsBelow, takes-few}

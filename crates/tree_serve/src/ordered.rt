@@ -4,16 +4,17 @@ ghost use Rattle.flat_run.specs.declared.progress.Stop.TheVariants.{Memory};
 ghost use Rattle.flat_run.specs.Steps.{Keeps};
 ghost use Rattle.served_tree.specs.Processors.{size};
 ghost use Rattle.served_tree.specs.Order as order_of;
+ghost use Rattle.tree_messages.specs.Mail.{served_of};
 ghost use Rattle.tree_serve.specs.Processing.{tree_on};
-ghost use Rattle.tree_serve.specs.Calls.{Halts, served_of};
+ghost use Rattle.tree_serve.specs.Calls.{Halts};
 ghost use Rattle.tree_serve.specs.Ordered.{ServesOne, ServesSo, HasBegun};
 
-use crate::message::Served;
 use crate::run::TreeRun;
 use atomic_face::AtomicModel;
 use cell_engine::Steps;
 use quantity::{OutOfMemory, Time};
 use std::sync::ledger::Ledger;
+use tree_messages::message::Served;
 
 /// The seed that is left, and the mark.
 #[derive(Clone, Copy, PartialEq, Eq, Debug)]

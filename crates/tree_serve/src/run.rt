@@ -12,13 +12,8 @@ ghost use Rattle.served_tree.specs.Processors.{size};
 ghost use Rattle.tree_serve.specs.Processing.{tree_on};
 ghost use Rattle.tree_serve.specs.Calls.{IsBetween, Starts, ServesBy, Finishes};
 
-use crate::mail::Mail;
-use crate::message::{Served, Started};
-use crate::moving::earlier;
-use crate::records::{end_of, stop_of};
-use crate::serving::{serve_message, served_by};
-use crate::start::{begin, cycles_had, least_time, start_times};
-use crate::tables::Tables;
+use crate::started::Started;
+use crate::stops::stop_of;
 use atomic_face::{AtomicModel, PortNo, Stock};
 use cell_engine::Steps;
 use event_list::Events;
@@ -30,6 +25,13 @@ use run_leaves::FlatLeaves;
 use std::alloc::Global;
 use std::marker::Model;
 use std::sync::ledger::Ledger;
+use tree_messages::mail::Mail;
+use tree_messages::message::Served;
+use tree_messages::moving::earlier;
+use tree_messages::records::end_of;
+use tree_messages::serving::{serve_message, served_by};
+use tree_messages::start::{begin, cycles_had, least_time, start_times};
+use tree_messages::tables::Tables;
 
 /// A run of a model whose cycles are served. It is seen as the state of its leaves as they lie now,
 /// the instant of the cycle that is served, what its events put at the inputs of top, when each

@@ -6,9 +6,9 @@ ghost use Rattle.flat_run.specs.Steps.{Goes};
 ghost use Rattle.tree_serve.specs.Calls.{IsBetween};
 ghost use Rattle.tree_serve.specs.Ordered.{marking_of, HasBegun, EndsCycle, MarksCycle};
 
-use crate::message::Started;
 use crate::ordered::{Order, serve_all};
 use crate::run::TreeRun;
+use crate::started::Started;
 use atomic_face::AtomicModel;
 use cell_engine::Steps;
 use flat_run::{Cycles, Progress, Stop};

@@ -1,6 +1,6 @@
 use Rattle.std.proofs.Common.{◌+◌, ◌∙◌, Ok, Err, ap, sym}
-use Rattle.tree_serve.specs.Notes.{notes_of}
-use Rattle.tree_serve.specs.Recorded.{EndsBy, stop_in}
+use Rattle.tree_messages.specs.Notes.{notes_of}
+use Rattle.tree_messages.specs.Recorded.{EndsBy, stop_in}
 use Rattle.tree_serve.proofs.FinishSteps.{cycle-finishes, cycle-holds, stop-finishes}
 use Rattle.tree_serve.proofs.run.TreeRun.finish.Goals as goal
 

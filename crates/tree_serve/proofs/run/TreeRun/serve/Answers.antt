@@ -1,7 +1,7 @@
 use Rattle.std.proofs.Common.{◌≡◌, ◌∙◌, ℕ, ◌%◌, List, length, ap}
 use Rattle.quantity.specs.declared.memory.OutOfMemory.{OutOfMemory}
 use Rattle.tree_tables.specs.declared.entry.Entry.{Entry}
-use Rattle.tree_serve.specs.Mail.{message_in, told_by}
+use Rattle.tree_messages.specs.Mail.{message_in, told_by}
 use Rattle.tree_serve.proofs.Turning.{ready, holds-on}
 use Rattle.tree_serve.proofs.ServeSteps.{halted, served-so}
 use Rattle.tree_serve.proofs.run.TreeRun.serve.Goals as goal

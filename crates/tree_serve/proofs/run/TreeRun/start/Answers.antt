@@ -1,7 +1,7 @@
 use Rattle.std.proofs.Common.{◌≡◌, ◌∙◌, ◌<◌, ◌≤◌, map, ap, arith}
 use Rattle.run_model.specs.CellStep.{least}
-use Rattle.tree_serve.specs.Notes.{fresh_note}
-use Rattle.tree_serve.specs.Starting.{least_among}
+use Rattle.tree_messages.specs.Notes.{fresh_note}
+use Rattle.tree_messages.specs.Starting.{least_among}
 use Rattle.tree_serve.proofs.StartSteps.{none-due, past-end, limit-reached, cycle-starts, cycle-holds}
 use Rattle.tree_serve.proofs.run.TreeRun.start.Goals as goal
 

@@ -1,0 +1,7 @@
+mod Noting
+mod Becoming
+mod Rest
+mod Recording
+mod Putting
+mod Asking
+pub mod Inputs

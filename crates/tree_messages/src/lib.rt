@@ -1,0 +1,28 @@
+//! The messages of a cycle that is served, and what serving one of them changes.
+//!
+//! - `Mail` (`mail`) has the messages that wait (`Message` of `message`) and what is kept of each
+//!   processor (`Kept` of `kept`). `Tables` (`tables`) has the processors of a model by their
+//!   numbers, and the spaces of its groups.
+//! - `served_by` and `serve_message` (`serving`) tell of a message that was taken out (`Served`),
+//!   and serve it: a leaf gives or moves, messages are put behind the others, and what is kept
+//!   changes. Its parts: `collect`, `transition`, `moving`, and the lists at ports (`lists`).
+//! - `start_times` and `least_time` (`start`) say when leaves are due at their start, and which is
+//!   due first; `begin` begins the cycle of an instant, and `end_of` (`records`) makes its records,
+//!   or says by `Halt` why it stops.
+//! - Definitions: `specs/Ready.antt` (what has to hold where a message is served), `Puts.antt`
+//!   (what that changes), `Mail.antt`, `Notes.antt`, `Due.antt` and `Tabled.antt` (how that stands
+//!   for the service of `served_tree`), `Starting.antt`, `Recorded.antt`.
+//! - It rests on `tree_tables` for who stands where, and on `run_leaves` for the leaves.
+#![tactic(auto)]
+
+mod collect;
+pub mod kept;
+mod lists;
+pub mod mail;
+pub mod message;
+pub mod moving;
+pub mod records;
+pub mod serving;
+pub mod start;
+pub mod tables;
+mod transition;
