@@ -1,10 +1,12 @@
 -- What is answered of a model and of its leaves: the same for every settings of its boxes.
-use Rattle.std.specs.Prelude.{◌≡◌, ℕ, ◌<◌, ◌++◌, Option, Some, None, List, [], ℤ, slice_get}
+use Rattle.std.specs.Prelude.{◌≡◌, ℕ, ◌<◌, ◌++◌, ⊤, Option, Some, None, List, [], ℤ, slice_get}
 use Rattle.quantity.specs.Bytes.{Bytes}
+use Rattle.cell_grid.specs.Space.{cell_count}
 use Rattle.model_tree.specs.declared.component.Coupled.{Coupled}
 use Rattle.model_tree.specs.declared.component.Component.TheVariants.{Coupled as in_tree}
 use Rattle.model_tree.specs.declared.table.Model.{Model}
 use Rattle.model_tree.specs.declared.leaves.LeafAt.{LeafAt}
+use Rattle.model_tree.specs.declared.leaves.CellAt.{CellAt}
 use Rattle.model_tree.specs.declared.leaves.LeafAt.TheVariants as at
 use Rattle.model_tree.specs.Tree.{Tree, Group, Leaf, atomic_leaf, cell_leaf, leaves, leaf_count, groups}
 use Rattle.model_tree.specs.Stands.{part_of}
@@ -62,3 +64,23 @@ abbrev pub IsPlaceOf : Model → ℕ → LeafAt → Type 0
 IsPlaceOf m leaf a =
     (settings : Settings) → (l : Leaf) → slice_get (leaves (tree_of m settings)) leaf ≡ Some l
     → StandsAt (tree_of m settings) settings a l
+
+-- the leaf is this cell of a group with this number, name and space, or no cell
+abbrev pub IsCell : List Group → Option CellAt → Leaf → Type 0
+IsCell gs None (atomic_leaf name class settings) = ⊤
+IsCell gs None (cell_leaf g first n) = ⊥
+IsCell gs (Some c) (atomic_leaf name class settings) = ⊥
+IsCell gs (Some c) (cell_leaf g first n) =
+    record {
+      group : slice_get gs c.group ≡ Some g;
+      name : c.name.now ≡ g.name;
+      space : c.space.now ≡ g.space;
+      cell : c.cell ≡ n;
+      inside : n < cell_count g.space;
+    }
+
+-- the leaf of this number is that cell
+abbrev pub IsCellOf : Model → ℕ → Option CellAt → Type 0
+IsCellOf m leaf c =
+    (settings : Settings) → (l : Leaf) → slice_get (leaves (tree_of m settings)) leaf ≡ Some l
+    → IsCell (groups (tree_of m settings)) c l

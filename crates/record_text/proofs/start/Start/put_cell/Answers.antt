@@ -1,22 +1,26 @@
-use Rattle.std.proofs.Common.{◌++◌, ◌∙◌, ℕ, ap, codes}
-use Rattle.record_text.specs.Begun.{begun}
-use Rattle.record_text.specs.Placed.{short_text}
-use Rattle.record_text.proofs.Appended.{on_ok}
-use Rattle.record_text.proofs.Starts.{group_inside, is_of_group, line_appended}
+use Rattle.std.proofs.Common.{◌++◌, ◌∙◌, ap, codes}
+use Rattle.quantity.specs.Bytes.{Bytes}
+use Rattle.record_text.specs.Begun.{begun, place_text}
+use Rattle.record_text.proofs.Appended.{kept_on, on_ok}
+use Rattle.record_text.proofs.Starts.{cell_appended}
 use Rattle.record_text.proofs.start.Start.put_cell.Goals as goal
 
-pub short_place-requires : goal.short_place-requires
-short_place-requires c =
-    group_inside c.args.model.now c.args.group c.args.cell c.in-Some.grid c.requires.group c.requires.cell
-    (λ settings g e.
-    (is_of_group c.args.model.now c.args.self.now c.ms.result c.args.group c.in-Some.grid c.requires.right c.in-Some.ensures settings g e).1)
+pub returns-in_err-put_place-clause-kept : goal.returns-in_err-put_place-clause-kept
+returns-in_err-put_place-clause-kept c =
+    kept_on c.args.into.now.items c.begin_cell.new.into.items c.put_place.new.into.items
+    c.begin_cell.ensures.kept c.put_place.ensures.kept
 
-pub returns-in-Some-short_place-clause-ok : goal.returns-in-Some-short_place-clause-ok
-returns-in-Some-short_place-clause-ok c =
-    on_ok c.put_line.result _ _ (λ last settings g e.
-    let of = is_of_group c.args.model.now c.args.self.now c.ms.result c.args.group c.in-Some.grid c.requires.right c.in-Some.ensures settings g e in
-    line_appended c.args.into.now.items c.put_line.new.into.items c.args.self.now.text
-    (begun c.args.self.now.letter c.args.time ++ g.name ++ codes "(") (short_text c.in-Some-short_place.place) c.args.tail.now
-    c.args.cell c.in-Some.grid g.space last
-    (of.0 ∙ ap (λ (t : ℕ). begun c.args.self.now.letter t ++ g.name ++ codes "(") c.ms.ensures.value)
-    c.in-Some-short_place.ensures.text of.1) c.put_line.ensures.ok
+pub returns-clause-ok : goal.returns-clause-ok
+returns-clause-ok c = λ m named right.
+    on_ok c.put.result _ _ (λ last.
+    cell_appended c.args.into.now.items c.begin_cell.new.into.items c.put_place.new.into.items c.put.new.into.items
+    (begun c.args.self.now.letter c.args.time ++ c.args.cell.now.name.now ++ codes "(")
+    (place_text c.args.cell.now.space.now c.args.cell.now.cell) c.args.tail.now
+    (c.in_ok-begin_cell.ensures.ok m named right) c.in_ok-put_place.ensures.ok
+    (last ∙ ap (λ (x : Bytes). c.put_place.new.into.items ++ x) c.as_bytes.ensures)) c.put.ensures.ok
+
+pub returns-clause-kept : goal.returns-clause-kept
+returns-clause-kept c =
+    kept_on c.args.into.now.items c.put_place.new.into.items c.put.new.into.items
+    (kept_on c.args.into.now.items c.begin_cell.new.into.items c.put_place.new.into.items
+    c.begin_cell.ensures.kept c.in_ok-put_place.ensures.kept) c.put.ensures.kept
