@@ -14,7 +14,7 @@ $lines lines, without comments, blanks and imports.
 
 - **Begin with section 1**, the meaning of a run; at its heart are its last files, `CellStep.antt`, `Cycle.antt`, `Run.antt`. \
 Section 2 is what the programs make of it, and stands on sections 3 to 6 for texts, atomic models, files and saved states. \
-Section 7 may be skipped today. The seven sections have $sizes lines. In each the files stand in the order in which one leads to the next.
+Section 7 counts for the mark of `-T` alone. The seven sections have $sizes lines. In each the files stand in the order in which one leads to the next.
 - **Definitions compute.** Each is a function of plain values (numbers, lists, texts as lists of bytes), a type, or, in section \
 2, a statement. It changes nothing and doesn't know how the code goes about it. The comment above it says in words what it \
 means: hold one against the other.
@@ -130,9 +130,10 @@ SECTIONS = [
         """,
     ),
     (
-        "An option that no program takes yet",
-        "An order of service (`-T`). The definitions of the answer speak of it already. Today's programs take no such option "
-        "(`built_rows` in `Options.antt`), so nothing that they do hangs on this section.",
+        "Orders of service",
+        "What `-T` shows: the cycle as messages of processors, in the order of a seed, and the mark of that order. That no order "
+        "changes a run need not be believed: it is proved (`served_tree`). So without `-T` nothing hangs on this section, and with "
+        "it the mark alone.",
         """
         served_tree/Processors served_tree/Service served_tree/Order
         """,

@@ -46,7 +46,7 @@ source_in (Some name) None = Some (file name)
 source_in None (Some size) = Some (made size)
 source_in m g = None
 
--- a letter, small
+-- a letter in its small form, and any other byte as it is
 abbrev pub lower : ℕ → ℕ
 lower c = if nat_le 65 c && nat_le c 90 then c + 32 else c
 
@@ -63,7 +63,7 @@ frames_in (Some name) (Some group) width decimals plane =
     Some (Some (record { name = name; drawing = drawing; width = width; decimals = decimals })))
 frames_in d g width decimals plane = None
 
--- a state is neither saved nor read of a made model or in a served run
+-- a state is neither saved nor read of a made model or of a run that is served in an order
 abbrev pub may_save : Draft → Bool
 may_save d = not (is_some d.save || is_some d.state) || not (is_some d.seed || is_some d.size)
 

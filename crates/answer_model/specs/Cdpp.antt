@@ -18,6 +18,8 @@ abbrev pub begins : Tree → List Event → Option Saved → RunState
 begins tree events None = start tree events
 begins tree events (Some s) = resumed s.time s.states events
 
+-- the run of a model with these events up to this end, with at most so many cycles at one time:
+-- from the start, or from a saved state
 unfoldable pub run_on : Tree → List Event → ℕ → ℕ → Option Saved → Run
 run_on tree events end limit from = run_to tree end limit (begins tree events from)
 
@@ -27,7 +29,7 @@ run_of s = run_on s.tree s.events s.asked.end s.asked.limit s.from
 
 -- ---- the answer
 
--- of a reading that stops
+-- to a reading that stops: why is complained, and nothing is made or shown
 abbrev pub stop_answer : Stopped → Answer
 stop_answer e = only_complains (status_of e.why) (line_of e.why) e.inputs
 
@@ -36,10 +38,11 @@ abbrev pub answer_from : Asked → Tree → List Event → List Word → Option 
 answer_from a tree events inputs from =
     answer_of_run a tree events from inputs (run_on tree events a.end a.limit from)
 
--- of a run
+-- to what is started: what its run answers
 abbrev pub start_answer : Started → Answer
 start_answer s = answer_from s.asked s.tree s.events s.inputs s.from
 
+-- to a reading, which stops or gives what is started
 abbrev pub answer_of : Result Started Stopped → Answer
 answer_of r = by stop_answer r start_answer
 
@@ -47,6 +50,6 @@ answer_of r = by stop_answer r start_answer
 abbrev pub answer_by : List OptionRow → List Word → Files → List Class → Answer
 answer_by rows words files classes = answer_of (started_by rows words files classes)
 
--- of the program, with the options that it has by now
+-- of the program, with its options
 abbrev pub answer : List Word → Files → List Class → Answer
 answer words files classes = answer_by built_rows words files classes

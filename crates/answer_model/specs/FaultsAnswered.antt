@@ -42,6 +42,7 @@ RunsOut line old new status =
 abbrev pub FailsAgain : Outside → Outside → Status → Type 0
 FailsAgain old new status = (status ≡ WriteFault) × ComplaintFaultCounted old new
 
+-- what the status is where a complaint, another write or a read failed
 pub record AnswersFaults (old new : Outside) (status : Status) : Type 0 where
   -- where a complaint failed, the status is that of a write fault
   pub complaint : status ≢ WriteFault → NoComplaintFault old new

@@ -54,9 +54,14 @@ letters_in text =
 abbrev pub number : ℕ → ℕ → Word → Option ℕ
 number low high text = number_between 7 low high text
 
+-- the seed of an order of service, of up to ten digits
+abbrev pub seed_in : Word → Option ℕ
+seed_in text = number_between 10 0 2147483647 text
+
 -- ---- what values ask for
 
--- what options ask for, one by one
+-- what options ask for, one by one; drawn is the file of frames, group and space are what they are
+-- of, save is the file of the state at the end, and state that of the one that a run goes on from
 pub record Draft : Type 0 where
   pub model : Option Word
   pub size : Option ℕ
@@ -121,7 +126,7 @@ pub record OptionRow : Type 0 where
   pub is_file : Bool
   pub field : Field
 
--- one row
+-- the row of the option of this letter, which is given as a text
 abbrev pub row : List ℕ → Bytes → Bool → Field → OptionRow
 row letter shown is_file field =
     record {
@@ -131,7 +136,7 @@ row letter shown is_file field =
       field = field;
     }
 
--- how frames look
+-- how frames look: options of both programs
 abbrev pub look_rows : List OptionRow
 look_rows =
     row (codes "w") (codes " [-w WIDTH]") false
@@ -142,7 +147,8 @@ look_rows =
     (field (number 0 1048575) (λ n d. record d { plane = n }))
     ∷ []
 
--- what is asked of a run
+-- what is asked of a run: its model, end, events and files, the letters of its log, the limit of
+-- cycles at one time, and how frames look
 abbrev pub run_rows : List OptionRow
 run_rows =
     row (codes "m") (codes " (-m MODEL") true (word (λ w d. record d { model = Some w }))
@@ -160,6 +166,13 @@ run_rows =
     (field (number 1 1000000) (λ n d. record d { limit = n }))
     ∷ look_rows
 
+-- the seed of an order of service
+abbrev pub service_rows : List OptionRow
+service_rows =
+    row (codes "T") (codes " [-T SEED]") false
+    (field seed_in (λ n d. record d { seed = Some n }))
+    ∷ []
+
 -- where the state at the end is saved, and the state that a run goes on from
 abbrev pub state_rows : List OptionRow
 state_rows =
@@ -169,17 +182,7 @@ state_rows =
 
 -- the options that the simulator takes
 abbrev pub built_rows : List OptionRow
-built_rows = run_rows ++ state_rows
-
--- the one that is still to come: the order of service
-abbrev pub later_rows : List OptionRow
-later_rows =
-    row (codes "T") (codes " [-T SEED]") false
-    (field (number_between 10 0 2147483647) (λ n d. record d { seed = Some n }))
-    ∷ []
-
-abbrev pub all_rows : List OptionRow
-all_rows = run_rows ++ later_rows ++ state_rows
+built_rows = run_rows ++ service_rows ++ state_rows
 
 -- the options of the drawing program
 abbrev pub drawing_rows : List OptionRow
@@ -195,7 +198,7 @@ drawing_rows =
 unfoldable pub command_by : List ℕ → List OptionRow → App
 command_by name rows = with_options (new_app name) (map (λ (r : OptionRow). r.letter) rows)
 
--- its usage line
+-- the usage line of the command of this name, without the word usage
 abbrev pub usage_by : List ℕ → List OptionRow → Bytes
 usage_by name rows = name ++ flat_map (λ (r : OptionRow). r.shown) rows
 

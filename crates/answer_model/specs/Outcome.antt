@@ -42,6 +42,7 @@ pub data Lacks (a : Answer) (did : Did) : Word → Type 0 where
       → ¬ Contains did.made (name, bytes) → Lacks a did name
   the_output : did.made ≡ a.made → did.shown ≢ a.shown → Lacks a did (codes "standard output")
 
+-- this is the last name that was looked for
 abbrev pub IsLast : Word → List Word → Type 0
 IsLast name tried = last_or None tried ≡ Some name
 
@@ -53,6 +54,8 @@ pub data Complaint (a : Answer) (did : Did) : Bytes → Type 0 where
 
 -- ---- the five endings
 
+-- how a call ends that did this: as answered; or a read, a write or a complaint failed, or memory
+-- ran out, and then what it made and showed begins what the answer makes and shows
 pub data Ending (a : Answer) (old new : Outside) (did : Did) : Status → Type 0 where
   as_answered : did.made ≡ a.made → did.shown ≡ a.shown → did.complained ≡ a.complained
       → Ending a old new did a.status
@@ -119,6 +122,7 @@ pub record FollowsAnswer (a : Answer) (old new : Outside) (status : Status) : Ty
   pub read_fault : status ≡ ReadFault → Rose old.read_faults new.read_faults
   pub write_fault : status ≡ WriteFault → Rose old.write_faults new.write_faults
 
+-- what the clauses of a call say follows from its outcome
 abbrev pub OutcomesFollow : Type 0
 OutcomesFollow =
     (a : Answer) (old new : Outside) (status : Status) → IsOwn a.status → Outcome a old new status
@@ -143,6 +147,7 @@ IsSure =
     (old new : Outside) (status : Status) → IsOwn status → AnswersFaults old new status
     → CountsNoFault old new
 
+-- what follows from outcomes
 pub record OutcomeLaws : Type 0 where
   pub follow : OutcomesFollow
   pub complete : IsComplete

@@ -15,19 +15,24 @@ use Rattle.answer_model.specs.Status.{of_cdpp, of_drawlog}
 
 -- ---- cdpp
 
+-- where the files are told, the call comes to an outcome of the answer to these words, files and
+-- classes
 abbrev pub CdppEnds : List Word → List Class → Outside → Outside → Status → Type 0
 CdppEnds words classes old new status =
     IfSome old.files (λ files. Outcome (answer words files classes) old new status)
 
+-- also where no file is told: the status is one of the program, and its cause came about
 abbrev pub CdppCauses : List Word → Outside → Outside → Status → Type 0
 CdppCauses words old new status = Causes of_cdpp (asked words) old new status
 
 -- ---- drawlog
 
+-- where the files are told, the call comes to an outcome of the answer to these words and files
 abbrev pub DrawlogEnds : List Word → Outside → Outside → Status → Type 0
 DrawlogEnds words old new status =
     IfSome old.files (λ files. Outcome (drawing_answer words files) old new status)
 
+-- also where no file is told: the status is one of the program, and its cause came about
 abbrev pub DrawlogCauses : List Word → Outside → Outside → Status → Type 0
 DrawlogCauses words old new status =
     Causes of_drawlog (asked_drawing words) old new status

@@ -89,11 +89,11 @@ pub record Said : Type 0 where
   pub shown : Bytes
   pub complained : Bytes
 
--- a good end
+-- a run that is done shows this line
 abbrev pub shows : Bytes → Said
 shows line = record { status = exit.Done; shown = ended line; complained = [] }
 
--- an early end
+-- a run that stopped complains by this line
 abbrev pub complains : Status → Bytes → Said
 complains status line = record { status = status; shown = []; complained = ended line }
 

@@ -5,7 +5,7 @@ use Rattle.model_text.specs.Models.{line_model, blinker, queue_model, port_model
 use Rattle.text_forms.specs.Rows.{lines, line_log, queue_log, two_frames}
 use Rattle.text_forms.specs.SavedRows.{line_saved, saved, fourth}
 use Rattle.answer_model.specs.Answer.{MadeFiles, Answer}
-use Rattle.answer_model.specs.WholeFiles.{to, to_all, holding, model, model_and, just_model, log, shows, complains, y, x, s}
+use Rattle.answer_model.specs.WholeFiles.{to, holding, model, model_and, just_model, log, shows, complains, y, x, s}
 use Rattle.answer_model.specs.PortRows.{blinker_log, blinker_frames}
 use Rattle.answer_model.specs.CellRows.{left, right, third, cell, out_of_order, taken_in_order, model_and_events, with_port_rules, two_events, events}
 use Rattle.answer_model.specs.declared.status.Status.TheVariants.{Done, Missing, BadDelay, StateRefused}
@@ -75,7 +75,7 @@ three_frames =
 
 -- a run that is served from this seed
 abbrev pub served_by : Bytes → Bytes → MadeFiles → Answer
-served_by seed text files = to_all (text ++ codes " -T " ++ seed) files
+served_by seed text files = to (text ++ codes " -T " ++ seed) files
 
 abbrev pub three_events : MadeFiles
 three_events = model_and with_port_rules (events (two_events ++ codes "00:00:00:120 p 3" ∷ []))
@@ -103,7 +103,7 @@ abbrev pub blinker_files : MadeFiles
 blinker_files = log blinker_log ++ holding (codes "f.txt") blinker_frames ∷ []
 
 pub record RunsAreServed : Type 0 where
-  pub mark : to_all (codes "cdpp -m m.ma -t 00:00:00:000 -T 1") (model line_model)
+  pub mark : to (codes "cdpp -m m.ma -t 00:00:00:000 -T 1") (model line_model)
       ≡ shows (codes "end 00:00:00:000 cycles 1 mark 582706") [] just_model
   pub stop : served_by (codes "1") until_late three_events ≡ too_late
   pub stop_of_other_seed : served_by (codes "2147483647") until_late three_events ≡ too_late

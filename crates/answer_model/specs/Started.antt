@@ -44,7 +44,7 @@ pub record Stopped : Type 0 where
   pub why : Stop
   pub inputs : List Word
 
--- the complaint
+-- what is complained of a stop
 abbrev pub line_of : Stop → Bytes
 line_of (bad_words form) = codes "usage: " ++ form
 line_of (no_file name) = codes "missing: " ++ name
@@ -52,7 +52,7 @@ line_of (bad_model why) = model_refused why
 line_of (bad_events why) = events_refused why
 line_of (bad_state why) = state_refused why
 
--- the status
+-- the status of a program that stops so
 abbrev pub status_of : Stop → Status
 status_of (bad_words form) = exit.Usage
 status_of (no_file name) = exit.Missing
@@ -62,6 +62,7 @@ status_of (bad_state why) = exit.StateRefused
 
 -- ---- one after another: the first that stops decides
 
+-- the reading stops so, after these files were looked for
 abbrev pub stops : {A : Type 0} → Stop → List Word → Result A Stopped
 stops why inputs = Err (record { why = why; inputs = inputs })
 
@@ -154,11 +155,12 @@ inputs_read a files classes =
     and_on (state_read a files tree inputs) (λ (from, inputs).
     Ok (record { asked = a; tree = tree; events = events; from = from; inputs = inputs }))))
 
+-- what is started by the words of a command that has these options, or what stops it
 unfoldable pub started_by : List OptionRow → List Word → Files → List Class
     → Result Started Stopped
 started_by rows words files classes =
     and_on (words_read rows words) (λ a. inputs_read a files classes)
 
--- with the options that the program has by now
+-- with the options of the program
 abbrev pub started : List Word → Files → List Class → Result Started Stopped
 started words files classes = started_by built_rows words files classes

@@ -37,16 +37,17 @@ pub data Cause : Type 0 where
   a_read_fault : Cause
   a_write_fault : Cause
 
+-- a status: its number, the part that ends so, and what must have come about
 pub record StatusRow : Type 0 where
   pub number : ℕ
   pub part : Part
   pub cause : Cause
 
--- one row
+-- a row with these entries
 abbrev pub row : ℕ → Part → Cause → StatusRow
 row number part cause = record { number = number; part = part; cause = cause }
 
--- the table
+-- the row of each status
 abbrev pub row_of : Status → StatusRow
 row_of exit.Done = row 0 at_end no_cause
 row_of exit.Usage = row 2 at_words words_refused
@@ -96,14 +97,14 @@ of_words part = false
 
 -- ---- of cdpp, stage by stage
 
--- a run
+-- the parts of a run: its cycles, its end, and what may fail anywhere
 abbrev pub of_run : Part → Bool
 of_run in_run = true
 of_run at_end = true
 of_run anywhere = true
 of_run part = false
 
--- a reading, and a run
+-- those of a reading, and of the run behind it
 abbrev pub of_reading : Part → Bool
 of_reading at_files = true
 of_reading at_reads = true
@@ -111,27 +112,27 @@ of_reading at_inputs = true
 of_reading at_state = true
 of_reading part = of_run part
 
--- the program
+-- those of the program: words, reading, run
 abbrev pub of_cdpp : Part → Bool
 of_cdpp at_words = true
 of_cdpp part = of_reading part
 
 -- ---- of drawlog, stage by stage
 
--- a drawing
+-- the parts of a drawing: its log, its end, and what may fail anywhere
 abbrev pub of_drawing : Part → Bool
 of_drawing at_log = true
 of_drawing at_end = true
 of_drawing anywhere = true
 of_drawing part = false
 
--- a reading, and a drawing
+-- those of a reading, and of the drawing behind it
 abbrev pub of_log : Part → Bool
 of_log at_files = true
 of_log at_reads = true
 of_log part = of_drawing part
 
--- the program
+-- those of the program: words, reading, drawing
 abbrev pub of_drawlog : Part → Bool
 of_drawlog at_words = true
 of_drawlog part = of_log part
@@ -146,6 +147,6 @@ CameAbout refused old new a_miss = MissCounted old new
 CameAbout refused old new a_read_fault = ReadFaultCounted old new
 CameAbout refused old new a_write_fault = WriteFaultCounted old new
 
--- so did that of a status
+-- the cause of a status came about
 abbrev pub IsCaused : Type 0 → Outside → Outside → Status → Type 0
 IsCaused refused old new status = CameAbout refused old new (row_of status).cause

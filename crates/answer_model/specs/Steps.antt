@@ -71,7 +71,8 @@ Showed bytes old new = (new.shown ≡ streams old.shown bytes) × OnlyShown old 
 abbrev pub Complained : Bytes → Outside → Outside → Type 0
 Complained bytes old new = (new.complained ≡ streams old.complained bytes) × OnlyComplained old new
 
--- what is done after one step more
+-- one call more adds what it does: where there was more outside by just what was done so far, there
+-- is more by just that and what the call does
 pub record StepsAdd : Type 0 where
   pub nothing : (now : Outside) → HasMore did_nothing now now
   pub trying : (d : Did) (old now new : Outside) (name : Word) → HasMore d old now

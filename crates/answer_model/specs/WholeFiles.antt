@@ -10,10 +10,9 @@ use Rattle.atomic_face.specs.declared.class.Class.{Class}
 use Rattle.atomic_face.specs.declared.class.Class.TheVariants.{Queue, Generator, Cpu, Counter, Table}
 use Rattle.model_tree.specs.Tree.{Word}
 use Rattle.text_forms.specs.Rows.{lines}
-use Rattle.answer_model.specs.Options.{all_rows}
 use Rattle.answer_model.specs.AskedRows.{words}
 use Rattle.answer_model.specs.Answer.{MadeFiles, Answer}
-use Rattle.answer_model.specs.Cdpp.{answer, answer_by}
+use Rattle.answer_model.specs.Cdpp.{answer}
 use Rattle.answer_model.specs.declared.status.Status.{Status}
 use Rattle.answer_model.specs.declared.status.Status.TheVariants.{Done}
 
@@ -29,10 +28,6 @@ boxes = Queue ∷ Queue ∷ Generator ∷ Generator ∷ Cpu ∷ Cpu ∷ Counter 
 
 abbrev pub to : Bytes → MadeFiles → Answer
 to text files = answer (words text) (folder files) boxes
-
--- what it answers with all options, also the one that is still to come
-abbrev pub to_all : Bytes → MadeFiles → Answer
-to_all text files = answer_by all_rows (words text) (folder files) boxes
 
 -- a file of these lines
 abbrev pub holding : Bytes → List Bytes → Word × Bytes

@@ -72,6 +72,14 @@ pub record OptionsEndAsSaid : Type 0 where
   pub six_decimals : asks (codes " -d f -g line -p 6") ≡ None
   pub last_plane : asks (codes " -d f -g line -f 1048575") ≡ Some (drawn 3 0 1048575)
   pub no_plane : asks (codes " -d f -g line -f 1048576") ≡ None
+  pub first_seed : asks (codes " -T 0") ≡ Some (record least { seed = Some 0 })
+  pub last_seed : asks (codes " -T 2147483647") ≡ Some (record least { seed = Some 2147483647 })
+  pub past_seeds : asks (codes " -T 2147483648") ≡ None
+  pub ten_digits : asks (codes " -T 0000000007") ≡ Some (record least { seed = Some 7 })
+  pub eleven_digits : asks (codes " -T 00000000007") ≡ None
+  pub no_digit : asks (codes " -T=") ≡ None
+  pub seed_below : asks (codes " -T=-1") ≡ None
+  pub seed_again : asks (codes " -T 1 -T 1") ≡ None
   pub all_names : asks (codes " -e e -l l -o o -d f -g line -S s -R r")
       ≡ Some (record (drawn 3 0 0) {
         events = Some (codes "e");

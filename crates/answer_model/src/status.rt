@@ -1,6 +1,7 @@
 // The statuses that a process of a program ends with.
 
-/// How a program ends.
+/// How a program ends. The table of `specs/Status.antt` has the number that its process answers,
+/// the part of the program that ends so, and the cause.
 #[derive(Clone, Copy)]
 pub enum Status {
     /// All is done, and what there is to show is shown.
@@ -21,7 +22,7 @@ pub enum Status {
     NoTrueRule,
     /// A value is too large.
     Overflow,
-    /// A delay is none.
+    /// A rule gives a delay that is no time.
     BadDelay,
     /// An instant has too many cycles.
     TooManyCycles,

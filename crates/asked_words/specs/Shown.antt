@@ -1,5 +1,5 @@
 -- What is asked for, without where it lies.
-use Rattle.std.specs.Prelude.{◌<◌, ◌≤◌, List, IfSome, IsTrue, ⊤}
+use Rattle.std.specs.Prelude.{◌≡◌, ◌<◌, ◌≤◌, None, List, IfSome, IsTrue, ⊤}
 use Rattle.std.specs.Option.{option_map}
 use Rattle.quantity.specs.declared.bounds.TheConstants.{MAX_DELAY}
 use Rattle.model_tree.specs.Tree.{Word}
@@ -63,7 +63,8 @@ made_names a =
     given_names (text_of_name a.given.log) (text_of_name a.given.out)
     (option_map (λ (f : FramesFile). f.name.now) a.frames) (text_of_name a.given.save)
 
--- the end is a time, and no two made files have one name
+-- the end is a time, no two made files have one name, and a run that is served in an order neither
+-- saves a state nor goes on from one
 pub record IsInBounds (a : Asked) : Type 0 where
   pub end_is : a.end ≤ MAX_DELAY
   pub size : IsOfSize a.source
@@ -71,6 +72,8 @@ pub record IsInBounds (a : Asked) : Type 0 where
   pub few : a.given.limit ≤ 1000000
   pub frames : IfSome a.frames CanBeShown
   pub names : IsTrue (differ_all (made_names a))
+  pub unsaved : IfSome a.given.seed (λ seed.
+      (text_of_name a.given.save ≡ None) × (text_of_name a.given.state ≡ None))
 
 -- a plane of the space, 1 to 20 places for a value, and at most 5 decimals
 pub record CanBeDrawn (a : AskedDrawing) : Type 0 where

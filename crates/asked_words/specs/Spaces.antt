@@ -1,4 +1,4 @@
--- The space that words give, and what is drawn of it. Only private clauses name this.
+-- Private: the space that words give, and what is drawn of it.
 use Rattle.std.specs.Prelude.{ℕ, nat_lt, Option, Some, None, if◌then◌else◌}
 use Rattle.cell_grid.specs.Space.{Space, plane_count}
 use Rattle.cell_grid.specs.declared.grid.Border.TheVariants.{NoWrapped}

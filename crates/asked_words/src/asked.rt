@@ -95,11 +95,11 @@ fn frames_in<'a>(
     }
 }
 
-/// Whether no state is saved or read of a model that is made.
+/// Whether no state is saved or read of a made model or of a run that is served in an order.
 fn may_save(draft: &Draft<'_>) -> bool
     ensures { result ≡ A.may_save (draft_of draft.now) }
 {
-    (draft.save.is_none() & draft.state.is_none()) | draft.size.is_none()
+    (draft.save.is_none() & draft.state.is_none()) | (draft.seed.is_none() & draft.size.is_none())
 }
 
 /// What a draft asks for, where it has a model and an end.

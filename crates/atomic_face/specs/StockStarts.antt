@@ -1,4 +1,4 @@
--- Where a stock begins to look for a free box of each class. No public contract speaks of it.
+-- Private: where a stock begins to look for a free box of each class.
 use Rattle.std.specs.Prelude.{◌≡◌, ◌<◌, ◌≤◌, ◌^◌, ℕ, false, List, length, slice_index, take}
 use Rattle.std.specs.List.{list_any}
 use Rattle.atomic_face.specs.declared.class.Class.{Class}

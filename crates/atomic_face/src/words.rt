@@ -18,7 +18,7 @@ const UNDEFINED: i64 = 10_000_000_000_000_000;
 /// The number of no time, and of no count.
 pub const NONE: i64 = -1;
 
-/// So many milliseconds.
+/// The time of so many milliseconds.
 pub fn time(ms: u32) -> Time
     requires { ms ≤ MAX_TIME }
     ensures { result ≡ ms }
@@ -29,7 +29,7 @@ pub fn time(ms: u32) -> Time
     }
 }
 
-/// So many hundred-thousandths.
+/// The value of so many hundred-thousandths.
 pub fn number(raw: i64) -> Value
     requires { unsigned_abs raw ≤ 10 ^ 15 }
     ensures { result ≡ Value.Num raw }
@@ -147,6 +147,7 @@ pub fn give(value: &Value, into: &mut Vec<(PortNo, Value)>) -> Result<(), OutOfM
         (into.new.items ≡ into.old.items ++ outputs (value_in (word_of value.now) ∷ [])) }
     ensures err { OnErr result (into.new.items ≡ into.old.items) }
 {
+    // For the proof: the value is bounded.
     let _ = value.known();
     into.push((PortNo(0), *value)).map_err(AllocError::from)?;
     Ok(())

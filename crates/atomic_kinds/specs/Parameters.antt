@@ -1,4 +1,4 @@
--- Parameters by the forms of their values.
+-- Private: parameters by the forms of their values.
 use Rattle.std.specs.Prelude.{ℕ, min, Option, Some, None, ℤ}
 use Rattle.quantity.specs.Bytes.{Bytes}
 use Rattle.atomic_face.specs.Parameters.{time_word, period_word, value_word, count_word}

@@ -143,6 +143,7 @@ fn given_from(pairs: &VecDeque<(Time, Value)>, place: usize, due: Time) -> Optio
 fn given_by(pair: &(Time, Value)) -> (PortNo, Value)
     ensures { result ≡ given_by pair.now }
 {
+    // For the proof: the value is bounded.
     let _ = pair.1.known();
     (PortNo(0), pair.1)
 }

@@ -108,6 +108,7 @@ pub(crate) fn time_setting(params: &Params, key: &[u8], default: Time) -> Time
     Time::parse(entry.value.as_bytes()).unwrap_or(default)
 }
 
+/// The time, more than 0 ms, that the parameter of this key gives, or this one where there is none.
 pub(crate) fn period_setting(params: &Params, key: &[u8], default: Time) -> Time
     ensures value { pos result ≡ setting_of params.now.entries.items
         (parameter key.now period_word (pos default)) }
@@ -119,6 +120,7 @@ pub(crate) fn period_setting(params: &Params, key: &[u8], default: Time) -> Time
     period(entry.value.as_bytes()).unwrap_or(default)
 }
 
+/// The value that the parameter of this key gives, or this one where there is none.
 pub(crate) fn value_setting(params: &Params, key: &[u8], default: Value) -> Value
     ensures { word_of result ≡ setting_of params.now.entries.items
         (parameter key.now value_word (word_of default)) }
@@ -129,6 +131,7 @@ pub(crate) fn value_setting(params: &Params, key: &[u8], default: Value) -> Valu
     Value::parse(entry.value.as_bytes()).unwrap_or(default)
 }
 
+/// The count that the parameter of this key gives; None where there is none.
 pub(crate) fn count_setting(params: &Params, key: &[u8]) -> Option<u32>
     ensures { word_or_none result ≡ setting_of params.now.entries.items
         (parameter key.now count_word no_time) }

@@ -15,7 +15,7 @@ use quantity::{OutOfMemory, Time, Value};
 use std::alloc::{AllocError, Global};
 use std::collections::VecDeque;
 
-/// What a queue does.
+/// What a queue is doing.
 #[derive(Clone, Copy)]
 pub enum Phase {
     /// It waits for values.

@@ -1,4 +1,9 @@
-//! Calls on atomic models through boxes in a stock: the four classes and state tables.
+//! Tests of atomic models, at values worked out by hand: each call of a box in a stock, once with
+//! enough memory.
+//!
+//! - A queue, a generator, a cpu and a counter are settled and led through their moves (`classes`),
+//!   and so is a state table (`tables`); what a box does from an instant on is in `moves`.
+//! - Crates that are tried: `atomic_face`, `atomic_kinds`, `state_tables`.
 #![tactic(auto)]
 
 #[cfg(test)]

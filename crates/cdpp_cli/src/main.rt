@@ -1,5 +1,11 @@
-//! The program over the real folder, with a stock of 4096 boxes of each class: docs/COMMANDS.md has
-//! its words.
+//! The process `cdpp`: the simulator over the real folder, with a stock of 4096 boxes of each
+//! class.
+//!
+//! - `main` hands the words of the process to `cdpp` of `cdpp_top`, whose contract says what is
+//!   done with them, and passes its status on. It makes the boxes of `atomic_kinds` and
+//!   `state_tables`, and lets files stand in for standard streams that are closed.
+//! - What `main` itself does, and what the real folder then holds, is tested and not proved. The
+//!   words are those of docs/COMMANDS.md.
 #![tactic(auto)]
 
 ghost use Rattle.std.specs.Prelude.{◌≡◌, ◌<◌, ◌^◌, length};

@@ -1,5 +1,7 @@
 -- The clauses of the program from those of its stages.
 use Rattle.std.proofs.Common.{◌≡◌, ℕ, ◌+◌, ◌≤◌, List, [], Some, Result, Ok, Err, sym, subst}
+use Rattle.std.specs.Prelude.{IfSome}
+use Rattle.std.specs.Bool.{OnTrue}
 use Rattle.room_edge.specs.Outside.{Outside, OnlyInput}
 use Rattle.model_tree.specs.Tree.{Word}
 use Rattle.answer_model.specs.declared.status.Status.{Status}
@@ -7,7 +9,7 @@ use Rattle.answer_model.specs.Status.{of_reading}
 use Rattle.answer_model.specs.Asked.{Asked, asked}
 use Rattle.answer_model.specs.Started.{Started, Stopped}
 use Rattle.answer_model.specs.Cdpp.{start_answer, answer_of}
-use Rattle.answer_model.specs.Visits.{start_visits, visits_of}
+use Rattle.answer_model.specs.Visits.{is_counted, start_visits, visits_of}
 use Rattle.answer_model.specs.Endings.{looked_for, EndsWith}
 use Rattle.answer_model.specs.Outcome.{EndsBy, Outcome}
 use Rattle.answer_model.proofs.Causing.{later_ends}
@@ -15,6 +17,7 @@ use Rattle.answer_model.proofs.Stages.{at_start, then_ends}
 use Rattle.cdpp_top.specs.Stages.{ReadCauses, ReadsStart, EndsOverAll, StartCauses}
 use Rattle.cdpp_top.specs.declared.unread.Unread.{Unread}
 use Rattle.cdpp_top.proofs.Causing.{taken_ends, are_taken}
+use Rattle.cdpp_top.proofs.Orders.{bounded_by}
 
 -- what is read of words is what is read of what they ask for
 pub read_as : {A : Type 0} (stands : A → Started → Type 0) (r q : Result Started Stopped) (old new : Outside) (result : Result A Unread) → q ≡ r → ReadsStart stands r old new result → ReadsStart stands q old new result
@@ -37,5 +40,6 @@ pub read_ends : {A : Type 0} (words : List Word) (x : A) (old mid new : Outside)
 read_ends words x old mid new s read only run = taken_ends words old new s read.0 (later_ends of_reading old mid new s only read.1 read.2 run)
 
 -- its visits are those of what is started
-pub visited : (s : Started) (r : Result Started Stopped) (n m : ℕ) → r ≡ Ok s → n ≤ m + start_visits s → n ≤ m + visits_of r
-visited s r n m is le = subst (λ (q : Result Started Stopped). n ≤ m + visits_of q) (sym is) le
+pub visited : (s : Started) (r : Result Started Stopped) (n m : ℕ) → r ≡ Ok s → OnTrue (is_counted s.asked) (n ≤ m + start_visits s) → IfSome (visits_of r) (λ most. n ≤ m + most)
+visited s r n m is le =
+    subst (λ (q : Result Started Stopped). IfSome (visits_of q) (λ most. n ≤ m + most)) (sym is) (bounded_by (is_counted s.asked) (start_visits s) (λ most. n ≤ m + most) le)

@@ -1,5 +1,5 @@
 -- What a run leaves, after what is read before it.
-use Rattle.std.proofs.Common.{◌≡◌, inl, inr, Option, Result, Ok, Err, sym, ap, ◌∙◌, subst}
+use Rattle.std.proofs.Common.{◌≡◌, ℕ, Bool, true, inl, inr, Option, Result, Ok, Err, sym, ap, ◌∙◌, subst}
 use Rattle.room_edge.specs.Outside.{Outside}
 use Rattle.model_tree.specs.Tree.{Tree}
 use Rattle.run_model.specs.Run.{Run, most_cycles}
@@ -15,6 +15,7 @@ use Rattle.answer_model.specs.Asked.{Asked}
 use Rattle.answer_model.specs.Started.{Started, Stopped, started}
 use Rattle.answer_model.specs.Cdpp as answered
 use Rattle.answer_model.specs.Headline.{puts_all}
+use Rattle.answer_model.specs.Visits.{is_counted}
 use Rattle.answer_model.specs.declared.status.Status.{Status}
 use Rattle.answer_model.specs.Status.{IsOf, of_run}
 use Rattle.flat_run.specs.Standing.{Standing, tree_in}
@@ -24,19 +25,20 @@ use Rattle.run_files.specs.Showing.{Showing}
 use Rattle.run_loop.specs.Answers.{MayRun}
 use Rattle.run_loop.specs.Left.{run_of}
 use Rattle.run_loop.specs.Ran.{asking}
-use Rattle.run_loop.specs.Leaves.{Asking, Spent, Leaves, some_made, all_made}
+use Rattle.run_loop.specs.Leaves.{Asking, Spent, spent as spent_of, Leaves, some_made, all_made}
 use Rattle.cdpp_top.specs.declared.unread.Unread.{Unread}
 use Rattle.cdpp_top.specs.declared.unread.Unread.TheVariants as why
 use Rattle.cdpp_top.specs.Unread.{TellsEvents, TellsState, TellsUnread}
 use Rattle.cdpp_top.specs.Stages.{StandsAt}
 use Rattle.cdpp_top.specs.Leaving.{IsUnrun, asking_for, RunLeaves, LeavesOf, OnlyRunsLeave}
+use Rattle.cdpp_top.proofs.Orders.{count_less}
 use Rattle.cdpp_top.proofs.Started.{same_run}
 
 -- ---- no run
 
-pub of_unrun : (r : Result Started Stopped) (old new : Outside) (spent : Spent) (s : Status) → IsUnrun old new spent → LeavesOf r old new spent s
-of_unrun (Ok x) old new spent s u = inl u
-of_unrun (Err e) old new spent s u = u
+pub of_unrun : (r : Result Started Stopped) (old new : Outside) (before after : ℕ) (s : Status) → IsUnrun old new before after → LeavesOf r old new before after s
+of_unrun (Ok x) old new before after s u = inl u
+of_unrun (Err e) old new before after s u = u
 
 -- ---- what is told makes no file
 
@@ -63,45 +65,47 @@ tells_made why.Memory old new s (own, same) = ap (λ (o : Outside). o.made) same
 
 -- ---- after something was read
 
-later_unrun : (old mid new : Outside) (spent : Spent) → mid.made ≡ old.made → IsUnrun mid new spent → IsUnrun old new spent
-later_unrun old mid new spent same u = record { made = u.made ∙ same; visits = u.visits }
+later_unrun : (old mid new : Outside) (before after : ℕ) → mid.made ≡ old.made → IsUnrun mid new before after → IsUnrun old new before after
+later_unrun old mid new before after same u = record { made = u.made ∙ same; visits = u.visits }
 
 later_leaves : (a : Asking) (r : Run) (w : Option Showing) (old mid new : Outside) (spent : Spent) → mid.made ≡ old.made → Leaves a r w mid new spent → Leaves a r w old new spent
 later_leaves a r w old mid new spent same (some_made file made none) = some_made file (made ∙ ap (λ m. puts_all m (made_before a.names file)) same) none
 later_leaves a r w old mid new spent same (all_made begun behind part cycles order made within) =
     all_made begun behind part cycles order (made ∙ ap (λ m. puts_all m (files a.names part)) same) within
 
-later_run : (x : Started) (old mid new : Outside) (spent : Spent) (s : Status) → mid.made ≡ old.made → RunLeaves x mid new spent s → RunLeaves x old new spent s
-later_run x old mid new spent s same (inl u) = inl (later_unrun old mid new spent same u)
-later_run x old mid new spent s same (inr (known, l)) =
-    inr (known, later_leaves (asking_for x.asked x.tree) (answered.run_of x) (showing_at_start x.tree x.from x.asked.frames) old mid new spent same l)
+later_run : (x : Started) (old mid new : Outside) (before after : ℕ) (s : Status) → mid.made ≡ old.made → RunLeaves x mid new before after s → RunLeaves x old new before after s
+later_run x old mid new before after s same (inl u) = inl (later_unrun old mid new before after same u)
+later_run x old mid new before after s same (inr (known, l)) =
+    inr (known, later_leaves (asking_for x.asked x.tree) (answered.run_of x) (showing_at_start x.tree x.from x.asked.frames) old mid new (spent_of (is_counted x.asked) before after) same l)
 
 -- the run of what is started, after the reading
-pub leaves_of_start : (x : Started) (r : Result Started Stopped) (old mid new : Outside) (spent : Spent) (s : Status) → r ≡ Ok x → mid.made ≡ old.made → RunLeaves x mid new spent s → LeavesOf r old new spent s
-leaves_of_start x r old mid new spent s is same leaves =
-    subst (λ (q : Result Started Stopped). LeavesOf q old new spent s) (sym is) (later_run x old mid new spent s same leaves)
+pub leaves_of_start : (x : Started) (r : Result Started Stopped) (old mid new : Outside) (before after : ℕ) (s : Status) → r ≡ Ok x → mid.made ≡ old.made → RunLeaves x mid new before after s → LeavesOf r old new before after s
+leaves_of_start x r old mid new before after s is same leaves =
+    subst (λ (q : Result Started Stopped). LeavesOf q old new before after s) (sym is) (later_run x old mid new before after s same leaves)
 
 -- ---- the run
 
--- that of what is started
-pub leaves_started : (a : code.Asked) (group : Option GroupAt) (r : Standing) (x : Started) (old new : Outside) (spent : Spent) → MayRun a group r → StandsAt a r x
-    → Leaves (asking a r) (run_of (most_cycles a.end a.given.limit) r) (showing_at_start (tree_in r) x.from (asked_of a).frames) old new spent
-    → Leaves (asking_for x.asked x.tree) (answered.run_of x) (showing_at_start x.tree x.from x.asked.frames) old new spent
-leaves_started a group r x old new spent may at_start leaves =
-    let Left : Asked → Tree → Run → Type 0 = λ asked tree run. Leaves (asking_for asked tree) run (showing_at_start tree x.from asked.frames) old new spent in
-    let at_run = subst (Left (asked_of a) (tree_in r)) (same_run a group r x may at_start) leaves in
+-- that of what is started, with the visits that are counted of it
+pub leaves_started : (a : code.Asked) (group : Option GroupAt) (r : Standing) (x : Started) (old new : Outside) (counted : Bool) (before after : ℕ) → MayRun a group r → StandsAt a r x → (is_counted (asked_of a) ≡ true → counted ≡ true)
+    → Leaves (asking a r) (run_of (most_cycles a.end a.given.limit) r) (showing_at_start (tree_in r) x.from (asked_of a).frames) old new (spent_of counted before after)
+    → Leaves (asking_for x.asked x.tree) (answered.run_of x) (showing_at_start x.tree x.from x.asked.frames) old new (spent_of (is_counted x.asked) before after)
+leaves_started a group r x old new counted before after may at_start less leaves =
+    let asks = asking a r in
+    let first = count_less counted (is_counted (asked_of a)) asks (run_of (most_cycles a.end a.given.limit) r) (showing_at_start (tree_in r) x.from (asked_of a).frames) old new before after less leaves in
+    let Left : Asked → Tree → Run → Type 0 = λ asked tree run. Leaves (asking_for asked tree) run (showing_at_start tree x.from asked.frames) old new (spent_of (is_counted asked) before after) in
+    let at_run = subst (Left (asked_of a) (tree_in r)) (same_run a group r x may at_start) first in
     let at_tree = subst (λ (t : Tree). Left (asked_of a) t (answered.run_of x)) at_start.tree_is at_run in
     subst (λ (y : Asked). Left y x.tree (answered.run_of x)) at_start.asked_is at_tree
 
 -- ---- statuses
 
-run_left : (x : Started) (old new : Outside) (spent : Spent) (s : Status) → RunLeaves x old new spent s → ¬ IsOf of_run s → IsUnrun old new spent
-run_left x old new spent s (inl u) other = u
-run_left x old new spent s (inr l) other = absurd (other l.0)
+run_left : (x : Started) (old new : Outside) (before after : ℕ) (s : Status) → RunLeaves x old new before after s → ¬ IsOf of_run s → IsUnrun old new before after
+run_left x old new before after s (inl u) other = u
+run_left x old new before after s (inr l) other = absurd (other l.0)
 
-of_left : (r : Result Started Stopped) (old new : Outside) (spent : Spent) (s : Status) → LeavesOf r old new spent s → ¬ IsOf of_run s → IsUnrun old new spent
-of_left (Ok x) old new spent s l other = run_left x old new spent s l other
-of_left (Err e) old new spent s l other = l
+of_left : (r : Result Started Stopped) (old new : Outside) (before after : ℕ) (s : Status) → LeavesOf r old new before after s → ¬ IsOf of_run s → IsUnrun old new before after
+of_left (Ok x) old new before after s l other = run_left x old new before after s l other
+of_left (Err e) old new before after s l other = l
 
 pub only_runs_leave : OnlyRunsLeave
-only_runs_leave = λ words fs classes old new spent s l other. of_left (started words fs classes) old new spent s l other
+only_runs_leave = λ words fs classes old new before after s l other. of_left (started words fs classes) old new before after s l other

@@ -12,6 +12,7 @@ pub mod Joined
 pub mod Groups
 pub mod Shown
 pub mod Started
+pub mod Orders
 pub mod Leaving
 pub mod Sizes
 pub mod Boxes

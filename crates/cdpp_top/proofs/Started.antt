@@ -1,7 +1,9 @@
 -- A run before its first cycle, from what is asked for and what was read.
-use Rattle.std.proofs.Common.{◌≡◌, ℕ, ◌+◌, true, Option, Some, None, List, [], map, refl, sym, ap, ◌∙◌, subst}
+use Rattle.std.proofs.Common.{◌≡◌, ℕ, ◌+◌, ◌≤◌, Bool, true, Option, Some, None, List, [], map, refl, sym, ap, ◌∙◌, subst}
 use Rattle.std.specs.Prelude.{IsTrue, unwrap_or, replicate}
+use Rattle.std.specs.Bool.{OnTrue}
 use Rattle.std.specs.Option.{is_some}
+use Rattle.std.proofs.lemmas.Bool.{OnTrue_at, OnTrue_from}
 use Rattle.std.proofs.lemmas.Option.{slice_get-map, unwrap_or-slice_get}
 use Rattle.atomic_face.specs.StockView.{Stocked}
 use Rattle.model_tree.specs.declared.table.Model.{Model}
@@ -29,7 +31,7 @@ use Rattle.answer_model.specs.Cdpp as answered
 use Rattle.answer_model.specs.Cdpp.{begins, run_on, answer_from, start_answer}
 use Rattle.answer_model.specs.Resume.{StatesMayBegin}
 use Rattle.answer_model.specs.Started.{Started}
-use Rattle.answer_model.specs.Visits.{state_visits, start_visits}
+use Rattle.answer_model.specs.Visits.{is_counted, state_visits, start_visits}
 use Rattle.run_model.specs.Visits.{visits}
 use Rattle.run_files.specs.Groups.{IsFoundIn, CanShow}
 use Rattle.run_loop.specs.Answers.{MayRun, BeginsFrom, answer_to}
@@ -61,6 +63,17 @@ starts_from a stock m routes group events leaves waiting may at counted waits =
       boxes = may.ready.boxes;
       at_inputs = subst (λ (t : Tree). AreAtInputs (ins_of t) events) same at;
     }
+
+-- a served run starts from the same
+pub sound_with : (a : Asked) (stock : List Stocked) (m : Model) (routes : Routes) (group : Option GroupAt) → MayStart a stock m routes group → IsTrue (is_sound_model (tree_with m stock))
+sound_with a stock m routes group may = subst (λ (t : Tree). IsTrue (is_sound_model t)) (sym (same_tree m stock)) may.ready.sound
+
+pub inputs_with : (m : Model) (stock : List Stocked) (events : List Event) → AreAtInputs (ins_of (tree_on m stock)) events → AreAtInputs (ins_of (tree_with m stock)) events
+inputs_with m stock events at = subst (λ (t : Tree). AreAtInputs (ins_of t) events) (sym (same_tree m stock)) at
+
+-- where it stands is the same, whichever way it is made
+pub made_as : (s r : Standing) (m : Model) (stock : List Stocked) (events : List Event) (end limit : ℕ) → r ≡ s → IsMadeOf s m stock events end limit → IsMadeOf r m stock events end limit
+made_as s r m stock events end limit same made = subst (λ (x : Standing). IsMadeOf x m stock events end limit) (sym same) made
 
 -- ---- a run at its start
 
@@ -159,3 +172,11 @@ module _ (a : Asked) (group : Option GroupAt) (r : Standing) (s : Started) (may 
   pub same_visits : (let x = asked_of a in state_visits x.state (tree_in r) + visits (tree_in r) (run_of (most_cycles a.end a.given.limit) r) + state_visits x.save (tree_in r)) ≡ start_visits s
   same_visits =
       λ i. state_visits (at_start.asked_is i).state (at_start.tree_is i) + visits (at_start.tree_is i) (same_run i) + state_visits (at_start.asked_is i).save (at_start.tree_is i)
+
+-- the bound, where visits are counted
+pub visits_started : (a : Asked) (group : Option GroupAt) (r : Standing) (s : Started) (counted : Bool) (before after : ℕ) → MayRun a group r → StandsAt a r s → (is_counted (asked_of a) ≡ true → counted ≡ true)
+    → (let x = asked_of a in OnTrue counted (after ≤ before + (state_visits x.state (tree_in r) + visits (tree_in r) (run_of (most_cycles a.end a.given.limit) r) + state_visits x.save (tree_in r))))
+    → OnTrue (is_counted s.asked) (after ≤ before + start_visits s)
+visits_started a group r s counted before after may at_start less within =
+    subst (λ x. OnTrue (is_counted x) (after ≤ before + start_visits s)) at_start.asked_is
+    (OnTrue_from (is_counted (asked_of a)) _ (λ on. subst (λ (k : ℕ). after ≤ before + k) (same_visits a group r s may at_start) (OnTrue_at (less on) within)))

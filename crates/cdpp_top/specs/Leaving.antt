@@ -1,22 +1,23 @@
 -- What the run that words ask for leaves: its files, with pieces in their order, and the visits of
 -- the cycles that were begun.
-use Rattle.std.specs.Prelude.{◌≡◌, List, Result, Ok, Err, ◌⊎◌}
+use Rattle.std.specs.Prelude.{◌≡◌, ℕ, List, Result, Ok, Err, ◌⊎◌}
 use Rattle.atomic_face.specs.declared.class.Class.{Class}
 use Rattle.room_edge.specs.Outside.{Files, Outside}
 use Rattle.model_tree.specs.Tree.{Word, Tree}
 use Rattle.answer_model.specs.Asked.{Asked}
 use Rattle.answer_model.specs.Started.{Started, Stopped, started}
 use Rattle.answer_model.specs.Cdpp.{run_of}
+use Rattle.answer_model.specs.Visits.{is_counted}
 use Rattle.answer_model.specs.declared.status.Status.{Status}
 use Rattle.answer_model.specs.Status.{IsOf, of_run}
 use Rattle.run_files.specs.AskedFiles.{names_asked}
 use Rattle.run_files.specs.Groups.{showing_at_start}
-use Rattle.run_loop.specs.Leaves.{Asking, Spent, Leaves}
+use Rattle.run_loop.specs.Leaves.{Asking, spent, Leaves}
 
 -- no file was made, and no leaf was visited
-pub record IsUnrun (old new : Outside) (spent : Spent) : Type 0 where
+pub record IsUnrun (old new : Outside) (before after : ℕ) : Type 0 where
   pub made : new.made ≡ old.made
-  pub visits : spent.after ≡ spent.before
+  pub visits : after ≡ before
 
 -- what is asked of the files of a run of this model
 abbrev pub asking_for : Asked → Tree → Asking
@@ -31,26 +32,28 @@ asking_for a tree =
 
 -- the run that is started was not begun; or the files are those that are asked for, with pieces of
 -- the cycles that were begun, and it ends as a run does
-abbrev pub RunLeaves : Started → Outside → Outside → Spent → Status → Type 0
-RunLeaves s old new spent status =
-    IsUnrun old new spent
+abbrev pub RunLeaves : Started → Outside → Outside → ℕ → ℕ → Status → Type 0
+RunLeaves s old new before after status =
+    IsUnrun old new before after
     ⊎ (IsOf of_run status × Leaves (asking_for s.asked s.tree) (run_of s)
-    (showing_at_start s.tree s.from s.asked.frames) old new spent)
+    (showing_at_start s.tree s.from s.asked.frames) old new
+    (spent (is_counted s.asked) before after))
 
 -- where the reading stops there is no run
-abbrev pub LeavesOf : Result Started Stopped → Outside → Outside → Spent → Status → Type 0
-LeavesOf (Ok s) old new spent status = RunLeaves s old new spent status
-LeavesOf (Err e) old new spent status = IsUnrun old new spent
+abbrev pub LeavesOf : Result Started Stopped → Outside → Outside → ℕ → ℕ → Status → Type 0
+LeavesOf (Ok s) old new before after status = RunLeaves s old new before after status
+LeavesOf (Err e) old new before after status = IsUnrun old new before after
 
--- of what words ask for
-abbrev pub LeavesFor : List Word → Files → List Class → Outside → Outside → Spent → Status → Type 0
-LeavesFor words files classes old new spent status =
-    LeavesOf (started words files classes) old new spent status
+-- of what words ask for, with the visits that were counted before and after
+abbrev pub LeavesFor : List Word → Files → List Class → Outside → Outside → ℕ → ℕ → Status
+    → Type 0
+LeavesFor words files classes old new before after status =
+    LeavesOf (started words files classes) old new before after status
 
 -- where the status is none that a run ends with, no run was begun
 abbrev pub OnlyRunsLeave : Type 0
 OnlyRunsLeave =
-    (words : List Word) (files : Files) (classes : List Class) (old new : Outside) (spent : Spent)
-    (status : Status)
-    → LeavesFor words files classes old new spent status → ¬ IsOf of_run status
-    → IsUnrun old new spent
+    (words : List Word) (files : Files) (classes : List Class) (old new : Outside)
+    (before after : ℕ) (status : Status)
+    → LeavesFor words files classes old new before after status → ¬ IsOf of_run status
+    → IsUnrun old new before after

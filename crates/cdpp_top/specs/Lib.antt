@@ -1,3 +1,4 @@
+pub mod Ways
 pub mod Starting
 pub mod Unread
 pub mod Stages

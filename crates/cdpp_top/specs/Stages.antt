@@ -1,4 +1,4 @@
--- The stages of the program: what each comes to, on the way to the answer.
+-- Private: the stages of the program: what each comes to, on the way to the answer.
 use Rattle.std.specs.Prelude.{◌≡◌, ◌≢◌, ℕ, Option, Some, None, List, [], ◌∷◌, ◌++◌, Result, Ok, Err}
 use Rattle.std.specs.Option.{is_some}
 use Rattle.quantity.specs.Bytes.{Bytes}

@@ -1,4 +1,4 @@
--- What is told where nothing is read that a run could start from.
+-- Private: what is told where nothing is read that a run could start from.
 use Rattle.std.specs.Prelude.{◌≡◌}
 use Rattle.room_edge.specs.Outside.{Outside}
 use Rattle.event_list.specs.declared.refusal.EventRefusal.{EventRefusal}

@@ -11,8 +11,10 @@ ghost use Rattle.answer_model.specs.Asked.{made};
 ghost use Rattle.answer_model.specs.Started.{drawing_of, inputs_read, started};
 ghost use Rattle.asked_words.specs.Shown.{asked_of, source_of, IsInBounds, IsOfSize};
 ghost use Rattle.run_loop.specs.Answers.{MayRun};
+ghost use Rattle.run_loop.specs.Marked.{IsOrdered};
 ghost use Rattle.cdpp_top.specs.Starting.{classes_by, tree_on};
 ghost use Rattle.cdpp_top.specs.Stages.{model_in, ReadCauses, ReadsStart, StandsAt, StartCauses};
+ghost use Rattle.cdpp_top.specs.Ways.{standing_in, marking_in};
 
 use crate::events::read_events;
 use crate::start::{Start, run_at_start, runs_may_run};
@@ -35,13 +37,14 @@ pub(crate) fn read<'a, R: Room, M: AtomicModel>(
 ) -> Result<Start<'a, M>, Unread>
     requires few { length boxes.items < 2 ^ 32 }
     ensures reads { IfSome (R.outside room.old).files (λ files. ReadsStart
-        (λ x. StandsAt x.asked x.run)
+        (λ x. StandsAt x.asked (standing_in x.run))
         (started (map string_bytes words.entry.now) files (classes_by (λ m. M.held m) boxes.items))
         (R.outside room.old) (R.outside room.new) result) }
     ensures causes { StartCauses (map string_bytes words.entry.now)
         (R.outside room.old) (R.outside room.new) result }
     ensures only { OnlyInput (R.outside room.old) (R.outside room.new) }
-    ensures may_run { IfOk result (λ x. MayRun x.asked x.drawn x.run) }
+    ensures may_run { IfOk result (λ x. MayRun x.asked x.drawn (standing_in x.run)) }
+    ensures ordered { IfOk result (λ x. IsOrdered x.asked (marking_in x.run)) }
 {
     match read_words(alloc, words) {
         Ok(Some(asked)) => read_inputs(alloc, asked, boxes, room),
@@ -61,12 +64,13 @@ fn read_inputs<'a, R: Room, M: AtomicModel>(
     requires few { length boxes.items < 2 ^ 32 }
     requires bounds { IsInBounds asked }
     ensures reads { IfSome (R.outside room.old).files (λ files. ReadsStart
-        (λ x. StandsAt x.asked x.run)
+        (λ x. StandsAt x.asked (standing_in x.run))
         (inputs_read (asked_of asked.entry) files (classes_by (λ m. M.held m) boxes.items))
         (R.outside room.old) (R.outside room.new) result) }
     ensures causes { ReadCauses (R.outside room.old) (R.outside room.new) result }
     ensures only { OnlyInput (R.outside room.old) (R.outside room.new) }
-    ensures may_run { IfOk result (λ x. MayRun x.asked x.drawn x.run) }
+    ensures may_run { IfOk result (λ x. MayRun x.asked x.drawn (standing_in x.run)) }
+    ensures ordered { IfOk result (λ x. IsOrdered x.asked (marking_in x.run)) }
 {
     runs_may_run();
     let mut stock = Stock::new(alloc, boxes)?;

@@ -1,23 +1,28 @@
 // The run of what was read.
-ghost use Rattle.std.specs.Prelude.{◌≡◌, ◌+◌, ◌≤◌, true};
+ghost use Rattle.std.specs.Prelude.{◌≡◌, ◌+◌, ◌≤◌, IsTrue};
+ghost use Rattle.std.specs.Bool.{OnTrue};
 ghost use Rattle.room_edge.specs.Faults.{WriteFaultCounted};
 ghost use Rattle.answer_model.specs.declared.status.Status.TheVariants.{WriteFault};
 ghost use Rattle.answer_model.specs.Status.{of_run, IsOf};
 ghost use Rattle.answer_model.specs.Started.{Started};
 ghost use Rattle.answer_model.specs.Cdpp.{start_answer};
-ghost use Rattle.answer_model.specs.Visits.{start_visits};
+ghost use Rattle.answer_model.specs.Visits.{is_counted, start_visits};
 ghost use Rattle.answer_model.specs.Endings.{looked_for, EndsWith};
 ghost use Rattle.answer_model.specs.FaultsAnswered.{AnswersFaults};
+ghost use Rattle.asked_words.specs.Shown.{asked_of};
 ghost use Rattle.run_loop.specs.Answers.{MayRun};
-ghost use Rattle.run_loop.specs.Leaves.{spent};
+ghost use Rattle.run_loop.specs.Marked.{IsOrdered};
 ghost use Rattle.cdpp_top.specs.Leaving.{RunLeaves};
 ghost use Rattle.cdpp_top.specs.Stages.{StandsAt};
+ghost use Rattle.cdpp_top.specs.Ways.{standing_in, marking_in};
 
 use crate::start::Start;
+use crate::way::Way;
+use asked_words::{Asked, GroupAt};
 use atomic_face::AtomicModel;
 use flat_run::Steps;
 use room_edge::Room;
-use run_loop::run_and_tell;
+use run_loop::{Resumable, run_and_tell};
 use std::alloc::Global;
 use std::sync::ledger::Ledger;
 use told_lines::Status;
@@ -29,9 +34,10 @@ pub(crate) fn run<R: Room, M: AtomicModel, L: Ledger>(
     start: Start<'_, M>,
     steps: &mut Steps<L>,
 ) -> Status
-    requires { MayRun start.asked start.drawn start.run }
+    requires may_run { MayRun start.asked start.drawn (standing_in start.run) }
+    requires ordered { IsOrdered start.asked (marking_in start.run) }
     // Of what is started.
-    ensures ends { (s : Started) → StandsAt start.entry.asked start.entry.run s
+    ensures ends { (s : Started) → StandsAt start.entry.asked (standing_in start.entry.run) s
         → EndsWith (start_answer s) (looked_for s.inputs)
         (R.outside room.old) (R.outside room.new) result }
     ensures known { IsOf of_run result }
@@ -39,17 +45,47 @@ pub(crate) fn run<R: Room, M: AtomicModel, L: Ledger>(
         → WriteFaultCounted (R.outside room.old) (R.outside room.new) }
     // Each fault that was counted shows in the status.
     ensures faults { AnswersFaults (R.outside room.old) (R.outside room.new) result }
-    // The visits that the reference run may cost, and those of a state that is read or saved.
-    ensures visits { (s : Started) → StandsAt start.entry.asked start.entry.run s
-        → steps.new ≤ steps.old + start_visits s }
+    // The visits that the reference run may cost, and those of a state that is read or saved, where
+    // they are counted.
+    ensures visits { (s : Started) → StandsAt start.entry.asked (standing_in start.entry.run) s
+        → OnTrue (is_counted s.asked) (steps.new ≤ steps.old + start_visits s) }
     // The files that the run leaves, and the visits of the cycles that were begun.
-    ensures leaves { (s : Started) → StandsAt start.entry.asked start.entry.run s
-        → RunLeaves s (R.outside room.old) (R.outside room.new) (spent true steps.old steps.new)
-        result }
+    ensures leaves { (s : Started) → StandsAt start.entry.asked (standing_in start.entry.run) s
+        → RunLeaves s (R.outside room.old) (R.outside room.new) steps.old steps.new result }
 {
-    let asked = start.asked;
-    let mut run = start.run;
-    let status = run_and_tell(alloc, room, &asked, start.drawn, &mut run, steps);
+    let Start { asked, drawn, run } = start;
+    match run {
+        Way::Flat(flat) => run_to_end(alloc, room, asked, drawn, flat, steps),
+        Way::Served(served) => run_to_end(alloc, room, asked, drawn, served, steps),
+    }
+}
+
+/// Runs a run of either kind, for what is asked.
+fn run_to_end<R: Room, C: Resumable<L> + Drop, L: Ledger>(
+    alloc: Global,
+    room: &mut R,
+    asked: Asked<'_>,
+    drawn: Option<GroupAt>,
+    mut run: C,
+    steps: &mut Steps<L>,
+) -> Status
+    requires may_run { MayRun asked drawn (C.standing run) }
+    requires ordered { IsOrdered asked (C.marking run) }
+    // The visits are bounded where they are counted.
+    requires counted { (IsTrue (is_counted (asked_of asked)) → IsTrue C.is_counted) }
+    ensures ends { (s : Started) → StandsAt asked.entry (C.standing run) s
+        → EndsWith (start_answer s) (looked_for s.inputs)
+        (R.outside room.old) (R.outside room.new) result }
+    ensures known { IsOf of_run result }
+    ensures write_fault { result ≡ WriteFault
+        → WriteFaultCounted (R.outside room.old) (R.outside room.new) }
+    ensures faults { AnswersFaults (R.outside room.old) (R.outside room.new) result }
+    ensures visits { (s : Started) → StandsAt asked.entry (C.standing run) s
+        → OnTrue (is_counted s.asked) (steps.new ≤ steps.old + start_visits s) }
+    ensures leaves { (s : Started) → StandsAt asked.entry (C.standing run) s
+        → RunLeaves s (R.outside room.old) (R.outside room.new) steps.old steps.new result }
+{
+    let status = run_and_tell(alloc, room, &asked, drawn, &mut run, steps);
     drop(run);
     status
 }

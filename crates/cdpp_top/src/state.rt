@@ -1,11 +1,13 @@
 // The state that a run goes on from.
-ghost use Rattle.std.specs.Prelude.{Some, IfSome, IfOk, MatchResult};
+ghost use Rattle.std.specs.Prelude.{◌≡◌, Some, None, IfSome, IfOk, MatchResult};
 ghost use Rattle.room_edge.specs.Outside.{OnlyInput};
 ghost use Rattle.asked_words.specs.Shown.{text_of_name};
 ghost use Rattle.cdpp_top.specs.Stages.{GoesOnBy, HasText, HasNoText, ReadsState, ReadCauses};
 ghost use Rattle.cdpp_top.specs.Starting.{IsResumed, MayGoOn};
+ghost use Rattle.cdpp_top.specs.Ways.{standing_in, marking_in, stands_read};
 
 use crate::unread::Unread;
+use crate::way::Way;
 use atomic_face::AtomicModel;
 use flat_run::FlatRun;
 use linked_queue::LinkedQueue;
@@ -14,12 +16,42 @@ use room_edge::{ReadWhole, Room, read_whole};
 use state_file::load_state;
 use std::alloc::Global;
 use text_forms::StateRefusal;
+use tree_serve::ServedRun;
 
 // The most bytes that a file of a state may have.
 const LONGEST: u32 = MAX_LOG_BYTES as u32;
 
-/// The run goes on from the state of the file of this name, where one is named.
+/// The run goes on from the state of the file of this name, where one is named: never one whose
+/// messages are served in an order.
 pub(crate) fn read_state<R: Room, M: AtomicModel>(
+    alloc: Global,
+    room: &mut R,
+    name: Option<&str>,
+    run: Way<FlatRun<LinkedQueue, M>, ServedRun<M>>,
+    end: Time,
+) -> Result<Way<FlatRun<LinkedQueue, M>, ServedRun<M>>, Unread>
+    requires may_go_on { MayGoOn (standing_in run) }
+    requires unserved { IfSome (marking_in run) (λ m. text_of_name name ≡ None) }
+    ensures reads { IfSome (R.outside room.old).files (λ files. ReadsState
+        (text_of_name name.entry) (standing_in run) end files
+        (R.outside room.old) (R.outside room.new) (stands_read result)) }
+    ensures causes { ReadCauses (R.outside room.old) (R.outside room.new) result }
+    ensures only { OnlyInput (R.outside room.old) (R.outside room.new) }
+    ensures goes_on { IfOk result (λ w.
+        IsResumed (text_of_name name.entry) (standing_in run) end (standing_in w)) }
+    ensures marked { IfOk result (λ w. marking_in w ≡ marking_in run) }
+{
+    match run {
+        Way::Flat(flat) => match read_flat_state(alloc, room, name, flat, end) {
+            Ok(loaded) => Ok(Way::Flat(loaded)),
+            Err(why) => Err(why),
+        },
+        Way::Served(served) => Ok(Way::Served(served)),
+    }
+}
+
+/// The flat run goes on from the state of the file of this name, where one is named.
+fn read_flat_state<R: Room, M: AtomicModel>(
     alloc: Global,
     room: &mut R,
     name: Option<&str>,

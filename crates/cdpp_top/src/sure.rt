@@ -17,7 +17,7 @@ use std::sync::ledger::Ledger;
 use told_lines::Status;
 
 /// Runs the program over a room that never fails: what comes is the answer, but for want of memory,
-/// with no more visits than the reference run may cost.
+/// with no more visits than the reference run may cost, where they are counted.
 pub fn cdpp_surely<L: Ledger>(
     alloc: Global,
     words: &[String],
@@ -30,9 +30,10 @@ pub fn cdpp_surely<L: Ledger>(
         (answer (map string_bytes words.now) files
         (classes_by (λ b. (AtomicModel-box b).held b.value) boxes.items))
         (sure_outside room.old) (sure_outside room.new) result) }
-    ensures visits { IfSome (sure_outside room.old).files (λ files. steps.new ≤ steps.old
-        + visits_for (map string_bytes words.now) files
-        (classes_by (λ b. (AtomicModel-box b).held b.value) boxes.items)) }
+    ensures visits { IfSome (sure_outside room.old).files (λ files. IfSome
+        (visits_for (map string_bytes words.now) files
+        (classes_by (λ b. (AtomicModel-box b).held b.value) boxes.items))
+        (λ most. steps.new ≤ steps.old + most)) }
 {
     cdpp(alloc, words, boxes, room, steps)
 }

@@ -1,5 +1,5 @@
 -- One part of a cell's step after another.
-use Rattle.std.proofs.Common.{◌≡◌, ℕ, ◌+◌, ◌<◌, List, length, drop, get_or, set, sym, ◌∙◌, ap, subst, Ok, Err}
+use Rattle.std.proofs.Common.{◌≡◌, ℕ, ◌+◌, ◌<◌, List, [], length, drop, get_or, set, refl, sym, ◌∙◌, ap, subst, Ok, Err}
 use Rattle.std.specs.declared.result.Result.{Result}
 use Rattle.std.proofs.lemmas.List.{set-set, get_or-set_same, drop_more}
 use Rattle.quantity.specs.declared.value.Value.{Value}
@@ -38,6 +38,12 @@ then-goes U V i old mid new (Ok c) go u r here first second =
     let at : cell_at mid i ≡ c = ap (λ (cs : List CellState). cell_at cs i) first ∙ get_or-set_same old i c no_cell here in
     from-set V i old mid new c (go c) r first (subst (λ (x : CellState). Computes i mid new (go x) r) at second)
 then-goes U V i old mid new (Err why) go u r here first second = absurd first
+
+-- where no value is treated, the first part is all
+pub no_bag : (g : Group) (i t : ℕ) (sight : Sight) (s : Stepped)
+    → and_then s (all_treated g i t sight []) ≡ s
+no_bag g i t sight (Ok c) = refl
+no_bag g i t sight (Err why) = refl
 
 -- where the first part stops, both stop so
 pub then-stops : (U V : Type 0) (i : ℕ) (old mid old' new' : List CellState) (s : Stepped) (go : CellState → Stepped) (why : CellStop)

@@ -1,12 +1,12 @@
 -- What a sound group gives a store.
-use Rattle.std.proofs.Common.{◌≡◌, ℕ, zero, suc, ◌+◌, ◌<◌, ◌≤◌, Bool, true, Option, Some, None, List, [], ◌∷◌, ◌++◌, map, length, get_or, sym, ◌∙◌, ap, arith, zero-add}
+use Rattle.std.proofs.Common.{◌≡◌, ℕ, zero, suc, ◌+◌, ◌<◌, ◌≤◌, Bool, true, Option, Some, None, List, [], ◌∷◌, map, length, get_or, replicate, refl, sym, ◌∙◌, ap, arith, zero-add}
 use Rattle.std.specs.Prelude.{not, ◌&&◌, ◌==◌, nat_le, nat_lt, slice_get}
 use Rattle.std.specs.List.{list_all, range_with_len}
 use Rattle.std.specs.Option.{unwrap_or}
 use Rattle.std.proofs.lemmas.Bool.{and_parts}
 use Rattle.std.proofs.lemmas.Bool.Decides.{nat_tests}
-use Rattle.std.proofs.lemmas.List.{length-map}
-use Rattle.std.proofs.lemmas.List.FromFn.{length-map-range_with_len, get_or-map-range_with_len, map-range_with_len_more}
+use Rattle.std.proofs.lemmas.List.{length-map, length-replicate, get_or-replicate}
+use Rattle.std.proofs.lemmas.List.FromFn.{length-map-range_with_len, get_or-map-range_with_len, fill_by_all}
 use Rattle.quantity.specs.declared.place.Offset.{Offset}
 use Rattle.quantity.specs.Bytes.{is_empty, has_repeat}
 use Rattle.rule_tree.specs.Phrases.{out}
@@ -14,6 +14,7 @@ use Rattle.rule_tree.specs.Scope.{is_sound}
 use Rattle.rule_forms.specs.RuleCodes.{codes_of}
 use Rattle.cell_grid.specs.Space.{Space, cell_count}
 use Rattle.cell_grid.specs.Zones.{zone_of}
+use Rattle.cell_grid.specs.Numbered.{numbered}
 use Rattle.cell_reach.specs.Neighbourhoods.{Neighbourhood}
 use Rattle.model_tree.specs.declared.group.PortRule.{PortRule}
 use Rattle.model_tree.specs.Tree.{Group}
@@ -157,6 +158,16 @@ is_plan g l n sound st near =
 pub near_is : (n : Neighbourhood) (s : Space) (xs : List Offset) → n ≡ record { space = s; offsets = xs } → n ≡ record { space = s; offsets = n.offsets }
 near_is n s xs e = λ k. record { space = (ap (λ (m : Neighbourhood). m.space) e) k; offsets = n.offsets }
 
--- one number more
-pub range_more : (f : ℕ → ℕ) (n : ℕ) → map f (range_with_len 0 (n + 1)) ≡ map f (range_with_len 0 n) ++ f n ∷ []
-range_more f n = map-range_with_len_more f 0 n n (zero-add n)
+-- zones laid over as many zeros as there are cells
+pub laid-sets : (g : Group) (zeros sets : List ℕ) → zeros ≡ replicate (cell_count g.space) 0 → length sets ≡ length zeros
+    → ((cell : ℕ) → cell < cell_count g.space → get_or sets cell 0 ≡ numbered g.zone_rules (get_or zeros cell 0) (zone_of g.zones g.space cell))
+    → sets ≡ map (set_of g) (range_with_len 0 (cell_count g.space))
+laid-sets g zeros sets are long laid =
+    let count = cell_count g.space in
+    fill_by_all (set_of g) sets count 0 (long ∙ ap length are ∙ length-replicate count 0) (λ k lt.
+    laid k lt ∙ ap (λ z. numbered g.zone_rules z (zone_of g.zones g.space k)) (ap (λ zs. get_or zs k 0) are ∙ get_or-replicate count k 0 0 lt)
+    ∙ by (zone_of g.zones g.space k))
+  where
+    by : (o : Option ℕ) → numbered g.zone_rules 0 o ≡ set_in g o
+    by None = refl
+    by (Some z) = refl

@@ -47,6 +47,18 @@ two_changes i f g t u w first second =
     ap (λ (x : Table). x.cells) second ∙ ap (λ (x : Table). changed_at i g x.cells) first
     ∙ changed-twice i g f t.cells ∙ changed-set i (λ c. g (f c)) no_cell t.cells
 
+-- what is taken changes the ports of one cell
+pub ports_only : (i : ℕ) (kind : DelayKind) (at : ℕ) (gs : List (ℕ × Value)) (t u : Table)
+    → u ≡ changed_cell i (changed_ports (took kind at gs)) t
+    → u.cells
+    ≡ set t.cells i (record {
+      ports = took kind at gs (cell_at t.cells i).ports;
+      variables = (cell_at t.cells i).variables;
+    })
+ports_only i kind at gs t u is =
+    ap (λ (x : Table). x.cells) is
+    ∙ changed-set i (changed_ports (took kind at gs)) no_cell t.cells
+
 -- variables that are set leave all else
 pub only_variables : (i : ℕ) (vs : List Value) (t u w : Table) → i < length t.cells → OnlyCell i t.cells u.cells → HasShape t u → w ≡ changed_cell i (with_variables vs) u → OnlyCell i t.cells w.cells
 only_variables i vs t u w here only shape is =

@@ -1,4 +1,4 @@
--- When a store is ready for each step of its cells. Only private clauses name this.
+-- Private: when a store is ready for each step of its cells.
 use Rattle.std.specs.Prelude.{◌≡◌, ℕ, ◌+◌, ◌*◌, ◌≤◌, ◌<◌, length}
 use Rattle.std.specs.List.{All}
 use Rattle.quantity.specs.declared.bounds.TheConstants.{MAX_DELAY}

@@ -57,7 +57,7 @@ pub(crate) fn advance(
 }
 
 /// A cell takes what its rules give, where it is woken.
-fn wake(
+pub(crate) fn wake(
     plan: &Plan,
     i: u32,
     t: Time,

@@ -5,15 +5,16 @@ ghost use Rattle.cell_engine.specs.Store.{HasRoom};
 use crate::make::deepest_of_sets;
 use crate::plan::Plan;
 use quantity::{OutOfMemory, Value};
-use rule_eval::Stack;
+use rule_eval::{Given, Stack};
 use std::alloc::Global;
 
-/// Room that each step uses again: who the neighbours are, what a cell sees of them, its variables
-/// after the sets, and the stack on which rules are evaluated.
+/// Room that each step uses again: who the neighbours are, what a cell sees of them, what it is
+/// given, its variables after the sets, and the stack on which rules are evaluated.
 #[derive(Drop)]
 pub(crate) struct Desk {
     pub neighbours: Vec<Option<u32>>,
     pub seen: Vec<Value>,
+    pub given: Given,
     pub changed: Vec<Value>,
     pub stack: Stack,
 }
@@ -32,6 +33,7 @@ pub(crate) fn desk_for(
     Ok(Desk {
         neighbours: vec![in alloc; None; places]?,
         seen: vec![in alloc; Value::Undefined; places * width]?,
+        given: Given { values: [None; 4] },
         changed: vec![in alloc; Value::Undefined; plan.variables]?,
         stack: Stack::for_depth(alloc, deepest_of_sets(&plan.codes))?,
     })

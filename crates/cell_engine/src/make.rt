@@ -1,7 +1,6 @@
 // What a store keeps of a group, and its cells at the start, made from the group.
-ghost use Rattle.std.specs.Prelude.{◌≡◌, ◌<◌, ◌≤◌, [], ◌∷◌, ◌++◌, IfOk, OnOk, IsTrue, map, slice_get};
+ghost use Rattle.std.specs.Prelude.{◌≡◌, ◌<◌, ◌≤◌, [], ◌∷◌, ◌++◌, IfOk, OnOk, IsTrue, map};
 ghost use Rattle.std.specs.List.{All, range_with_len};
-ghost use Rattle.std.specs.Option.{unwrap_or};
 ghost use Rattle.rule_tree.specs.Expression.{rule_of};
 ghost use Rattle.rule_forms.specs.RuleCodes.{codes_of, rule_depth};
 ghost use Rattle.cell_grid.specs.Space.{cell_count};
@@ -47,6 +46,7 @@ pub(crate) fn table_of(alloc: Global, group: &CellGroup) -> Result<CellTable, Ou
     ensures { IfOk result (λ t. t ≡ starting group.now.initial group.now.port_values.items
         group.now.variable_values.items) }
 {
+    // For the proof: there are at most `MAX_CELLS` cells.
     let _most = group.grid.cells();
     let initial = group.initial.values();
     CellTable::new(alloc, initial, &group.port_values, &group.variable_values)
@@ -116,37 +116,13 @@ fn add_code(codes: &mut Vec<RuleCode>, code: RuleCode) -> Result<(), OutOfMemory
 }
 
 /// For each cell the number of its rule set.
-#[tactic(auto, using(crate::proofs::Planned::range_more))]
 fn sets_of_cells(alloc: Global, group: &CellGroup) -> Result<Vec<usize>, OutOfMemory>
     ensures { IfOk result (λ sets. sets.items
         ≡ map (set_of (group_of group.now)) (range_with_len 0 (cell_count group.now.grid))) }
 {
-    let mut sets = Vec::new(alloc);
-    for cell in 0..group.grid.cells() {
-        sets.push(set_of(group, cell)).map_err(AllocError::from)?;
-    }
+    let mut sets = vec![in alloc; 0; group.grid.cells() as usize]?;
+    group.zones.lay(&group.grid, &group.zone_rules, &mut sets);
     Ok(sets)
-}
-
-/// The number of a cell's rule set.
-fn set_of(group: &CellGroup, cell: u32) -> usize
-    requires { cell < cell_count group.now.grid }
-    ensures { result ≡ set_of (group_of group.now) cell }
-{
-    match group.zones.rules_of(&group.grid, cell) {
-        None => 0,
-        Some(zone) => number_at(&group.zone_rules, zone),
-    }
-}
-
-/// The number that stands at a place, or 0.
-fn number_at(numbers: &[usize], k: usize) -> usize
-    ensures { result ≡ unwrap_or (slice_get numbers.now k) 0 }
-{
-    match numbers.get(k) {
-        Some(number) => *number,
-        None => 0,
-    }
 }
 
 /// The same rules of ports.

@@ -97,6 +97,7 @@ fn look_at_outs(
     requires room { length seen.old ≡ length plan.now.offsets }
     ensures { seen.new ≡ map (out_of emitted.now) (neighbours (near plan.now) i) }
 {
+    // For the proof: there are at most `MAX_CELLS` cells.
     let _most = plan.grid.cells();
     match plan.reach.differences_at(place) {
         Some(differences) => see_further(emitted, i, differences, seen),

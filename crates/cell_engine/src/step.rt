@@ -19,7 +19,7 @@ use crate::plan::Plan;
 use crate::sight::{look, place_of, view};
 use cell_table::CellTable;
 use quantity::{DelayKind, OutOfMemory, Time, Value};
-use rule_eval::{Given, RuleCode, evaluate};
+use rule_eval::{Given, RuleCode, evaluate_into};
 use rule_tree::RuleStop;
 
 /// A cell takes what the first true rule gives over what it sees, with a value at the port that the
@@ -48,10 +48,19 @@ pub(crate) fn by_rules(
     let place = place_of(plan, i);
     look(plan, table, i, place, &mut desk.neighbours, &mut desk.seen);
     let view = view(plan, table, i, place, t, port, &desk.seen);
-    match evaluate(rules, &view, &mut desk.changed, &mut desk.stack) {
-        Ok((given, delay)) => {
-            let at = later(t, delay);
-            take_made(table, i, plan.kind, at, &given, &desk.changed)
+    match evaluate_into(
+        rules,
+        &view,
+        &mut desk.changed,
+        &mut desk.given,
+        &mut desk.stack,
+    ) {
+        Ok(made) => {
+            let at = later(t, made.1);
+            match made.0 {
+                Some(known) => take_lent(table, i, plan.kind, at, &known.given),
+                None => take_made(table, i, plan.kind, at, &desk.given, &desk.changed),
+            }
         }
         Err(stop) => Err(stop_of(stop)),
     }
@@ -77,8 +86,33 @@ fn stop_of(stop: RuleStop) -> CellStop
     }
 }
 
-/// A cell takes values after a delay, and its variables have these values.
+/// A cell takes values after a delay, and its variables stay.
 #[inline(always)]
+fn take_lent(
+    table: &mut CellTable,
+    i: u32,
+    kind: DelayKind,
+    at: Time,
+    given: &Given,
+) -> Result<(), CellStop>
+    requires cell { i < length table.old.cells }
+    ensures cell { (gs : List (ℕ × AnyValue)) → AreGiven gs given.now.values
+        → OnOk result (table.new.cells ≡ slice_set table.old.cells i (record {
+          ports = took kind at gs (cell_at table.old.cells i).ports;
+          variables = (cell_at table.old.cells i).variables;
+        })) }
+    ensures memory { OnErr result (result ≡ Err CellStop.Memory) }
+    ensures only { OnlyCell i table.old.cells table.new.cells }
+    ensures shape { HasShape table.old table.new }
+{
+    let Ok(()) = take(table, i, kind, at, given) else {
+        return Err(CellStop::Memory);
+    };
+    Ok(())
+}
+
+/// A cell takes values after a delay, and its variables have these values.
+#[inline(never)]
 fn take_made(
     table: &mut CellTable,
     i: u32,
@@ -120,6 +154,7 @@ pub(crate) fn take(
     ensures only { OnlyCell i table.old.cells table.new.cells }
     ensures shape { HasShape table.old table.new }
 {
+    // For the proof: each cell has `width` ports, at most 4, and at most 8 variables.
     let _width = table.width();
     table.take(i, kind, at, given)
 }

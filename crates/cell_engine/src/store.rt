@@ -1,5 +1,5 @@
 // The cells of a group, and what one step makes of a cell.
-ghost use Rattle.std.specs.Prelude.{◌≡◌, ℕ, ◌+◌, ◌<◌, ◌≤◌, [], ◌∷◌, length, map, OnOk, OnErr, IfOk, IsTrue, Ok, Some, slice_get, slice_index_or};
+ghost use Rattle.std.specs.Prelude.{◌≡◌, ℕ, ◌+◌, ◌<◌, ◌≤◌, [], ◌∷◌, ◌++◌, length, map, OnOk, OnErr, IfOk, IsTrue, Ok, Some, slice_get, slice_index_or};
 ghost use Rattle.std.specs.List.{All};
 ghost use Rattle.quantity.specs.declared.bounds.TheConstants.{MAX_CELLS, MAX_DELAY};
 ghost use Rattle.quantity.specs.declared.value.Value.{Value as AnyValue};
@@ -14,7 +14,7 @@ ghost use Rattle.cell_table.specs.Told.{cell_at, computed_of, Tells, bag_of_give
 ghost use Rattle.cell_table.specs.Saved.{cell_of_saved};
 ghost use Rattle.cell_engine.specs.Cells.{Cells, with_cell, computed_at, Computes, CanBePut};
 
-use crate::bag::advance;
+use crate::bag::{advance, wake};
 use crate::desk::{Desk, desk_for};
 use crate::make::{plan_of, table_of};
 use crate::plan::Plan;
@@ -121,6 +121,27 @@ impl CellStore {
         self.table.emit(i, t)
     }
 
+    /// The same, appended to a bag. Where memory is refused the cell has given too.
+    #[inline(always)]
+    pub fn emit_into<L: Ledger>(
+        &mut self,
+        i: u32,
+        t: Time,
+        into: &mut Vec<(PortNo, Value)>,
+        steps: &mut Steps<L>,
+    ) -> Result<(), OutOfMemory>
+        requires within { i < length self.old.cells }
+        requires due { cell_next (cell_at self.old.cells i) ≡ Some t }
+        ensures given { OnOk result (into.new.items
+            ≡ into.old.items ++ cell_output t (cell_at self.old.cells i)) }
+        ensures cells { self.new ≡ with_cell self.old i
+            (cell_emitted t (cell_at self.old.cells i)) }
+        ensures steps { steps.new ≡ steps.old + 1 }
+    {
+        steps.tick();
+        self.table.emit_into(i, t, into)
+    }
+
     /// A cell after its emission moves: where it is woken its rules are evaluated over what the
     /// cells gave, and then each value of its bag is treated. `ports` are the names of the cell's
     /// input ports by number. One visit, and one for each offset. After a stop nothing is promised
@@ -158,6 +179,31 @@ impl CellStore {
             &mut self.table,
             &mut self.desk,
         )
+    }
+
+    /// The same of a cell without a bag: its ports have no part in it.
+    #[inline(always)]
+    pub fn compute_alone<L: Ledger>(
+        &mut self,
+        i: u32,
+        t: Time,
+        woken: bool,
+        steps: &mut Steps<L>,
+    ) -> Result<(), CellStop>
+        requires within { i < length self.old.cells }
+        requires time { t ≤ MAX_DELAY }
+        // For every group that the store stands for.
+        ensures computed { (g : Group) → StandsFor g self.old.layout → IsTrue (is_sound_group g)
+            → Computes i self.old.cells self.new.cells
+            (computed_at t g self.old.cells i woken []) result }
+        ensures layout { self.new.layout ≡ self.old.layout }
+        ensures only { OnlyCell i self.old.cells self.new.cells }
+        ensures steps { steps.new ≡ steps.old + (1 + length self.old.layout.offsets) }
+    {
+        steps.tick();
+        let places = self.desk.neighbours.len();
+        steps.count(places);
+        wake(&self.plan, i, t, woken, &mut self.table, &mut self.desk)
     }
 
     /// The state of a cell.

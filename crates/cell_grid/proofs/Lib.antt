@@ -11,3 +11,4 @@ pub mod Watching
 pub mod RowTests
 pub mod Offsets
 pub mod PlaceTuples
+pub mod Laid

@@ -1,4 +1,4 @@
--- Values that are read one after another.
+-- Private: values that are read one after another.
 use Rattle.std.specs.Prelude.{ℕ, ◌==◌, Option, List, map, length, ◌++◌}
 use Rattle.std.specs.List.{flat_map, slice_split}
 use Rattle.std.specs.Option.{option_and_then}

@@ -26,7 +26,7 @@ impl Step {
         }
     }
 
-    /// The step back.
+    /// The step that leads back from where the offset leads.
     pub fn back(offset: Offset) -> Step
         ensures { offset_of_step result ≡ opposite offset }
     {

@@ -1,4 +1,5 @@
--- Where steps lead equally far from each place, and the places from which none leads past an edge.
+-- Private: where steps lead equally far from each place, and the places from which none leads past
+-- an edge.
 use Rattle.std.specs.Prelude.{◌≡◌, ℕ, ◌+◌, ◌<◌, ◌≤◌, ◌↔◌, Some, List, map, ℤ}
 use Rattle.std.specs.List.{All}
 use Rattle.quantity.specs.declared.place.Place.{Place}

@@ -1,11 +1,9 @@
 -- The cells at the start, in flat lists.
-use Rattle.std.proofs.Common.{◌≡◌, ℕ, zero, suc, ◌+◌, ◌-◌, ◌*◌, ◌<◌, ◌≤◌, List, [], ◌∷◌, ◌++◌, map, length, get_or, set, take, replicate, refl, sym, ◌∙◌, ap, arith, zero-add, append-nil}
+use Rattle.std.proofs.Common.{◌≡◌, ℕ, zero, suc, ◌+◌, ◌*◌, ◌<◌, List, [], ◌∷◌, ◌++◌, map, length, get_or, take, replicate, refl, sym, ◌∙◌, ap, arith, zero-add, append-nil}
 use Rattle.std.specs.List.{flat_map, range_with_len}
-use Rattle.std.proofs.lemmas.List.{take_more, take_all, length-append, length-map, get_or_append_left, get_or-append-add, get_or-map, length-take-le, get_or_at, set_at, map_more, append_assoc}
+use Rattle.std.proofs.lemmas.List.{take_more, length-append, length-map, get_or_append_left, get_or-append-add, get_or-map}
 use Rattle.std.proofs.lemmas.List.Concat.{flat_map-append}
-use Rattle.std.proofs.lemmas.Nat.{mul-le}
 use Rattle.std.proofs.Math.Nat.{add-mul}
-use Rattle.quantity.specs.Delay.{put_pair}
 use Rattle.quantity.specs.declared.value.Value.{Value}
 use Rattle.quantity.specs.declared.value.Value.TheVariants.{Undefined}
 use Rattle.run_model.specs.CellStep.{PortState, initial_port}
@@ -98,30 +96,7 @@ module _ (initial further xs : List Value) (m : ℕ) where
 pub ports_long : (outs further : List Value) → length (flat_map (λ v. v ∷ further) outs) ≡ length outs * (length further + 1)
 ports_long outs further = flat_long (λ v. v ∷ further) (length further + 1) outs (λ v. omega arith)
 
-pub few_ports : (outs further : List Value) → length outs ≤ 1048576 → length further ≤ 3 → length (flat_map (λ v. v ∷ further) outs) ≤ 4194304
-few_ports outs further a b = omega (arith, ports_long outs further, mul-le (length outs) (length further + 1) 1048576 4 a (omega (arith, b)))
-
 -- one value more of what a list is made of
 pub joined_more : (f : Value → List Value) (xs : List Value) (i : ℕ) (x : Value) (ys zs : List Value) → i < length xs → x ≡ get_or xs i x → ys ≡ flat_map f (take i xs) → zs ≡ ys ++ f x
     → zs ≡ flat_map f (take (i + 1) xs)
 joined_more f xs i x ys zs h is made own = own ∙ ap (λ vs. vs ++ f x) made ∙ sym (flat_more f xs i x h is)
-
--- one list more has its value
-pub wait_step : (vs : List Value) (ls new : List (List (ℕ × Value))) (k : ℕ) (v : Value) → k < length vs → v ≡ get_or vs k v → ls ≡ map waits_at_0 (take k vs) ++ replicate (length vs - k) []
-    → new ≡ set ls k (put_pair 0 v (get_or ls k [])) → new ≡ map waits_at_0 (take (k + 1) vs) ++ replicate (length vs - (k + 1)) []
-wait_step vs ls new k v h is now put =
-    let n : ℕ = length vs - (k + 1) in
-    let more : length vs - k ≡ suc n = omega (arith, h) in
-    let front = map waits_at_0 (take k vs) in
-    let rest : List (List (ℕ × Value)) = replicate n [] in
-    let long : length front ≡ k = length-map (take k vs) waits_at_0 ∙ length-take-le k vs (omega (arith, h)) in
-    let shape : ls ≡ front ++ [] ∷ rest = now ∙ ap (λ m. front ++ replicate m []) more in
-    let empty : get_or ls k [] ≡ [] = ap (λ xs. get_or xs k []) shape ∙ get_or_at front [] rest [] k long in
-    put ∙ (λ j. set (shape j) k (put_pair 0 v (empty j))) ∙ set_at front [] rest (waits_at_0 v) k long
-    ∙ sym (append_assoc front (waits_at_0 v ∷ []) rest)
-    ∙ ap (λ xs. xs ++ rest) (sym (map_more waits_at_0 vs k v h ∙ ap (λ y. front ++ waits_at_0 y ∷ []) (sym is)))
-
-pub wait_all : (vs : List Value) (ls : List (List (ℕ × Value))) (k : ℕ) → length vs ≤ k → ls ≡ map waits_at_0 (take k vs) ++ replicate (length vs - k) [] → ls ≡ map waits_at_0 vs
-wait_all vs ls k past now =
-    let none : length vs - k ≡ 0 = omega (arith, past) in
-    now ∙ (λ j. map waits_at_0 (take_all k vs past j) ++ replicate (none j) []) ∙ append-nil (map waits_at_0 vs)

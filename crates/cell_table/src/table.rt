@@ -217,6 +217,7 @@ impl CellTable {
             ≡ cell_output t (cell_at self.old.cells i) }
         ensures cell { self.new ≡ changed_cell i (cell_emitted t) self.old }
     {
+        // For the proof: each cell has `width` ports, at most 4, and at most 8 variables.
         let _width = self.width();
         let a = self.emit_port(i, 0, t);
         let b = self.emit_port(i, 1, t);
@@ -244,6 +245,7 @@ impl CellTable {
         requires cell { i < length self.now.cells }
         ensures { result ≡ cell_next (cell_at self.now.cells i) }
     {
+        // For the proof: each cell has `width` ports, at most 4, and at most 8 variables.
         let _width = self.width();
         let a = self.next(i, 0);
         let b = self.next(i, 1);
@@ -254,7 +256,7 @@ impl CellTable {
         least(a, rest)
     }
 
-    /// What a cell tells.
+    /// What a cell gave and computed last at each port, and its next time.
     pub fn tell(&self, i: u32) -> Cell
         requires cell { i < length self.now.cells }
         ensures { Tells result (cell_at self.now.cells i) }
@@ -350,9 +352,7 @@ impl CellTable {
         if width == 1 {
             return self.take_given(i, 0, kind, at, given_at(given, 0));
         }
-        // Of a copy, so that what is given needs no place in memory where a cell has one port.
-        let all = *given;
-        self.take_ports(i, kind, at, &all)
+        self.take_ports(i, kind, at, given)
     }
 
     /// The same, port after port.
@@ -372,6 +372,7 @@ impl CellTable {
         ensures only { OnlyCell i self.old.cells self.new.cells }
         ensures shape { HasShape self.old self.new }
     {
+        // For the proof: each cell has `width` ports, at most 4, and at most 8 variables.
         let _width = self.width();
         self.take_given(i, 0, kind, at, given_at(given, 0))?;
         self.take_given(i, 1, kind, at, given_at(given, 1))?;
@@ -386,6 +387,7 @@ impl CellTable {
         requires count { length values.now ≡ self.old.variables }
         ensures { self.new ≡ changed_cell i (with_variables values.now) self.old }
     {
+        // For the proof: each cell has `width` ports, at most 4, and at most 8 variables.
         let _cells = self.cells();
         if values.is_empty() {
             return;
@@ -420,6 +422,7 @@ fn repeated(alloc: Global, outs: &[Value], variables: &[Value]) -> Result<Vec<Va
 {
     let mut values = Vec::new(alloc);
     for value in outs {
+        // Their values don't matter: there is a piece for each.
         let _out = value;
         values.extend_from_slice(variables)?;
     }
@@ -435,15 +438,9 @@ fn undefined(alloc: Global, n: usize) -> Result<Vec<Value>, OutOfMemory>
 
 /// A list for each value, which waits there for 0.
 fn waiting(alloc: Global, values: &[Value]) -> Result<Delays, OutOfMemory>
-    requires { length values.now ≤ 4194304 }
     ensures { IfOk result (λ delays. delays.lists ≡ map waits_at_0 values.now) }
 {
-    let mut delays = Delays::new(alloc, values.len() as u32)?;
-    delays.reserve(values.len())?;
-    for (port, value) in values.iter().enumerate() {
-        delays.transport(port as u32, start(), *value)?;
-    }
-    Ok(delays)
+    Delays::all_at(alloc, start(), values)
 }
 
 /// The time 0.

@@ -1,8 +1,8 @@
 -- Leaves that are marked: one giver more that wakes, and all that are taken.
 use Rattle.std.proofs.Common.{◌≡◌, ℕ, ◌+◌, ◌<◌, Bool, true, false, ◌||◌, List, length, drop, get_or, refl, sym, ◌∙◌, ap}
 use Rattle.std.specs.List.{filter, range_with_len}
-use Rattle.std.proofs.lemmas.List.{drop_more}
-use Rattle.leaf_set.specs.Members.{is_in, members_of}
+use Rattle.std.proofs.lemmas.List.{drop_more, ext_get_or}
+use Rattle.leaf_set.specs.Members.{is_in, members_of, Joins}
 use Rattle.run_model.specs.Run.{PortRecord}
 use Rattle.sparse_cycle.specs.Collect.{is_among}
 use Rattle.sparse_cycle.specs.Wake.{is_fed, reached}
@@ -27,3 +27,13 @@ pub reached-marked : (old mid new : List Bool) (due : List ℕ) (fed : List Port
     → length mid ≡ length old → length new ≡ length mid → taken ≡ members_of new → taken ≡ reached (is_in old) (length old) due fed
 reached-marked old mid new due fed taken first second same long is =
     is ∙ (λ i. filter (λ k. (second k ∙ ap (λ b. b || is_fed fed k) (first k)) i) (range_with_len 0 ((long ∙ same) i)))
+
+or-again : (a b : Bool) → (a || (a || b)) ≡ (a || b)
+or-again true b = refl
+or-again false b = refl
+
+-- a set that was the same before more were marked in another is the same again once it is joined
+pub joined-same : (touched old woken joined : List Bool) (test : ℕ → Bool) → touched ≡ old → length woken ≡ length old → Marks test old woken → Joins touched woken joined → joined ≡ woken
+joined-same touched old woken joined test same long marked joins =
+    ext_get_or false joined woken (joins.long ∙ ap length same ∙ sym long) (λ k lt.
+    joins.either k ∙ (λ i. is_in (same i) k || marked k i) ∙ or-again (is_in old k) (test k) ∙ sym (marked k))

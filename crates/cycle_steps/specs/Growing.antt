@@ -1,4 +1,4 @@
--- Lists behind which something is put.
+-- Private: lists behind which something is put.
 use Rattle.std.specs.Prelude.{◌≡◌, ◌++◌, List}
 
 -- the second list is the first one with something behind it, perhaps nothing

@@ -1,4 +1,4 @@
--- The numbers of paths by where they begin. No public clause cites this module.
+-- Private: the numbers of paths by where they begin.
 use Rattle.std.specs.Prelude.{ℕ, Bool, List}
 use Rattle.quantity.specs.declared.value.Value.{Value}
 use Rattle.run_model.specs.Run.{PortRecord}

@@ -1,4 +1,4 @@
--- Who watches whom, as a test of two leaves: the watcher and the one that it watches.
+-- Private: who watches whom, as a test of two leaves: the watcher and the one that it watches.
 use Rattle.std.specs.Prelude.{ℕ, Bool, List}
 use Rattle.std.specs.List.{list_any}
 

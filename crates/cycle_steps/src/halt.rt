@@ -12,7 +12,7 @@ pub struct Told {
 /// Why a leaf doesn't move.
 #[derive(Clone, Copy)]
 pub enum LeafStop {
-    /// A rule of a cell, or a box, has no value.
+    /// The rules of a cell stop it, or a sum in a box is too large.
     Rule(RuleStop),
     /// There is no memory.
     Memory,

@@ -1,4 +1,14 @@
-//! The loops of one cycle, over any leaves of which one at a time can be asked.
+//! One cycle as code, from the leaves that matter: who gives, who is woken, what paths bring, who
+//! moves.
+//!
+//! - `cycle_at` (`cycle`) takes leaves, watchers, paths, a queue, the due leaves and the inputs of
+//!   an instant, and makes the cycle with its records, or says by `Halt` why it ended early. Its
+//!   parts: `collect`, `touch` (`wake`), `reach`, `feed`, `bag_at` (`bag`), `walk`.
+//! - Over small traits, so that each part is proved alone: `Leaves` (asked and moved one at a
+//!   time), `Watched` (who watches a leaf), `Routing` (numbered paths; `Routes` of `route_flat` are
+//!   such), beside `TimeQueue` and `LeafSet`.
+//! - Definitions: `sparse_cycle/specs/Sparse.antt`; what a cycle makes: `specs/Whole.antt`
+//!   (`CyclesTo`). Its leaves are those of `run_leaves`.
 #![tactic(auto)]
 
 pub mod bag;

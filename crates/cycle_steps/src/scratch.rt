@@ -21,7 +21,12 @@ pub struct Scratch {
 
 impl Scratch {
     /// Empty lists.
-    pub fn none(alloc: Global) -> Scratch {
+    pub fn none(alloc: Global) -> Scratch
+        ensures bag { result.bag.items ≡ [] }
+        ensures givers { result.givers.items ≡ [] }
+        ensures near { result.near.items ≡ [] }
+        ensures numbers { result.numbers.items ≡ [] }
+    {
         Scratch {
             bag: Vec::new(alloc),
             givers: Vec::new(alloc),

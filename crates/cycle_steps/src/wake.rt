@@ -1,6 +1,6 @@
 // Who is woken by those that gave, and who is touched.
-ghost use Rattle.std.specs.Prelude.{◌≡◌, ◌<◌, ◌≤◌, [], ℕ, Bool, true, false};
-ghost use Rattle.std.specs.Prelude.{List, OnOk, OnErr, length, replicate, slice_set};
+ghost use Rattle.std.specs.Prelude.{◌≡◌, ◌<◌, ◌≤◌, [], ℕ, Bool, false};
+ghost use Rattle.std.specs.Prelude.{List, OnOk, OnErr, length, replicate};
 ghost use Rattle.std.specs.List.{All};
 ghost use Rattle.std.specs.Vec.{vec_capacity};
 ghost use Rattle.record_text.specs.declared.records.XRecord.{XRecord as AnyXRecord};
@@ -45,35 +45,8 @@ pub fn mark_all<S: LeafSet>(set: &mut S, leaves: &[u32])
     }
 }
 
-/// All of these leaves are in as well, in two sets that have the same members.
-fn mark_both<S: LeafSet>(woken: &mut S, touched: &mut S, leaves: &[u32])
-    requires within { All (λ l. l < length (S.members woken.old)) leaves.now }
-    requires same { S.members touched.old ≡ S.members woken.old }
-    ensures long { length (S.members woken.new) ≡ length (S.members woken.old) }
-    ensures marked { Marks (is_among leaves.now) (S.members woken.old) (S.members woken.new) }
-    ensures same { S.members touched.new ≡ S.members woken.new }
-{
-    for leaf in leaves {
-        mark_one(woken, touched, *leaf);
-    }
-}
-
-/// A leaf is in as well, in two sets that have the same members. Most are marked more than once:
-/// one that is in is in both.
-fn mark_one<S: LeafSet>(woken: &mut S, touched: &mut S, leaf: u32)
-    requires within { leaf < length (S.members woken.old) }
-    requires same { S.members touched.old ≡ S.members woken.old }
-    ensures marked { S.members woken.new ≡ slice_set (S.members woken.old) leaf true }
-    ensures same { S.members touched.new ≡ S.members woken.new }
-{
-    if woken.has(leaf) {
-        return;
-    }
-    woken.insert(leaf);
-    touched.insert(leaf);
-}
-
-/// Marks the leaves that watch a giver, in two sets that have the same members.
+/// Marks the leaves that watch a giver, in two sets that have the same members. Most are marked
+/// more than once, so it is done in one set, and the other is joined with it.
 pub(crate) fn wake<W: Watched, S: LeafSet>(
     watched: &W,
     givers: &[u32],
@@ -90,8 +63,9 @@ pub(crate) fn wake<W: Watched, S: LeafSet>(
 {
     for leaf in givers {
         watched.watchers_of(*leaf, near)?;
-        mark_both(woken, touched, near);
+        mark_all(woken, near);
     }
+    touched.join(woken);
     Ok(())
 }
 

@@ -1,8 +1,10 @@
 // The delay lists of the cells of a group.
-ghost use Rattle.std.specs.Prelude.{◌≡◌, ◌+◌, ◌<◌, ◌≤◌, [], ◌∷◌, ◌++◌, length, drop, replicate, OnOk, OnErr, IfOk, IsOk};
+ghost use Rattle.std.specs.Prelude.{◌≡◌, ◌+◌, ◌<◌, ◌≤◌, [], ◌∷◌, ◌++◌, length, drop, map, replicate, OnOk, OnErr, IfOk, IsOk};
 ghost use Rattle.quantity.specs.Delay.{delayed};
 ghost use Rattle.quantity.specs.declared.delay.DelayKind.TheVariants.{Transport, Inertial};
-ghost use Rattle.delay_lines.specs.Lists.{list_of, first_pair, ChangesList, IsRising, KeepsPlaces};
+ghost use Rattle.delay_lines.specs.Nodes.{AreAlone};
+ghost use Rattle.delay_lines.specs.Places.{look_in};
+ghost use Rattle.delay_lines.specs.Lists.{alone_at, list_of, first_pair, ChangesList, IsRising, KeepsPlaces};
 
 use crate::link::Link;
 use crate::nodes::{Node, Spot, append_from, last_left, last_with, place_of};
@@ -51,6 +53,20 @@ impl Delays {
             nodes: Pool::new(alloc),
             firsts: vec![in alloc; Link::none(); cells as usize]?,
             lasts: vec![in alloc; Link::none(); cells as usize]?,
+        })
+    }
+
+    /// A list for each value, in which it waits alone for this time.
+    pub fn all_at(alloc: Global, at: Time, values: &[Value]) -> Result<Delays, OutOfMemory>
+        ensures lists { IfOk result (λ d. d.lists ≡ map (alone_at at) values.now) }
+    {
+        let mut nodes = Pool::new(alloc);
+        let firsts = links_to_new(alloc, at, values, &mut nodes)?;
+        let lasts = copy_of(alloc, &firsts)?;
+        Ok(Delays {
+            nodes,
+            firsts,
+            lasts,
         })
     }
 
@@ -167,4 +183,33 @@ impl Delays {
         self.firsts[cell as usize] = Link::to(key);
         self.lasts[cell as usize] = Link::to(key);
     }
+}
+
+/// The links to new nodes, one for each value with this time.
+fn links_to_new(
+    alloc: Global,
+    at: Time,
+    values: &[Value],
+    nodes: &mut Pool,
+) -> Result<Vec<Link>, OutOfMemory>
+    ensures { IfOk result (λ links. AreAlone (look_in nodes.new) at links.items values.now) }
+{
+    let mut links = Vec::with_capacity(alloc, values.len())?;
+    nodes.reserve(values.len())?;
+    for value in values {
+        let key = nodes.insert(Node::new(at, *value, Link::none()))?;
+        let Ok(()) = links.push(Link::to(key)) else {
+            return Err(OutOfMemory);
+        };
+    }
+    Ok(links)
+}
+
+/// The same links.
+fn copy_of(alloc: Global, links: &[Link]) -> Result<Vec<Link>, OutOfMemory>
+    ensures { IfOk result (λ made. made.items ≡ links.now) }
+{
+    let mut made = Vec::with_capacity(alloc, links.len())?;
+    made.extend_from_slice(links)?;
+    Ok(made)
 }

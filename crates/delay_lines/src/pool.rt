@@ -1,5 +1,5 @@
 // Nodes under numbers of 32 bits.
-ghost use Rattle.std.specs.Prelude.{◌≡◌, ◌+◌, ◌<◌, ◌≤◌, None, Some, IfOk, IfSome, IsOk, IsSome, OnErr, OnOk};
+ghost use Rattle.std.specs.Prelude.{◌≡◌, ◌+◌, ◌<◌, ◌≤◌, [], None, Some, IfOk, IfSome, IsOk, IsSome, OnErr, OnOk};
 ghost use Rattle.slab.specs.Slab.{get, slab_len, HasRoomFor, Updates};
 ghost use Rattle.delay_lines.specs.Nodes.{node_of};
 ghost use Rattle.delay_lines.specs.Places.{look_in, Rewrites, Writes};
@@ -46,7 +46,9 @@ impl Model for Pool {
 
 impl Pool {
     /// A pool with no nodes.
-    pub fn new(alloc: Global) -> Pool {
+    pub fn new(alloc: Global) -> Pool
+        ensures { result.slots ≡ [] }
+    {
         Pool {
             nodes: Slab::new(alloc),
         }

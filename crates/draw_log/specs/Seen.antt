@@ -1,4 +1,4 @@
--- What a line of a log shows of a group. Only private clauses name this.
+-- Private: what a line of a log shows of a group.
 use Rattle.std.specs.Prelude.{ℕ, Option, Some, None, List, [], ◌∷◌, if◌then◌else◌}
 use Rattle.std.specs.Option.{option_map}
 use Rattle.std.specs.Str.{bytes_eq}

@@ -1,4 +1,4 @@
--- Frames that are drawn as a log goes on. Only private clauses name this.
+-- Private: frames that are drawn as a log goes on.
 use Rattle.std.specs.Prelude.{ℕ, List, [], ◌∷◌, ◌++◌, Result, Ok, Err, None, if◌then◌else◌}
 use Rattle.quantity.specs.Bytes.{Bytes}
 use Rattle.model_tree.specs.Tree.{Word}

@@ -4,7 +4,7 @@ use quantity::OutOfMemory;
 /// Why a log is not drawn.
 #[derive(Clone, Copy, PartialEq, Eq, Debug)]
 pub enum DrawRefusal {
-    /// The number of the first line that is refused.
+    /// The log is refused at this line, the first that is.
     LogRefused(u32),
     /// There is no memory for the frames.
     Memory,

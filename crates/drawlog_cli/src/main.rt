@@ -1,5 +1,9 @@
-//! The drawing program over the real folder: `drawlog -l LOG -g GROUP -s SIZE [-w WIDTH] [-p
-//! DECIMALS] [-f PLANE]`.
+//! The process `drawlog`: frames of a log, over the real folder.
+//!
+//! `drawlog -l LOG -g GROUP -s SIZE [-w WIDTH] [-p DECIMALS] [-f PLANE]`
+//!
+//! - `main` hands the words of the process to `drawlog` of `drawlog_top`, whose contract says what
+//!   is done with them, and passes its status on. The words are those of docs/COMMANDS.md.
 #![tactic(auto)]
 
 use asked_words::given_words;

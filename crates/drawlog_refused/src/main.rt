@@ -1,6 +1,8 @@
-//! The drawing program once more, which the gate runs with words that are refused (plane 4 of planes
-//! 0 to 3), since a program has one stored run. Its `main` passes status 2 on and shows nothing on
-//! the standard output.
+//! The process `drawlog` once more, which the gate runs with words that are refused (plane 4 of
+//! planes 0 to 3), since a program has one stored run.
+//!
+//! - `main` is that of `drawlog_cli`: it passes status 2 on and shows nothing on the standard
+//!   output.
 #![tactic(auto)]
 
 use asked_words::given_words;

@@ -1,4 +1,4 @@
--- What is answered to a log.
+-- Private: what is answered to a log.
 use Rattle.std.specs.Prelude.{Option, []}
 use Rattle.quantity.specs.Bytes.{Bytes}
 use Rattle.answer_model.specs.Answer.{Answer, with_file}

@@ -1,4 +1,4 @@
--- A file, line by line.
+-- Private: a file, line by line.
 use Rattle.std.specs.Prelude.{ℕ, not, List, [], ◌∷◌, map}
 use Rattle.std.specs.List.{enumerate_from, filter, filter_map, slice_split}
 use Rattle.std.specs.Result.{result_ok}

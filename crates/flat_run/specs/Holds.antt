@@ -1,4 +1,4 @@
--- What holds of a run between two cycles.
+-- Private: what holds of a run between two cycles.
 use Rattle.std.specs.Prelude.{◌≡◌, ℕ, ◌≤◌, Bool, false, Option, None, List, map, replicate, slice_get}
 use Rattle.std.specs.List.{All}
 use Rattle.std.specs.List.Sorted.{IsNonDecreasingBy}

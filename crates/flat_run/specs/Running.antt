@@ -1,4 +1,4 @@
--- What one cycle makes of leaves, queue, events and records.
+-- Private: what one cycle makes of leaves, queue, events and records.
 use Rattle.std.specs.Prelude.{◌≡◌, ℕ, ◌==◌, not, Option, Some, None, List, length, ⊤}
 use Rattle.std.specs.List.{filter}
 use Rattle.std.specs.declared.result.Result.{Result}

@@ -1,4 +1,4 @@
--- Values whose texts are known. Only private clauses name this.
+-- Private: values whose texts are known.
 use Rattle.std.specs.Prelude.{◌≡◌, ℕ, Option, IfSome}
 use Rattle.quantity.specs.ValueTexts.{value_text}
 use Rattle.frame_draw.specs.declared.known.Known.{Known}

@@ -1,4 +1,4 @@
--- What private clauses say of the plane that is drawn.
+-- Private: what is said of the plane that is drawn.
 use Rattle.std.specs.Prelude.{◌≡◌, ℕ, List, ◌++◌, length, codes}
 use Rattle.std.specs.List.{flat_map, range_with_len}
 use Rattle.quantity.specs.Bytes.{Bytes}

@@ -1,4 +1,4 @@
--- The numbers of the cells of a row. Only private clauses name this.
+-- Private: the numbers of the cells of a row.
 use Rattle.std.specs.Prelude.{◌≡◌, ℕ}
 use Rattle.cell_grid.specs.Space.{number_of, plane_count}
 use Rattle.frame_draw.specs.declared.plane.Plane.{Plane}

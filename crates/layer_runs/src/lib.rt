@@ -1,4 +1,8 @@
-//! Single layers, called one by one: the routes of a model, and a run cycle by cycle.
+//! Tests of single layers of a run, call by call.
+//!
+//! - The routes of a model in which two generators feed a queue (`routes`); the run of a ring of
+//!   three cells, cycle by cycle, with what each call answers and records (`cycles`).
+//! - Crates that are tried: `route_flat`, `flat_run` over `linked_queue`.
 #![tactic(auto)]
 
 #[cfg(test)]

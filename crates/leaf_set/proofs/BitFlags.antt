@@ -1,11 +1,11 @@
 -- Bits as flags, one for each leaf.
-use Rattle.std.proofs.Common.{◌≡◌, ℕ, ◌+◌, ◌-◌, ◌*◌, ◌/◌, ◌<◌, ◌≤◌, Bool, true, false, List, ◌++◌, length, get_or, set, replicate, sym, subst, ◌∙◌, ap, inl, inr, arith, append-nil, length-set, get_or-set_same, get_or-set_other}
+use Rattle.std.proofs.Common.{◌≡◌, ℕ, ◌+◌, ◌-◌, ◌*◌, ◌/◌, ◌<◌, ◌≤◌, Bool, true, false, ◌||◌, List, ◌++◌, length, get_or, set, replicate, refl, sym, subst, ◌∙◌, ap, inl, inr, arith, append-nil, length-set, get_or-set_same, get_or-set_other}
 use Rattle.std.specs.List.{filter, range_with_len}
-use Rattle.std.proofs.lemmas.Bool.{both_ways, false_from_ne_true, cases_eq}
-use Rattle.std.proofs.lemmas.List.{ext_get_or, length-replicate, get_or-replicate}
+use Rattle.std.proofs.lemmas.Bool.{both_ways, false_from_ne_true, cases_eq, cases_lt}
+use Rattle.std.proofs.lemmas.List.{ext_get_or, get_or_past, length-replicate, get_or-replicate}
 use Rattle.std.proofs.lemmas.List.FromFn.{length-map-range_with_len, get_or-map-range_with_len}
 use Rattle.leaf_set.specs.Members.{is_in, members_of}
-use Rattle.leaf_set.specs.Words.{has, those_from, flags_of, SetsBit, AreMarked}
+use Rattle.leaf_set.specs.Words.{has, those_from, flags_of, SetsBit, Unites, AreMarked}
 use Rattle.leaf_set.proofs.ThoseFrom.{those-split, those-none, those-same, length-those}
 use Rattle.leaf_set.proofs.WordBits.{none-of-zeros}
 
@@ -60,6 +60,7 @@ empty-marked n blocks small is =
       whole = omega (arith, words, marks);
       few = omega (arith, words);
       room = omega (arith, words);
+      blocks = marks ∙ is;
       within = λ i in_it. absurd (both_ways (has (replicate (64 * blocks) 0) i) (none-of-zeros (64 * blocks) i) in_it);
       marked = λ i in_it. absurd (both_ways (has (replicate (64 * blocks) 0) i) (none-of-zeros (64 * blocks) i) in_it);
     }
@@ -71,6 +72,7 @@ inserted-marked n at words marks more seen h within put mark long wide = record 
   whole = let whole = h.whole in omega (arith, long, wide, whole);
   few = let few = h.few in omega (arith, long, few);
   room = let room = h.room in omega (arith, long, room);
+  blocks = wide ∙ h.blocks;
   within =
       λ i in_it.
       elim (cases_eq i at) [
@@ -100,6 +102,7 @@ removed-marked n at words marks less h cut long = record {
   whole = let whole = h.whole in omega (arith, long, whole);
   few = let few = h.few in omega (arith, long, few);
   room = let room = h.room in omega (arith, long, room);
+  blocks = h.blocks;
   within = λ i in_it. h.within i (kept-in words less at i cut in_it);
   marked = λ i in_it. h.marked i (kept-in words less at i cut in_it);
 }
@@ -110,6 +113,7 @@ emptied-marked n words marks none unmarked h empty long wide = record {
   whole = let whole = h.whole in omega (arith, long, wide, whole);
   few = let few = h.few in omega (arith, long, few);
   room = let room = h.room in omega (arith, long, room);
+  blocks = wide ∙ h.blocks;
   within = λ i in_it. absurd (both_ways (has none i) (empty i) in_it);
   marked = λ i in_it. absurd (both_ways (has none i) (empty i) in_it);
 }
@@ -152,3 +156,58 @@ word-within n at words marks h lt =
 pub marked-at : (n : ℕ) (words marks new seen : List ℕ) → new ≡ words → seen ≡ marks → AreMarked n words marks → AreMarked n new seen
 marked-at n words marks new seen long wide h =
     subst (λ (ws : List ℕ). AreMarked n ws seen) (sym long) (subst (λ (ms : List ℕ). AreMarked n words ms) (sym wide) h)
+
+-- ---- sets that are joined
+
+in-left : (a b c : Bool) → c ≡ (a || b) → a ≡ true → c ≡ true
+in-left a b c is here = is ∙ ap (λ x. x || b) here
+
+in-right : (a b c : Bool) → c ≡ (a || b) → b ≡ true → c ≡ true
+in-right true b c is here = is
+in-right false b c is here = is ∙ here
+
+in-either : (P : Type 0) (a b c : Bool) → c ≡ (a || b) → c ≡ true → (a ≡ true → P) → (b ≡ true → P) → P
+in-either P true b c is some left right = left refl
+in-either P false b c is some left right = right (sym is ∙ some)
+
+pub joined-marked : (n : ℕ) (words marks more other new seen : List ℕ) → AreMarked n words marks → AreMarked n more other → Unites words more new → Unites marks other seen
+    → length new ≡ length words → length seen ≡ length marks → AreMarked n new seen
+joined-marked n words marks more other new seen h k put mark long wide = record {
+  whole = let whole = h.whole in omega (arith, long, wide, whole);
+  few = let few = h.few in omega (arith, long, few);
+  room = let room = h.room in omega (arith, long, room);
+  blocks = wide ∙ h.blocks;
+  within = λ i in_it. in-either (i < n) (has words i) (has more i) (has new i) (put i) in_it (h.within i) (k.within i);
+  marked =
+      λ i in_it.
+      let at = i / 64 in
+      in-either (has seen at ≡ true) (has words i) (has more i) (has new i) (put i) in_it
+      (λ here. in-left (has marks at) (has other at) (has seen at) (mark at) (h.marked i here))
+      (λ here. in-right (has marks at) (has other at) (has seen at) (mark at) (k.marked i here));
+}
+
+past-flags : (words : List ℕ) (n i : ℕ) → n ≤ i → is_in (flags_of words n) i ≡ false
+past-flags words n i le = get_or_past (flags_of words n) i false (omega (arith, le, length-flags words n))
+
+pub flags-joined : (n m : ℕ) (words more new : List ℕ) → m ≡ n → Unites words more new
+    → (i : ℕ) → is_in (flags_of new n) i ≡ (is_in (flags_of words n) i || is_in (flags_of more m) i)
+flags-joined n m words more new same put i =
+    elim (cases_lt i n) as (λ _. is_in (flags_of new n) i ≡ (is_in (flags_of words n) i || is_in (flags_of more m) i)) [
+      | inl lt ↦
+          is_in-flags new n i lt ∙ put i
+          ∙ (λ k. sym (is_in-flags words n i lt) k || sym (is_in-flags more m i (omega (arith, lt, same))) k)
+      | inr le ↦
+          past-flags new n i le
+          ∙ (λ k. sym (past-flags words n i le) k || sym (past-flags more m i (omega (arith, le, same))) k)
+    ]
+
+-- two sets of as many leaves have as many words and marks
+pub as-many : (n m : ℕ) (words marks more other : List ℕ) → AreMarked n words marks → AreMarked m more other → m ≡ n → (length more ≡ length words) × (length other ≡ length marks)
+as-many n m words marks more other h k same =
+    let marks_same : length other ≡ length marks = k.blocks ∙ ap (λ j. j / 4096 + 1) same ∙ sym h.blocks in
+    let one = h.whole in
+    let two = k.whole in (omega (arith, one, two, marks_same), marks_same)
+
+pub count-same : (n m : ℕ) (words more : List ℕ) (flags others : List Bool) → flags_of words n ≡ flags → flags_of more m ≡ others → length others ≡ length flags → m ≡ n
+count-same n m words more flags others own its same =
+    omega (arith, ap length own, ap length its, length-flags words n, length-flags more m, same)

@@ -1,12 +1,12 @@
 -- Bits of words.
-use Rattle.std.proofs.Common.{◌≡◌, ℕ, ◌*◌, ◌/◌, ◌%◌, ◌^◌, ◌<◌, ◌≤◌, Bool, true, false, List, get_or, set, replicate, length, eqb, refl, sym, ◌∙◌, ap, inl, inr, arith, w64, get_or-set_same, get_or-set_other}
-use Rattle.std.proofs.lemmas.Bool.{cases_eq, cases_lt}
+use Rattle.std.proofs.Common.{◌≡◌, ℕ, ◌*◌, ◌/◌, ◌%◌, ◌^◌, ◌<◌, ◌≤◌, Bool, true, false, List, get_or, set, replicate, length, eqb, eqb-true, refl, sym, ◌∙◌, ap, inl, inr, arith, w64, get_or-set_same, get_or-set_other}
+use Rattle.std.proofs.lemmas.Bool.{both_ways, cases_eq, cases_lt}
 use Rattle.std.proofs.lemmas.List.{get_or_past, get_or-replicate, length-replicate}
 use Rattle.std.proofs.lemmas.Nat.{and_le_l}
-use Rattle.std.proofs.lemmas.Nat.Bits.{bit_at-zero, shr_and_one, bit_at-trailing_zeros, bit_at_set_same, bit_at_set_other, bit_at_clear_same, bit_at_clear_other}
+use Rattle.std.proofs.lemmas.Nat.Bits.{bit_at-zero, shr_and_one, bit_at-trailing_zeros, bit_at_set_same, bit_at_set_other, bit_at_clear_same, bit_at_clear_other, bit_at_or, bit_at-lt}
 use Rattle.std.specs.Prelude.{bit_and, bit_or}
 use Rattle.std.specs.Int.{bit_at, bit_not, trailing_zeros}
-use Rattle.leaf_set.specs.Words.{has, has_bit, those_from, ones_of, SetsBit, Clears, TakesLowest}
+use Rattle.leaf_set.specs.Words.{has, has_bit, those_from, ones_of, SetsBit, Clears, Grows, TakesLowest}
 use Rattle.leaf_set.proofs.ThoseFrom.{those-same}
 
 pub tests : (words : List ℕ) (at : ℕ) → eqb (bit_and (get_or words (at / 64) 0 / 2 ^ (at % 64)) 1) 1 ≡ has words at
@@ -127,3 +127,50 @@ none-of-zeros n i =
           ∙ ap (λ w. has_bit w (i % 64)) (get_or-replicate n (i / 64) 0 0 inside) ∙ none-of-zero (i % 64)
       | inr past ↦ has-past (replicate n 0) i (omega (arith, length-replicate {A = ℕ} n 0))
     ]
+
+-- ---- one word joined with another
+
+there-is : (word i : ℕ) → has_bit word i ≡ true → bit_at word i ≡ 1
+unfolding has_bit
+there-is word i h = eqb-true (bit_at word i) 1 h
+
+or-kept : (a b i : ℕ) → has_bit a i ≡ true → has_bit (bit_or a b) i ≡ true
+or-kept a b i h = is-there (bit_or a b) i (omega (arith, bit_at_or a b i, there-is a i h, bit_at-lt b i))
+
+or-joined : (a b i : ℕ) → has_bit b i ≡ true → has_bit (bit_or a b) i ≡ true
+or-joined a b i h = is-there (bit_or a b) i (omega (arith, bit_at_or a b i, there-is b i h, bit_at-lt a i))
+
+or-came : (a b i : ℕ) → has_bit a i ≡ false → has_bit (bit_or a b) i ≡ true → has_bit b i ≡ true
+or-came a b i none some =
+    let apart : bit_at a i ≡ 1 → ⊥ = λ is. both_ways (has_bit a i) none (is-there a i is) in
+    is-there b i (omega (arith, apart, bit_at_or a b i, there-is (bit_or a b) i some, bit_at-lt a i, bit_at-lt b i))
+
+-- words of which the one at a place has the bits of another's as well
+abbrev pub with_word : List ℕ → List ℕ → ℕ → List ℕ
+with_word words more at = set words at (bit_or (get_or words at 0) (get_or more at 0))
+
+pub joined-there : (words more : List ℕ) (at : ℕ) → at < length words → (i : ℕ) → i / 64 ≡ at → has more i ≡ true → has (with_word words more at) i ≡ true
+joined-there words more at within i is some =
+    written-there words at i (bit_or (get_or words at 0) (get_or more at 0)) within is
+    ∙ or-joined (get_or words at 0) (get_or more at 0) (i % 64) (sym (has-in-word more at i is) ∙ some)
+
+pub joined-grows : (words more : List ℕ) (at : ℕ) → at < length words → Grows words more (with_word words more at)
+joined-grows words more at within =
+    let a = get_or words at 0 in
+    let b = get_or more at 0 in
+    record {
+      kept =
+          λ i had.
+          elim (cases_eq (i / 64) at) [
+            | inl same ↦ written-there words at i (bit_or a b) within same ∙ or-kept a b (i % 64) (sym (has-in-word words at i same) ∙ had)
+            | inr other ↦ written-elsewhere words at i (bit_or a b) other ∙ had
+          ];
+      only =
+          λ i none some.
+          elim (cases_eq (i / 64) at) [
+            | inl same ↦
+                has-in-word more at i same
+                ∙ or-came a b (i % 64) (sym (has-in-word words at i same) ∙ none) (sym (written-there words at i (bit_or a b) within same) ∙ some)
+            | inr other ↦ absurd (both_ways (has words i) none (sym (written-elsewhere words at i (bit_or a b) other) ∙ some))
+          ];
+    }

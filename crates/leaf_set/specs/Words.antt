@@ -1,5 +1,5 @@
 -- Sets of numbers as bits of words, 64 to a word.
-use Rattle.std.specs.Prelude.{◌≡◌, ℕ, ◌+◌, ◌*◌, ◌/◌, ◌%◌, ◌<◌, ◌≤◌, ◌==◌, Bool, true, false, List, length, map, slice_index}
+use Rattle.std.specs.Prelude.{◌≡◌, ℕ, ◌+◌, ◌*◌, ◌/◌, ◌%◌, ◌<◌, ◌≤◌, ◌==◌, Bool, true, false, ◌||◌, List, length, map, slice_index}
 use Rattle.std.specs.List.{filter, range_with_len}
 use Rattle.std.specs.Int.{bit_at}
 
@@ -34,6 +34,15 @@ pub record Clears (old new : List ℕ) (first count : ℕ) : Type 0 where
   pub below : (i : ℕ) → i < first → has new i ≡ has old i
   pub above : (i : ℕ) → first + count ≤ i → has new i ≡ has old i
 
+-- no bit is gone, and each that came is among the others
+pub record Grows (old more new : List ℕ) : Type 0 where
+  pub kept : (i : ℕ) → has old i ≡ true → has new i ≡ true
+  pub only : (i : ℕ) → has old i ≡ false → has new i ≡ true → has more i ≡ true
+
+-- the bits of both
+abbrev pub Unites : List ℕ → List ℕ → List ℕ → Type 0
+Unites old more new = (i : ℕ) → has new i ≡ (has old i || has more i)
+
 -- a word that isn't 0 has lost its lowest bit
 pub record TakesLowest (old new bit : ℕ) : Type 0 where
   pub within : bit < 64
@@ -48,5 +57,6 @@ pub record AreMarked (count : ℕ) (words marks : List ℕ) : Type 0 where
   pub whole : length words ≡ 64 * length marks
   pub few : 64 * length words ≤ 4294967296
   pub room : count ≤ 64 * length words
+  pub blocks : length marks ≡ count / 4096 + 1
   pub within : (i : ℕ) → has words i ≡ true → i < count
   pub marked : (i : ℕ) → has words i ≡ true → has marks (i / 64) ≡ true

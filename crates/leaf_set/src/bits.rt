@@ -65,6 +65,11 @@ impl LeafSet for BitSet {
         words::clear(&mut self.words, leaf);
     }
 
+    // Words of the other set that have no member are passed over, 64 at a time.
+    fn join(&mut self, other: &BitSet) {
+        words::join_marked(&mut self.words, &mut self.marks, &other.words, &other.marks);
+    }
+
     fn take_all(&mut self, into: &mut Vec<u32>) {
         words::take_marked(&mut self.words, &mut self.marks, into);
     }

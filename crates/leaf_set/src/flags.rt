@@ -1,7 +1,7 @@
 // The set that has a flag for each leaf.
 ghost use Rattle.std.specs.Prelude.{◌≡◌, ◌<◌, ◌≤◌, ◌++◌, [], false, length, replicate, slice_set, vec_len, IfOk};
 ghost use Rattle.std.specs.Vec.{vec_capacity};
-ghost use Rattle.leaf_set.specs.Members.{is_in, members_of, one_member};
+ghost use Rattle.leaf_set.specs.Members.{is_in, members_of, one_member, Joins, JoinsOne};
 
 use crate::set::LeafSet;
 use quantity::OutOfMemory;
@@ -50,6 +50,10 @@ impl LeafSet for FlagSet {
         self.members[leaf as usize] = false;
     }
 
+    fn join(&mut self, other: &FlagSet) {
+        join_members(&mut self.members, &other.members);
+    }
+
     fn take_all(&mut self, into: &mut Vec<u32>) {
         take_members(&mut self.members, into);
     }
@@ -85,4 +89,23 @@ fn take_member(members: &mut Vec<bool>, leaf: u32, into: &mut Vec<u32>)
         into.push_reserved(leaf);
     }
     members[leaf as usize] = false;
+}
+
+fn join_members(members: &mut [bool], more: &[bool])
+    requires { length more.now ≡ length members.old }
+    ensures { Joins members.old more.now members.new }
+{
+    let leaves = members.len();
+    for leaf in 0..leaves {
+        join_member(members, leaf, more[leaf]);
+    }
+}
+
+fn join_member(members: &mut [bool], leaf: usize, more: bool)
+    requires { leaf < length members.old }
+    ensures { JoinsOne members.old members.new leaf more }
+{
+    if more {
+        members[leaf] = true;
+    }
 }

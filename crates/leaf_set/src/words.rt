@@ -2,6 +2,7 @@
 ghost use Rattle.std.specs.Prelude.{◌≡◌, ℕ, ◌+◌, ◌*◌, ◌/◌, ◌%◌, ◌<◌, ◌≤◌, ◌++◌, true, false, length, vec_len};
 ghost use Rattle.std.specs.Vec.{vec_capacity};
 ghost use Rattle.leaf_set.specs.Words.{has, has_bit, those_from, ones_of, SetsBit, Clears, TakesLowest};
+ghost use Rattle.leaf_set.specs.Words.{Grows, Unites};
 
 /// Whether the bit `at` is 1.
 pub fn is_set(words: &[u64], at: u32) -> bool
@@ -68,6 +69,52 @@ fn take_block(words: &mut [u64], block: u32, marks: u64, into: &mut Vec<u32>)
         let bit = take_lowest(&mut left);
         take_word(words, 64 * block + bit, into);
     }
+}
+
+/// The bits that are 1 in either words are 1, and the marks that are 1 in either marks. A word that
+/// has a bit has its mark, as above; only words with a mark among `more_marks` are read.
+pub fn join_marked(words: &mut [u64], marks: &mut [u64], more: &[u64], more_marks: &[u64])
+    requires whole { length words.old ≡ 64 * length marks.old }
+    requires few { 64 * length words.old ≤ 4294967296 }
+    requires as_many { length more.now ≡ length words.old }
+    requires as_many_marks { length more_marks.now ≡ length marks.old }
+    requires marked { (i : ℕ) → has more.now i ≡ true → has more_marks.now (i / 64) ≡ true }
+    ensures words { Unites words.old more.now words.new }
+    ensures marks { Unites marks.old more_marks.now marks.new }
+{
+    let all = marks.len() as u32;
+    for block in 0..all {
+        join_word(marks, more_marks, block);
+        join_block(words, more, block, more_marks[block as usize]);
+    }
+}
+
+// Joins 64 words, of which only those with a mark are read.
+fn join_block(words: &mut [u64], more: &[u64], block: u32, marks: u64)
+    requires within { 64 * block + 64 ≤ length words.old }
+    requires few { 64 * length words.old ≤ 4294967296 }
+    requires as_many { length more.now ≡ length words.old }
+    requires marked { (i : ℕ) → 4096 * block ≤ i → i < 4096 * block + 4096
+        → has more.now i ≡ true → has_bit marks (i / 64 % 64) ≡ true }
+    ensures grows { Grows words.old more.now words.new }
+    ensures joined { (i : ℕ) → 4096 * block ≤ i → i < 4096 * block + 4096
+        → has more.now i ≡ true → has words.new i ≡ true }
+{
+    let mut left = marks;
+    'marks: while left != 0 {
+        let bit = take_lowest(&mut left);
+        join_word(words, more, 64 * block + bit);
+    }
+}
+
+// Joins one word.
+fn join_word(words: &mut [u64], more: &[u64], at: u32)
+    requires within { at < length words.old }
+    requires as_many { length more.now ≡ length words.old }
+    ensures grows { Grows words.old more.now words.new }
+    ensures joined { (i : ℕ) → i / 64 ≡ at → has more.now i ≡ true → has words.new i ≡ true }
+{
+    words[at as usize] |= more[at as usize];
 }
 
 /// Makes all bits of these words 0. A word that has a bit has its mark, as above; only words with a

@@ -1,4 +1,4 @@
--- The text of a line, part by part from the left. Only private clauses name this.
+-- Private: the text of a line, part by part from the left.
 use Rattle.std.specs.Prelude.{◌≡◌, ℕ, ◌<◌, Bool, true, Option, Some, None, ◌∷◌, ◌++◌, codes, decimal}
 use Rattle.quantity.specs.declared.value.Value.{Value}
 use Rattle.quantity.specs.Bytes.{Bytes}

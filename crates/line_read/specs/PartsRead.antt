@@ -1,4 +1,4 @@
--- The parts of a line that a value of the program stands for.
+-- Private: the parts of a line that a value of the program stands for.
 use Rattle.line_read.specs.declared.parts.Parts as code
 use Rattle.line_read.specs.Strict as strict
 

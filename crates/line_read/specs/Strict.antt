@@ -1,4 +1,4 @@
--- How a log line is read from left to right, as private clauses have it.
+-- Private: how a log line is read from left to right.
 use Rattle.std.specs.Prelude.{ℕ, ◌+◌, Bool, not, ◌&&◌, ◌==◌, Option, Some, None, List, [], ◌∷◌, length, if◌then◌else◌, codes, decimal}
 use Rattle.std.specs.List.{before_first, after_first}
 use Rattle.std.specs.Option.{option_map, option_and_then}

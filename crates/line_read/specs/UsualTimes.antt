@@ -1,4 +1,4 @@
--- Times of the usual form. Only private clauses name this.
+-- Private: times of the usual form.
 use Rattle.std.specs.Prelude.{◌≡◌, ℕ, ◌/◌, ◌%◌, get_or, length}
 use Rattle.quantity.specs.Bytes.{Bytes}
 use Rattle.quantity.specs.Times.{IsTime}

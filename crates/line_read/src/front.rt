@@ -200,7 +200,8 @@ fn named_port(text: &[u8]) -> Option<(&[u8], &[u8])>
     Some((name, rest))
 }
 
-/// A state, which most often is a whole number below 10.
+/// The state in front of a text, and what follows its stroke. Most often it is a whole number below
+/// 10.
 #[inline(always)]
 pub(crate) fn state_in_front(text: &[u8]) -> Option<(Option<Value>, &[u8])>
     ensures { IfSome result (λ t. (is_state_value t.0 ≡ true)
@@ -214,7 +215,8 @@ pub(crate) fn state_in_front(text: &[u8]) -> Option<(Option<Value>, &[u8])>
     Some((Some(value), rest))
 }
 
-/// A byte that five decimals of 0 follow.
+/// The byte in front of `.00000` and a stroke, as the one digit of a whole number stands, and what
+/// follows the stroke. Whether it is a digit isn't looked at.
 #[inline(always)]
 fn whole_in_front(text: &[u8]) -> Option<(u8, &[u8])>
     ensures { IfSome result (λ t. text.now ≡ t.0 ∷ (codes ".00000" ++ stroke [] t.1.now)) }
@@ -237,7 +239,7 @@ fn whole_in_front(text: &[u8]) -> Option<(u8, &[u8])>
     }
 }
 
-/// Any state.
+/// The state in front of a text, of any form, and what follows its stroke.
 fn written_state(text: &[u8]) -> Option<(Option<Value>, &[u8])>
     ensures { IfSome result (λ t. (is_state_value t.0 ≡ true)
         × (text.now ≡ stroke (state_text t.0) t.1.now)) }

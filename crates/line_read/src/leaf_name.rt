@@ -94,6 +94,8 @@ fn read_place(text: &[u8]) -> Option<At>
     with_plane(row, column, ends, plane)
 }
 
+/// A place of a row and a column, where the coordinates end with these, or else of three, of which
+/// the text is the third; None where that is no coordinate.
 fn with_plane(row: u32, column: u32, ends: bool, plane: &[u8]) -> Option<At>
     ensures read { option_map at_of result ≡ strict.with_plane row column ends plane.now }
     ensures whole { IfSome result (λ at. HasCoordinates at.place at.dims) }

@@ -21,24 +21,28 @@ use text_forms::{Letter, Tells};
 /// leaf, or a leaf that moved.
 #[derive(Clone, Copy)]
 pub enum LogLine<'a> {
+    /// A value given at the port `out`.
     Y {
         time: Time,
         leaf: LeafName<'a>,
         port: &'a [u8],
         value: Value,
     },
+    /// A value given at a further port.
     N {
         time: Time,
         leaf: LeafName<'a>,
         port: &'a [u8],
         value: Value,
     },
+    /// A value that reached a leaf.
     X {
         time: Time,
         leaf: LeafName<'a>,
         port: &'a [u8],
         value: Value,
     },
+    /// A leaf that moved: its computed value, where it is a cell, and its next time.
     S {
         time: Time,
         leaf: LeafName<'a>,
@@ -48,7 +52,7 @@ pub enum LogLine<'a> {
 }
 
 impl LogLine<'_> {
-    /// Its time.
+    /// The time of the line: that of its cycle.
     pub fn time(&self) -> Time
         ensures { result ≡ line_time (line_of self.now) }
     {
@@ -121,6 +125,7 @@ fn given_line<'a>(letter: Letter, parts: &Parts<'a>) -> Option<LogLine<'a>>
     }
 }
 
+/// The line of this letter of a value at a port; None where no line of this letter is of this leaf.
 #[inline(always)]
 pub(crate) fn given<'a>(
     letter: Letter,
@@ -175,6 +180,7 @@ fn moved_line<'a>(parts: &Parts<'a>) -> Option<LogLine<'a>>
     moved(time, &leaf, value, next)
 }
 
+/// The line of a leaf that moved; None unless a cell has a value and a box none.
 #[inline(always)]
 pub(crate) fn moved<'a>(
     time: Time,

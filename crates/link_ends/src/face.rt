@@ -102,6 +102,7 @@ fn cells(section: &Section, grid: Option<&Grid>) -> u32
     requires { IsSpaceOf (section_of section.now) grid }
     ensures { result ≡ cells_of (section_of section.now) }
 {
+    // Only the clauses speak of it.
     let _section = section;
     match grid {
         None => 0,

@@ -1,4 +1,4 @@
--- Lists of leaves that wait for one time. No public clause cites this module.
+-- Private: lists of leaves that wait for one time.
 use Rattle.std.specs.Prelude.{◌≡◌, ◌≢◌, ℕ, ◌<◌, Option, Some, None, List, length, slice_index_or}
 use Rattle.linked_queue.specs.declared.lists.Lists.{Lists}
 

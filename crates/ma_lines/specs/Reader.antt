@@ -1,4 +1,4 @@
--- What the reader stands for.
+-- Private: what the reader stands for.
 use Rattle.std.specs.Prelude.{ℕ}
 use Rattle.std.specs.Option.{option_map}
 use Rattle.quantity.specs.Bytes.{Bytes}

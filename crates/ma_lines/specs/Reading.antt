@@ -1,4 +1,4 @@
--- A file read line by line: the sections so far, and the entry whose braces are open.
+-- Private: a file read line by line: the sections so far, and the entry whose braces are open.
 use Rattle.std.specs.Prelude.{ℕ, ◌==◌, Option, Some, None, List, [], ◌∷◌, ◌++◌, map, if◌then◌else◌}
 use Rattle.std.specs.declared.result.Result.{Result}
 use Rattle.std.specs.declared.result.Result.TheVariants.{Ok, Err}

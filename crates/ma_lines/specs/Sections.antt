@@ -126,5 +126,6 @@ abbrev pub unless_refused : Option LineRefusal → List Line → Result (List Se
 unless_refused None ls = Ok (sections_in (pieces (braced 0 ls)))
 unless_refused (Some r) ls = Err r
 
+-- the sections of the bytes of a file, or the first refusal
 unfoldable pub sections_of : Bytes → Result (List Section) LineRefusal
 sections_of bytes = unless_refused (lines_refused (lines_of bytes)) (lines_of bytes)

@@ -27,6 +27,7 @@ pub(crate) struct Reader {
 impl Reader {
     ghost use Rattle.ma_lines.specs.Reader.{opened_of, reading_of, line_of};
 
+    /// No line is read yet.
     pub(crate) fn new(alloc: Global) -> Reader
         ensures { reading_of result ≡ record { sections = []; open_entry = None } }
     {

@@ -59,6 +59,7 @@ impl Sections {
         &self.by_name[at]
     }
 
+    /// No section.
     pub(crate) fn new(alloc: Global) -> Sections
         ensures { result ≡ [] }
     {

@@ -1,4 +1,4 @@
--- What references to texts point to. Only private clauses use this definition.
+-- Private: what references to texts point to.
 use Rattle.std.specs.Prelude.{List, map}
 use Rattle.std.specs.Borrow.{Bor}
 use Rattle.quantity.specs.Bytes.{Bytes}

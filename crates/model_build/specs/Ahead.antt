@@ -127,7 +127,9 @@ AllMet ss steps = AllByRecursion (Met no_files ss) steps
 
 -- ---- what is built
 
--- a section's component, wherever the walk meets nothing but what is right
+-- a section of these, which may have so many levels of sections, itself included, is built to the
+-- component c: its parts are taken from the front of old, and new is left. It is said where the
+-- walk from that section meets nothing but what is right
 abbrev pub BuildsSection : ℕ → List Section → Section → Parts → Component → Parts → Type 0
 BuildsSection levels ss s old c new =
     (around : List Bytes) (line : ℕ) → AllMet ss (walk_from levels ss around line s) →

@@ -1,4 +1,10 @@
-// The tree of a model, from what its phases read.
+//! The tree of a model, put together from what the phases read.
+//!
+//! - `build` takes the sections, the walk, and in its order the groups of `model_spaces`, their
+//!   rules of `model_rules`, the atomic components of `model_stock` and the links of `model_links`;
+//!   and gives the component top. It goes down the sections once more and takes each part from the
+//!   front of its list (`Parts`). The cells have `?`, until `Model::lay` gives them values.
+//! - Definitions: `specs/Built.antt` (`IsBuilt`), over `model_text/specs/Trees.antt`.
 #![tactic(auto)]
 
 ghost use Rattle.std.specs.Prelude.{◌≡◌, map, IfOk};
@@ -55,6 +61,7 @@ pub fn build(
         → HasSettings sections.now settings atomics.items → IsBuilt sections.now settings top) }
     ensures atomics { IfOk result (λ top. atomics_in (in_tree top) ≡ atomics.items) }
 {
+    // Only the clauses speak of it.
     let _walked = walked;
     components_are_made_item_by_item();
     let groups = groups.into_iter();

@@ -1,5 +1,4 @@
--- How the files of one group are laid on its values. Only private clauses and proofs use these
--- definitions.
+-- Private: how the files of one group are laid on its values.
 use Rattle.std.specs.Prelude.{◌≡◌, ℕ, Bool, Option, List, [], ◌∷◌, ◌++◌, map, length, IfSome}
 use Rattle.std.specs.Option.{option_to_list}
 use Rattle.std.specs.declared.result.Result.{Result}

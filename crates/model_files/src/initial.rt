@@ -43,6 +43,7 @@ pub fn initial_values<R: Room>(
     ensures sizes { IfOk result (λ values. map (λ v. length v) values.items
         ≡ map (λ s. cell_count (space_of s)) (W.groups sections.now)) }
 {
+    // Only the clauses speak of it.
     let _sections = sections;
     lay_all(alloc, room, groups, before)
 }

@@ -1,4 +1,4 @@
--- The tuples of a group, part by part.
+-- Private: the tuples of a group, part by part.
 use Rattle.std.specs.Prelude.{Option, List, map}
 use Rattle.std.specs.Option.{option_and_then}
 use Rattle.std.specs.Bool.{then_some}

@@ -127,7 +127,7 @@ pub fn space(section: &Section) -> Grid
     grid
 }
 
-/// How results wait.
+/// How results wait: by inertia where the section says so, and else by transport.
 pub fn delay(section: &Section) -> DelayKind
     ensures { result ≡ T.delay_of (section_of section.now) }
 {
@@ -138,7 +138,7 @@ pub fn delay(section: &Section) -> DelayKind
     }
 }
 
-/// The delay of a result that gives none.
+/// The delay of a value that comes at a port of a cell without rules.
 pub fn default_delay(section: &Section) -> Time
     requires { T.default_delay_of (section_of section.now) ≤ MAX_DELAY }
     ensures { result ≡ T.default_delay_of (section_of section.now) }

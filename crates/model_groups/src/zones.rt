@@ -62,6 +62,7 @@ fn add_zone<'a>(
     ensures { OnOk result (spec.AddsZones (section_of section.now) found.old found.new
         (entry.now ∷ [])) }
 {
+    // Only the clauses speak of it.
     let _section = section;
     if !has_key(entry, b"zone") {
         return Ok(());

@@ -1,4 +1,4 @@
--- The forms of the values of keys, by their names. For clauses of private functions.
+-- Private: the forms of the values of keys, by their names.
 use Rattle.std.specs.Prelude.{Bool, List, [], ◌∷◌, map, codes}
 use Rattle.std.specs.Option.{is_some}
 use Rattle.quantity.specs.Bytes.{Bytes}

@@ -1,4 +1,4 @@
--- What a part of the phase gives. For clauses of private functions.
+-- Private: what a part of the phase gives.
 use Rattle.std.specs.Prelude.{◌≡◌, Option, List}
 use Rattle.std.specs.Option.{option_map}
 use Rattle.model_text.specs.Refusals.{Refusal}

@@ -1,4 +1,4 @@
--- How many values go with the words of another key. For clauses of private functions.
+-- Private: how many values go with the words of another key.
 use Rattle.std.specs.Prelude.{◌≡◌, ◌==◌, Bool, false, ◌&&◌, Option, Some, None, length, if◌then◌else◌, codes}
 use Rattle.std.specs.List.{list_all}
 use Rattle.quantity.specs.Bytes.{Bytes, words}

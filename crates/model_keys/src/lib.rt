@@ -1,4 +1,11 @@
-// The keys of sections: how often they may stand, and the form of their values.
+//! The phase of keys: which keys must stand in a section, which may stand once, and the form of
+//! their values; and which parameters of atomic components stand twice and may not.
+//!
+//! - `keys_refused` takes the sections and the walk, and gives the least refusal, or none.
+//! - The tables of keys stand in `sections`, that of forms in `form`; `repeated`, `again`,
+//!   `wanted`, `group` and `atomics` have the tests.
+//! - Definitions: `model_text/specs/Keys.antt` (`keys_refused`) and `Forms.antt`. It rests on
+//!   `model_forms`, and on `Class` of `atomic_face` for the keys of classes.
 #![tactic(auto)]
 
 mod again;

@@ -1,4 +1,11 @@
-// The links of sections, read and judged.
+//! The phase of links: the links of each section, read, and judged in their order.
+//!
+//! - `links` takes the sections, the walk and the groups of `model_spaces`, and gives the links of
+//!   each section that the walk met; or the least refusal. `link_limit_refused` gives the refusal
+//!   of too many links, or of too many inputs or outputs of top.
+//! - Definitions: `model_text/specs/Links.antt` (`links_refused`, `links_of`), and
+//!   `link_limit_refused` of `ModelOf.antt` there; which links may stand:
+//!   `model_tree/specs/Faces.antt`. It rests on `link_ends`.
 #![tactic(auto)]
 
 ghost use Rattle.std.specs.Prelude.{◌≡◌, None, Some, map, IfOk};

@@ -1,4 +1,4 @@
--- What the phases behind the limit of links give. Only private clauses use these definitions.
+-- Private: what the phases behind the limit of links give.
 use Rattle.std.specs.Prelude.{◌≡◌, ℕ, ◌<◌, ◌≤◌, Bool, true, false, nat_lt, Option, Some, None, List, ⊤}
 use Rattle.std.specs.declared.result.Result.{Result}
 use Rattle.std.specs.declared.result.Result.TheVariants.{Ok, Err}

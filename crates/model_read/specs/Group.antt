@@ -1,4 +1,4 @@
--- The group that is drawn, looked for among the leaves.
+-- Private: the group that is drawn, looked for among the leaves.
 use Rattle.std.specs.Prelude.{◌≡◌, ℕ, true, false, Option, Some, None, List, ⊤, slice_get}
 use Rattle.std.specs.Str.{bytes_eq}
 use Rattle.model_tree.specs.declared.table.Model.{Model}

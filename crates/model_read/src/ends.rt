@@ -140,6 +140,7 @@ fn lay_values(sections: &Sections, model: &mut Model, values: Vec<Initial>)
     ensures { (settings : Settings)
         → tree_of model.new settings ≡ laid values.items (tree_of model.old settings) }
 {
+    // Only the clauses speak of it.
     let _sections = sections;
     groups_are_met();
     groups_are_alike();

@@ -1,5 +1,11 @@
-// The rules of groups. A rules section that several groups name is read once for each of them,
-// since what a rule may name is the group's.
+//! The phase of rules: the rule sets that groups name, read and numbered. A section of rules that
+//! several groups name is read once for each, since what a rule may name is the group's.
+//!
+//! - `rules` takes the sections and the groups of `model_spaces`, and gives for each group
+//!   `GroupRules`: its rule sets, that of `localtransition` first, and the numbers of those that
+//!   its zones and ports name; or the least refusal.
+//! - Definitions: `model_text/specs/Rules.antt` (`rules_refused`); the sets and their numbers:
+//!   `specs/Sets.antt`. Each rule is read by `Rule::read` of `rule_syntax`.
 #![tactic(auto)]
 
 ghost use Rattle.std.specs.Prelude.{◌≡◌, None, Some, map, IfOk};
@@ -29,6 +35,7 @@ use std::alloc::Global;
 #[derive(Drop)]
 pub struct GroupRules {
     pub rule_sets: Vec<Vec<RuleTree>>,
+    /// For each zone the number of its rule set.
     pub zone_rules: Vec<usize>,
     pub port_rules: Vec<PortRule>,
 }

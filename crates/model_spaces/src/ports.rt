@@ -109,6 +109,7 @@ fn port_rule<'a>(section: &Section, grid: &Grid, entry: &'a Entry) -> Option<Pla
         ≡ spec.place_in (section_of section.now) entry.now }
     ensures rules { option_map rule_shown result ≡ spec.item_in (section_of section.now) entry.now }
 {
+    // For the proof alone.
     let _section = section;
     let read = port_rule_text(section.name.as_bytes(), entry.value.as_bytes())?;
     let cell = cell_in(read.place, grid)?;

@@ -35,6 +35,7 @@ fn with_entry(section: &Section, grid: &Grid, entry: &Entry, initial: Initial) -
         (filter_map (S.row_in (section_of section.now)) (entry.now ∷ [])) }
     ensures length { length result ≡ cell_count grid.now }
 {
+    // Only the clauses speak of it.
     let _section = section;
     let text = entry.value.as_bytes();
     if has_key(entry, b"initialrowvalue") {

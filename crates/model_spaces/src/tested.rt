@@ -154,6 +154,7 @@ fn is_zone(
     ensures { IfOk result (λ right. right
         ≡ is_some (zone_in (S.space_of (section_of section.now)) entry.now.value)) }
 {
+    // Only the clauses speak of it.
     let _section = section;
     let mut zones = Zones::new(alloc);
     match zones.add(alloc, entry.value.as_bytes(), grid) {
@@ -168,6 +169,7 @@ fn is_row(section: &Section, grid: &Grid, entry: &Entry) -> bool
     requires { grid.now ≡ S.space_of (section_of section.now) }
     ensures { result ≡ is_some (S.row_in (section_of section.now) entry.now) }
 {
+    // Only the clauses speak of it.
     let _section = section;
     if has_key(entry, b"initialrowvalue") {
         return is_row_digits(entry.value.as_bytes(), grid);

@@ -1,4 +1,4 @@
--- How one component takes its box. Only private clauses and proofs use these definitions.
+-- Private: how one component takes its box.
 use Rattle.std.specs.Prelude.{◌≡◌, ℕ, Bool, true, ◌&&◌, Option, Some, None, List, [], ◌∷◌, ◌++◌, map, slice_set, slice_get, if◌then◌else◌, IfSome}
 use Rattle.std.specs.List.{list_any, position, filter_map, count_by}
 use Rattle.std.specs.Option.{option_map, option_or, is_some}

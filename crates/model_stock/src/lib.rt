@@ -1,4 +1,11 @@
-// The boxes of atomic components, taken and settled.
+//! The phase of atomic components: each takes a box of its class from the stock, which is settled
+//! by the component's parameters.
+//!
+//! - `atomics` takes the sections, the walk and a `Stock` of `atomic_face`, and gives the atomic
+//!   components in declared order, each with the number of its box; or the first that is refused:
+//!   it has no class, no box is left, or a parameter is off its form.
+//! - Definitions: `model_text/specs/Stock.antt` (`stock_refused`); the box that a component has
+//!   then: `specs/Settled.antt`.
 #![tactic(auto)]
 
 ghost use Rattle.std.specs.Prelude.{◌≡◌, None, Some, map, length, slice_get, not, IsTrue, IfOk};

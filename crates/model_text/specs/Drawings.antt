@@ -22,7 +22,7 @@ abbrev pub has_plane : ℕ → Option Group → Bool
 has_plane plane None = false
 has_plane plane (Some g) = nat_lt plane (plane_count g.space)
 
--- no such plane
+-- the refusal of a drawing whose group or plane is not there
 abbrev pub drawing_refused : Option Drawing → Tree → Option Refusal
 drawing_refused None t = None
 drawing_refused (Some d) t =

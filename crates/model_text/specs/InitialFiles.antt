@@ -24,7 +24,7 @@ pub record InitialFile : Type 0 where
 abbrev pub file_at : (Bytes → Bool) → Entry → InitialFile
 file_at is_right e = record { line = e.line; name = e.value; is_right = is_right }
 
--- map before cells
+-- the files that the section of a group names: of maps first, then of cells
 abbrev pub files_of_group : Section → List InitialFile
 files_of_group s =
     map (file_at (λ bytes. is_some (map_file (space_of s) bytes)))

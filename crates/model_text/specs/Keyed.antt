@@ -21,7 +21,7 @@ entries_of key s = filter (λ (e : Entry). bytes_eq e.key key) s.entries
 abbrev pub first_entry : Bytes → Section → Option Entry
 first_entry key s = find (λ (e : Entry). bytes_eq e.key key) s.entries
 
--- its value
+-- the value of the first entry with this key
 abbrev pub value_of : Bytes → Section → Option Bytes
 value_of key s = option_map (λ (e : Entry). e.value) (first_entry key s)
 

@@ -4,6 +4,7 @@ use Rattle.std.specs.List.{range_with_len}
 use Rattle.quantity.specs.Bytes.{Bytes}
 use Rattle.source_text.specs.Examples.{file}
 
+-- three cells in a ring: a cell is 1 where one of the three that it sees is
 abbrev pub line_model : List Bytes
 line_model =
     codes "[top]" ∷ codes "components : line" ∷ codes "[line]" ∷ codes "type : cell"
@@ -30,9 +31,11 @@ life_model size rows =
     ∷ codes "   (trueCount = 3 or trueCount = 4) }"
     ∷ codes "rule : 1 100 { (0,0) = 0 and trueCount = 3 }" ∷ codes "rule : 0 100 { t }" ∷ []))
 
+-- Life in five rows and columns, with a row of three
 abbrev pub blinker : List Bytes
 blinker = life_model (codes "5") (codes "initialrowvalue : 2 01110" ∷ [])
 
+-- one cell without neighbours, whose port v takes what comes at the input p of top
 abbrev pub port_model : List Bytes
 port_model =
     codes "[top]" ∷ codes "components : g" ∷ codes "in : p" ∷ codes "link : p in@g" ∷ codes "[g]"
@@ -49,6 +52,7 @@ cell_model keys rules =
     ∷ codes "neighbors : g(0,0)"
     ∷ (keys ++ (codes "initialvalue : 0" ∷ codes "localtransition : r" ∷ codes "[r]" ∷ rules))
 
+-- two generators, of which one is in a component with two outputs, and a queue that takes from all
 abbrev pub queue_model : List Bytes
 queue_model =
     codes "[top]" ∷ codes "components : s h@generator q@queue" ∷ codes "out : o"
@@ -65,17 +69,22 @@ queue_model =
 abbrev pub with_line : ℕ → Bytes → List Bytes → List Bytes
 with_line n l ls = take (n - 1) ls ++ (l ∷ drop n ls)
 
+-- without the line of this number
 abbrev pub without_line : ℕ → List Bytes → List Bytes
 without_line n ls = take (n - 1) ls ++ drop n ls
 
 -- ---- the made model
 
+-- the digit of a cell of the made model by its row and column: 1 for three in a row in each square
+-- of five by five
 abbrev pub made_digit : ℕ → ℕ → ℕ
 made_digit i j = if (i % 5 == 2) && ((j % 5 == 1) || (j % 5 == 2) || (j % 5 == 3)) then 49 else 48
 
+-- the line of this row in a space of so many columns
 abbrev pub made_row : ℕ → ℕ → Bytes
 made_row n i =
     codes "initialrowvalue : " ++ decimal i ++ (32 ∷ map (made_digit i) (range_with_len 0 n))
 
+-- the text of Life with so many rows and columns
 unfoldable pub made_text : ℕ → Bytes
 made_text n = file (life_model (decimal n) (map (made_row n) (range_with_len 0 n)))

@@ -10,7 +10,7 @@ use Rattle.rule_words.specs.declared.refusal.RuleRefusal.{RuleRefusal}
 use Rattle.model_text.specs.declared.kind.Kind.{Kind}
 use Rattle.model_text.specs.declared.kind.Kind.TheVariants.{BadLine, DuplicateSection, NoTop, DuplicateKey, MissingKey, BadValue, UnknownComponent, DuplicateComponent, ComponentCycle, UnknownClass, OutOfStock, BadParameter, UnknownPort, SelfLink, PassThrough, DuplicateLink, TooManyRoutes, BadRule, BadSort, RandomRefused, UnknownFunction, NotANeighbour, BadZone, BadInitial, TooLarge, TooLong, NoSection, NoSuchPlane, UnknownVariable, UnknownNeighbourPort}
 
--- line 0 is the whole file
+-- why a model is refused, and the line; line 0 is the whole file
 pub record Refusal : Type 0 where
   pub line : ℕ
   pub kind : Kind
@@ -93,13 +93,13 @@ kind_text k = decimal (number_of k) ++ 32 ∷ kind_name k
 
 -- ---- refusals of parts; want of memory is none of the model's
 
--- of a line
+-- the refusal of a model by a line that is refused where its file is cut into sections
 abbrev pub refusal_of_line : LineRefusal → Refusal
 refusal_of_line (L.BadLine line) = refusal line BadLine
 refusal_of_line (L.DuplicateSection line) = refusal line DuplicateSection
 refusal_of_line L.Memory = refusal 0 BadLine
 
--- of a link
+-- why a link is refused
 abbrev pub kind_of_link : LinkRefusal → Kind
 kind_of_link K.UnknownPort = UnknownPort
 kind_of_link K.SelfLink = SelfLink
@@ -107,7 +107,7 @@ kind_of_link K.PassThrough = PassThrough
 kind_of_link K.DuplicateLink = DuplicateLink
 kind_of_link K.Memory = UnknownPort
 
--- of a rule
+-- why a rule is refused
 abbrev pub kind_of_rule : RuleRefusal → Kind
 kind_of_rule R.BadRule = BadRule
 kind_of_rule R.BadSort = BadSort

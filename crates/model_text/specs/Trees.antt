@@ -144,7 +144,7 @@ abbrev pub tree_at : Files → List Section → Option Section → Tree
 tree_at files ss None = no_tree
 tree_at files ss (Some s) = first_tree (component_of MAX_LEVELS files ss s)
 
--- the component top
+-- the component top of these sections, with the values that these files give
 abbrev pub tree_of : Files → List Section → Tree
 tree_of files ss = tree_at files ss (section_named ss top)
 

@@ -80,7 +80,7 @@ abbrev pub walk_at : List Section → Option Section → List Step
 walk_at ss None = []
 walk_at ss (Some s) = walk_from MAX_LEVELS ss [] 0 s
 
--- from top
+-- from section top; no step where there is none
 abbrev pub walk : List Section → List Step
 walk ss = walk_at ss (section_named ss top)
 
@@ -124,12 +124,13 @@ item_refused ss before around i =
     else if not (is_atomic i) && not (is_some (section_of ss i)) then Some UnknownComponent
     else None
 
--- a wrong type
+-- the refusal of a section whose type, if this entry says one, is wrong
 abbrev pub type_refused : Section → Option Entry → Option Refusal
 type_refused s None = None
 type_refused s (Some e) = if is_wrong_type s e then Some (refusal e.line BadValue) else None
 
--- too deep, of a wrong type, or without children
+-- the refusal of a section that is too deep, of a wrong type, or without children where it is no
+-- group; this line is that of the item that names it, 0 for top
 abbrev pub section_refused : ℕ → Bool → Section → Option Refusal
 section_refused line is_too_deep s =
     if is_too_deep then Some (refusal line TooLarge)
@@ -150,7 +151,7 @@ first_step_refused ss before (step ∷ steps) =
     option_or (step_refused ss before step)
     (first_step_refused ss (before ++ items_in (step ∷ [])) steps)
 
--- no section top
+-- the refusal of a file without section top
 abbrev pub top_refused : List Section → Option Refusal
 top_refused ss = if is_some (section_named ss top) then None else Some (refusal 0 NoTop)
 

@@ -1,4 +1,4 @@
--- What a table that is being made shows, whatever is put behind its parts and names later.
+-- Private: what a table that is being made shows, whatever is put behind its parts and names later.
 use Rattle.std.specs.Prelude.{◌≡◌, ℕ, ◌+◌, Some, List, [], ◌∷◌, ◌++◌, map, slice_get}
 use Rattle.std.specs.List.{range_with_len, sum_by}
 use Rattle.cell_grid.specs.Space.{cell_count}

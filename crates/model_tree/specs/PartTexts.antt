@@ -1,4 +1,4 @@
--- How the leaves of a part are called.
+-- Private: how the leaves of a part are called.
 use Rattle.std.specs.Prelude.{ℕ, ◌<◌, ◌++◌, List, [], ◌∷◌, take, codes}
 use Rattle.rule_tree.specs.Meaning.{coordinates}
 use Rattle.cell_grid.specs.Space.{cell_count, place_of, dims_of}

@@ -26,7 +26,7 @@ impl CellGroup {
         Ok(names)
     }
 
-    /// The same for all cells, one after another. It looks at each link once.
+    /// The names of the input ports of each cell, by its number. It looks at each link once.
     pub fn ports_of_cells(&self, alloc: Global) -> Result<Vec<Vec<Name>>, OutOfMemory>
         ensures { IfOk result
             (λ all. map (λ v. v.items) all.items ≡ ports_of_cells (group_of self.now)) }

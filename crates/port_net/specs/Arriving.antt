@@ -1,4 +1,4 @@
--- Private: nodes of links, looked up by where the links lead.
+-- The nodes of links, looked up by where the links lead: what `Arrivals` keeps and answers.
 use Rattle.std.specs.Prelude.{◌≡◌, ℕ, List, [], ◌∷◌, ◌++◌, Bool, true, Option, Vec, if◌then◌else◌}
 use Rattle.std.specs.List.{filter, flat_map}
 use Rattle.std.specs.declared.alloc.Global.{Global}

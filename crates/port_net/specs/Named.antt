@@ -1,4 +1,4 @@
--- Private: children, looked up by their names.
+-- Children, looked up by their names: what `Children` keeps and answers.
 use Rattle.std.specs.Prelude.{◌≡◌, ℕ, ℤ, ◌+◌, Option, None, Some, List, [], ◌∷◌, if◌then◌else◌}
 use Rattle.std.specs.Borrow.{Bor}
 use Rattle.std.specs.Map.{lookup}

@@ -1,4 +1,4 @@
--- The rows of leaves, one after another.
+-- Private: the rows of leaves, one after another.
 use Rattle.std.specs.Prelude.{◌≡◌, ℕ, ◌+◌, List, [], ◌∷◌, ◌++◌, ℤ, map}
 use Rattle.std.specs.List.{enumerate_from, flat_map}
 use Rattle.model_tree.specs.declared.component.Component.{Component}

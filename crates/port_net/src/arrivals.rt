@@ -123,7 +123,7 @@ fn node_in(nodes: &[u32], number: usize) -> Option<u32>
     nodes.get(number).copied()
 }
 
-/// One node.
+/// A list of one node.
 fn one(alloc: Global, node: u32) -> Result<Vec<u32>, OutOfMemory>
     ensures { IfOk result (λ list. list.items ≡ node ∷ []) }
 {

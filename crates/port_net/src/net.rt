@@ -9,12 +9,15 @@ pub enum Node {
     Joins(Vec<u32>),
 }
 
-/// The nodes, the nodes at the ports of leaves, which of these belong to each leaf, and the nodes
-/// at the outputs of top.
+/// The ports of a model as nodes.
 #[derive(Drop)]
 pub struct Net {
+    /// Each joins none but older ones.
     pub nodes: Vec<Node>,
+    /// The nodes at the input ports of all leaves, leaf after leaf.
     pub ports: Vec<u32>,
+    /// For each leaf its part of these.
     pub leaves: Vec<Span>,
+    /// The nodes at the outputs of top.
     pub outputs: Vec<u32>,
 }

@@ -1,6 +1,6 @@
 // Where values come from, and parts of lists.
 
-/// The output port `out` of a leaf, or an input of top, by its number.
+/// Where values come from: the output port `out` of a leaf, or an input of top, by its number.
 #[derive(Clone, Copy, PartialEq, Eq, Debug)]
 pub enum Source {
     Leaf(u32),

@@ -60,6 +60,7 @@ pub(crate) fn are_digits(least: usize, most: usize, text: &[u8]) -> bool
     least <= text.len() && text.len() <= most && all_are_digits(text)
 }
 
+/// Whether all bytes are decimal digits.
 pub(crate) fn all_are_digits(text: &[u8]) -> bool
     ensures { result ≡ all_ascii_digits text.now }
 {

@@ -40,6 +40,7 @@ impl Model for ShortText {
 }
 
 impl ShortText {
+    /// The empty text.
     #[inline(always)]
     pub(crate) fn new() -> ShortText
         ensures { result ≡ [] }
@@ -50,6 +51,7 @@ impl ShortText {
         }
     }
 
+    /// Puts a byte in front.
     #[inline(always)]
     pub(crate) fn put_byte(&mut self, byte: u8)
         requires { length self.old < 24 }
@@ -88,6 +90,7 @@ impl ShortText {
         self.put_byte(tens);
     }
 
+    /// Puts all digits of a number in front.
     pub(crate) fn put_number(&mut self, number: u64)
         requires { length self.old + length (decimal number) ≤ 24 }
         ensures { self.new ≡ decimal number ++ self.old }
@@ -111,6 +114,7 @@ impl ShortText {
         &self.bytes[self.start..]
     }
 
+    /// Appends the text. Where memory is refused, `into` stays as it was.
     pub(crate) fn append_to(&self, into: &mut Vec<u8>) -> Result<(), OutOfMemory>
         ensures ok { OnOk result (into.new.items ≡ into.old.items ++ self.now) }
         ensures err { OnErr result (into.new.items ≡ into.old.items) }

@@ -1,4 +1,11 @@
-//! Calls of the reader of models: walks, forms, keys, trees of components, and the made text.
+//! Tests of parts of the reader of models, with enough memory.
+//!
+//! - A walk goes down first (`walks`); words are few and different, tuples stand behind the group
+//!   and stay whole in links (`forms`); the least key is refused (`keys`); links of a tree are
+//!   added and refused, its leaves and ports are called by their names (`trees`); the made text has
+//!   five rows and columns (`made_texts`).
+//! - Crates that are tried: `model_walk`, `model_forms`, `model_keys`, `model_tree`, `made_model`.
+//!   Whole models are read in `gallery_models` and `refused_runs`.
 #![tactic(auto)]
 
 #[cfg(test)]

@@ -59,7 +59,7 @@ pub struct SRecord {
     pub next: Option<Time>,
 }
 
-/// A value at an output of top.
+/// A value at an output of top, by the output's number.
 #[derive(Clone, Copy)]
 pub struct OutRecord {
     pub time: Time,
@@ -72,7 +72,9 @@ pub struct OutRecord {
 /// is used again.
 #[derive(Drop)]
 pub struct Records {
+    /// Values given at ports `out`.
     pub y: Vec<YRecord>,
+    /// Values given at further ports.
     pub n: Vec<YRecord>,
     pub x: Vec<XRecord>,
     pub s: Vec<SRecord>,

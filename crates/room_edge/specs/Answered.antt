@@ -1,4 +1,4 @@
--- What a call over the real outside comes to, by the answer of the system.
+-- Private: what a call over the real outside comes to, by the answer of the system.
 use Rattle.std.specs.Prelude.{◌≡◌, ℕ, ◌||◌, ◌==◌, nat_lt, Option, Some, None, Result, Ok, Err, IsOk, if◌then◌else◌}
 use Rattle.std.specs.declared.io.Error.{Error}
 use Rattle.std.specs.declared.io.ErrorKind.{ErrorKind}

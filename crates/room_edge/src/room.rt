@@ -23,7 +23,7 @@ pub enum OpenError {
 #[error("can't be read")]
 pub struct ReadFailed;
 
-/// Why nothing was written.
+/// Why a file wasn't made, or no byte added to a file or a stream.
 #[derive(Clone, Copy, Debug, Error)]
 pub enum WriteError {
     /// It can't be written to: a fault of writing, which is counted.

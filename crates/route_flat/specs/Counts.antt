@@ -1,4 +1,4 @@
--- Numbers of sources, kept at 65537 once they are past 65536.
+-- Private: numbers of sources, kept at 65537 once they are past 65536.
 use Rattle.std.specs.Prelude.{◌≡◌, ℕ, min, List, get_or, map, length}
 use Rattle.std.specs.List.{sum_by, range_with_len}
 use Rattle.port_net.specs.declared.net.Node.{Node}

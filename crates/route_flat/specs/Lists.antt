@@ -1,4 +1,4 @@
--- Lists of sources that stand one behind another.
+-- Private: lists of sources that stand one behind another.
 use Rattle.std.specs.Prelude.{◌≡◌, ℕ, ◌+◌, Option, Some, None, List, ◌++◌, map, length, nat_le, if◌then◌else◌}
 use Rattle.std.specs.List.{flat_map}
 use Rattle.port_net.specs.declared.net.Node.{Node}

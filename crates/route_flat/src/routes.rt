@@ -93,7 +93,7 @@ impl Routes {
         self.lists.sources(leaf, port)
     }
 
-    /// The same at an output of top.
+    /// The sources at an output of top, in the order in which their values come.
     pub fn top_sources(&self, out: u16) -> &[Source]
         requires { out < length self.now.tops }
         ensures { HoldsAt (λ list. result.now ≡ list) self.now.tops out }

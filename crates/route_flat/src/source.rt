@@ -2,7 +2,7 @@
 use atomic_face::PortNo;
 use port_net::Source;
 
-/// An input port of a leaf, or an output of top, by its number.
+/// Where a path ends: an input port of a leaf, or an output of top, by its number.
 #[derive(Clone, Copy, PartialEq, Eq, Debug)]
 pub enum TargetPort {
     Leaf(u32, PortNo),

@@ -18,7 +18,9 @@ use Rattle.rule_forms.specs.Ran.{left_by, answer_of}
 use Rattle.rule_forms.specs.RuleCodes.{Codes, coded, codes_of}
 use Rattle.rule_forms.specs.ByCode.{Outcome, no_values, number_or_stop, truth_or_stop, number_by_code, truth_by_code, given_by_code, set_by_code, delay_or_stop, delay_in, delay_by_code, made_of, made_by_code, if_holds, first_by_code}
 use Rattle.rule_tree.specs.Ports.{or_earlier, given_at, by_port}
-use Rattle.rule_eval.specs.Evaluated.{Evaluates, Makes}
+use Rattle.std.specs.Borrow.{Bor}
+use Rattle.rule_forms.specs.declared.known.Constant.{Constant}
+use Rattle.rule_eval.specs.Evaluated.{Evaluates, Makes, IsLent, MayLend}
 use Rattle.rule_forms.proofs.Stands.{code_stands}
 
 -- ---- expressions
@@ -173,3 +175,19 @@ pub evaluates : (trees : List Rule) (codes : List Codes) (s : Sight) (result : R
 evaluates trees codes s result changed stand h =
     let P : Outcome → Type 0 = λ o. Makes o result changed in
     evaluates_by (chosen trees s) result changed (subst P (ap (λ (cs : List Codes). first_by_code cs s) stand ∙ chosen_is trees s) h)
+
+-- the same where what is given may be lent
+pub evaluates_lent : (trees : List Rule) (codes : List Codes) (s : Sight)
+    (result : Result (Option (Bor Constant) × ℕ) RuleStop) (given : Given)
+    (changed seen : List Value)
+    → codes ≡ map codes_of trees → MayLend (Makes (first_by_code codes s)) result given changed seen
+    → MayLend (Evaluates (chosen trees s)) result given changed seen
+evaluates_lent trees codes s (Err stop) given changed seen stand h =
+    evaluates trees codes s (Err stop) changed stand h
+evaluates_lent trees codes s (Ok r) given changed seen stand h = at r.0 h
+  where
+    at : (lent : Option (Bor Constant))
+        → IsLent (Makes (first_by_code codes s)) lent r.1 given changed seen
+        → IsLent (Evaluates (chosen trees s)) lent r.1 given changed seen
+    at None m = evaluates trees codes s (Ok (given, r.1)) changed stand m
+    at (Some known) m = evaluates trees codes s (Ok (known.now.given, r.1)) seen stand m

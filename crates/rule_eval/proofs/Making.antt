@@ -13,6 +13,8 @@ use Rattle.rule_forms.specs.Forms.{expr_of_form}
 use Rattle.rule_forms.specs.Depth.{depth_of}
 use Rattle.rule_forms.specs.RuleCodes.{Codes, deepest}
 use Rattle.rule_forms.specs.Numbered.{plain}
+use Rattle.rule_forms.specs.declared.known.Constant.{Constant}
+use Rattle.rule_forms.specs.Known.{AlwaysMakes}
 use Rattle.rule_forms.specs.ByCode.{Outcome, number_by_code, truth_by_code, given_by_code, set_by_code, made_of, made_by_code, first_by_code, if_holds}
 use Rattle.rule_eval.specs.Evaluated.{Makes, GivesValues, SetsVariables}
 use Rattle.rule_forms.proofs.Stacks.{drop_here}
@@ -124,3 +126,10 @@ stopped_by_a_set (Ok vs) delay variables given ms stop changed p is set_is =
     at (Ok xs) q = absurd q
     at (Err e) q = q
 stopped_by_a_set (Err e) delay variables given ms stop changed p is set_is = absurd p
+
+-- what a rule gives whatever a cell sees
+pub made_always : (rule : Codes) (known : Constant) (s : Sight) → AlwaysMakes rule known
+    → Makes (made_by_code rule s) (Ok (known.given, known.delay)) s.variables
+made_always rule known s always =
+    let P : Outcome → Type 0 = λ o. Makes o (Ok (known.given, known.delay)) s.variables in
+    subst P (sym (always.made s)) (record { values = refl; delay = refl; variables = refl })

@@ -1,4 +1,4 @@
--- Counts that were made over a view.
+-- Private: counts that were made over a view.
 use Rattle.std.specs.Prelude.{◌≡◌, ℕ, Option, None, IfSome, get_or}
 use Rattle.rule_tree.specs.declared.node.Count.{Count}
 use Rattle.rule_tree.specs.declared.node.Count.TheVariants.{Ones, Zeros, Undefs}

@@ -4,4 +4,5 @@ pub mod Room
 pub mod Kept
 pub mod Tests
 pub mod Sums
+pub mod Numbers
 pub mod Stacked

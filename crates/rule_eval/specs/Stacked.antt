@@ -1,4 +1,4 @@
--- The stack after the arguments of a function.
+-- Private: the stack after the arguments of a function.
 use Rattle.std.specs.Prelude.{Option, Some, None, List, ◌++◌}
 use Rattle.rule_tree.specs.declared.outcome.Answer.{Answer}
 

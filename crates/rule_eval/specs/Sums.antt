@@ -1,4 +1,4 @@
--- Sums of neighbours' values.
+-- Private: sums of neighbours' values.
 use Rattle.std.specs.Prelude.{ℕ, Option, Some, List, [], ◌∷◌, slice_get}
 use Rattle.std.specs.Option.{unwrap_or}
 use Rattle.quantity.specs.declared.value.Value.{Value}

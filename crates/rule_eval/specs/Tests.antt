@@ -1,4 +1,4 @@
--- What a test means over the values of neighbours.
+-- Private: what a test means over the values of neighbours.
 use Rattle.std.specs.Prelude.{List, map, ◌==◌}
 use Rattle.quantity.specs.declared.truth.Tri.{Tri}
 use Rattle.quantity.specs.declared.value.Compare.TheVariants.{Equal}

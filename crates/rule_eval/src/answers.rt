@@ -138,7 +138,7 @@ fn number_counted(count: Count, view: &View, counts: &mut Counts) -> Value
 /// What a form answers over the view, with these values of the variables. The arguments of
 /// functions stand on the stack meanwhile.
 #[cycle(answer)]
-fn answer(
+pub(crate) fn answer(
     form: &Form,
     view: &View,
     variables: &[Value],

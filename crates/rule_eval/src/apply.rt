@@ -5,6 +5,7 @@ ghost use Rattle.quantity.specs.declared.value.Value.{Value as AnyValue};
 ghost use Rattle.quantity.specs.Arithmetic.{test_of, is_even, is_odd, is_whole};
 ghost use Rattle.rule_tree.specs.Meaning.{Sight, number_answered, truth_in, as_answer, one_meaning};
 ghost use Rattle.rule_tree.specs.Meaning.{two_meaning, by_truth, is_undefined, call_meaning};
+ghost use Rattle.rule_eval.specs.Numbers.{number_of_two};
 ghost use Rattle.rule_eval.specs.Seen.{IsView, seen};
 
 use crate::outs::decided;
@@ -13,6 +14,7 @@ use crate::view::View;
 use quantity::{Overflow, Tri, Value};
 use rule_tree::{Answer, Binary, Function, Unary};
 
+/// The value that an answer is; `?` for a truth value.
 pub(crate) fn number_in(answer: Answer) -> Value
     ensures { result ≡ number_answered answer }
 {
@@ -22,6 +24,7 @@ pub(crate) fn number_in(answer: Answer) -> Value
     }
 }
 
+/// The truth value that an answer is; undefined for a value.
 pub(crate) fn truth_in(answer: Answer) -> Tri
     ensures { result ≡ truth_in answer }
 {
@@ -31,6 +34,7 @@ pub(crate) fn truth_in(answer: Answer) -> Tri
     }
 }
 
+/// What an operator makes of one answer.
 pub(crate) fn apply_unary(operator: Unary, a: Answer) -> Answer
     ensures { one_meaning operator a ≡ Some result }
 {
@@ -41,6 +45,7 @@ pub(crate) fn apply_unary(operator: Unary, a: Answer) -> Answer
     }
 }
 
+/// What an operator makes of two answers. Overflow where the result is too large.
 #[inline(always)]
 pub(crate) fn apply_binary(operator: Binary, a: Answer, b: Answer) -> Result<Answer, Overflow>
     ensures { result_ok result ≡ two_meaning operator a b }
@@ -59,6 +64,21 @@ pub(crate) fn apply_binary(operator: Binary, a: Answer, b: Answer) -> Result<Ans
     }
 }
 
+/// The number that an operator between two numbers answers, `?` where that is a truth value.
+#[inline(always)]
+pub(crate) fn arithmetic(operator: Binary, a: Value, b: Value) -> Result<Value, Overflow>
+    ensures { result_ok result ≡ number_of_two operator a b }
+{
+    match operator {
+        Binary::Add => a.add(b),
+        Binary::Sub => a.sub(b),
+        Binary::Mul => a.mul(b),
+        Binary::Div => a.div(b),
+        _ => Ok(Value::Undefined),
+    }
+}
+
+/// The answer that a value is, where it isn't too large.
 pub(crate) fn as_answer(value: Result<Value, Overflow>) -> Result<Answer, Overflow>
     ensures { result_ok result ≡ as_answer (result_ok value) }
 {

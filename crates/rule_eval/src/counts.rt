@@ -21,6 +21,7 @@ impl Counts {
     pub(crate) fn none(view: &View) -> Counts
         ensures { AreCounts result view.now }
     {
+        // Only the clauses speak of it.
         let _view = view;
         Counts {
             numbers: [None, None, None],
@@ -77,6 +78,7 @@ impl Counts {
         ensures value { result ≡ counted count (outs (sight_of view.now)) }
         ensures counts { AreCounts self.new view.now }
     {
+        // Only the clauses speak of it.
         let _view = view;
         self.numbers[place(count)] = Some(number);
         number

@@ -14,14 +14,16 @@ ghost use Rattle.rule_forms.specs.Numbered.{plain};
 ghost use Rattle.rule_forms.specs.ByCode.{no_values, number_by_code, truth_by_code, given_by_code};
 ghost use Rattle.rule_forms.specs.ByCode.{set_by_code, delay_by_code, made_by_code, first_by_code};
 ghost use Rattle.rule_eval.specs.Evaluated.{Evaluates, Makes, GivesValues, SetsVariables};
+ghost use Rattle.rule_eval.specs.Evaluated.{MayLend, filled, with_given};
 
 use crate::answers::{run, truth};
-use crate::apply::{number_in, truth_in};
+use crate::apply::truth_in;
 use crate::counts::Counts;
+use crate::numbers::run_number;
 use crate::stack::Stack;
 use crate::view::View;
 use quantity::{Time, Tri, Value};
-use rule_forms::{Form, Given, NumberedForm, RuleCode, delay_in, plain_number};
+use rule_forms::{Constant, Form, Given, NumberedForm, RuleCode, delay_in, plain_number};
 use rule_tree::{Answer, RuleStop};
 
 /// What the first true rule gives over a view, by port, and its delay; `changed` then holds the
@@ -44,30 +46,69 @@ pub fn evaluate(
     ensures stack { stack.new ≡ stack.old }
     ensures delay { IfOk result (λ made. made.1 ≤ MAX_DELAY) }
 {
+    let mut given = Given { values: [None; 4] };
+    match evaluate_into(rules, view, changed, &mut given, stack) {
+        Ok(made) => {
+            let delay = made.1;
+            match made.0 {
+                Some(constant) => {
+                    copy(view.variables, changed);
+                    Ok((constant.given, delay))
+                }
+                None => Ok((given, delay)),
+            }
+        }
+        Err(stop) => Err(stop),
+    }
+}
+
+/// The same, where nothing is copied that stands in a rule: what that gives is lent, and the
+/// variables stay. Else what is given is in `given`, and the variables after the sets are in
+/// `changed`. Nothing is promised of these two where they aren't the answer.
+#[inline(always)]
+pub fn evaluate_into<'r>(
+    rules: &'r [RuleCode],
+    view: &View,
+    changed: &mut [Value],
+    given: &mut Given,
+    stack: &mut Stack,
+) -> Result<(Option<&'r Constant>, Time), RuleStop>
+    requires view { IsView view.now }
+    requires variables { length changed.old ≡ length view.now.variables.now }
+    requires depth { All (λ rule. rule_depth rule ≤ stack.old.depth) rules.now }
+    // For all rules that the codes stand for.
+    ensures value { (trees : List Rule) → rules.now ≡ map codes_of trees
+        → MayLend (Evaluates (chosen trees (sight_of view.now))) result
+        given.new changed.new view.now.variables.now }
+    ensures stack { stack.new ≡ stack.old }
+    ensures delay { IfOk result (λ made. made.1 ≤ MAX_DELAY) }
+{
     let mut counts = Counts::none(view);
-    first_true(rules, view, changed, &mut counts, &mut stack.answers)
+    first_true(rules, view, changed, &mut counts, given, &mut stack.answers)
 }
 
 #[inline(always)]
-fn first_true(
-    rules: &[RuleCode],
+fn first_true<'r>(
+    rules: &'r [RuleCode],
     view: &View,
     changed: &mut [Value],
     counts: &mut Counts,
+    given: &mut Given,
     answers: &mut Vec<Answer>,
-) -> Result<(Given, Time), RuleStop>
+) -> Result<(Option<&'r Constant>, Time), RuleStop>
     requires view { IsView view.now }
     requires counts { AreCounts counts.old view.now }
     requires variables { length changed.old ≡ length view.now.variables.now }
     requires room { All (λ rule. rule_depth rule ≤ vec_capacity answers.old) rules.now }
-    ensures value { Makes (first_by_code rules.now (sight_of view.now)) result changed.new }
+    ensures value { MayLend (Makes (first_by_code rules.now (sight_of view.now))) result
+        given.new changed.new view.now.variables.now }
     ensures capacity { vec_capacity answers.new ≡ vec_capacity answers.old }
     ensures counts { AreCounts counts.new view.now }
     ensures delay { IfOk result (λ made. made.1 ≤ MAX_DELAY) }
 {
     for rule in rules {
         match condition(rule, view, counts, answers)? {
-            Tri::True => return give(rule, view, changed, counts, answers),
+            Tri::True => return give(rule, view, changed, counts, given, answers),
             Tri::False | Tri::Undef => {}
         }
     }
@@ -109,6 +150,24 @@ fn truth_of(
     if let Form::Test(test) = form {
         return Ok(truth(test, view, counts));
     }
+    truth_run(form, view, counts, answers)
+}
+
+/// The same of any form.
+#[inline(never)]
+fn truth_run(
+    form: &Form,
+    view: &View,
+    counts: &mut Counts,
+    answers: &mut Vec<Answer>,
+) -> Result<Tri, RuleStop>
+    requires view { IsView view.now }
+    requires counts { AreCounts counts.old view.now }
+    requires room { depth_of (code_of (expr_of_form form.now)) ≤ vec_capacity answers.old }
+    ensures value { result ≡ truth_by_code (code_of (expr_of_form form.now)) (sight_of view.now) }
+    ensures capacity { vec_capacity answers.new ≡ vec_capacity answers.old }
+    ensures counts { AreCounts counts.new view.now }
+{
     match run(form, view, view.variables, counts, answers) {
         Ok(answer) => Ok(truth_in(answer)),
         Err(stop) => Err(stop),
@@ -117,53 +176,58 @@ fn truth_of(
 
 /// What a rule gives whose condition is true.
 #[inline(always)]
-fn give(
-    rule: &RuleCode,
+fn give<'r>(
+    rule: &'r RuleCode,
     view: &View,
     changed: &mut [Value],
     counts: &mut Counts,
+    given: &mut Given,
     answers: &mut Vec<Answer>,
-) -> Result<(Given, Time), RuleStop>
+) -> Result<(Option<&'r Constant>, Time), RuleStop>
     requires view { IsView view.now }
     requires counts { AreCounts counts.old view.now }
     requires variables { length changed.old ≡ length view.now.variables.now }
     requires room { rule_depth rule.now ≤ vec_capacity answers.old }
-    ensures value { Makes (made_by_code rule.now (sight_of view.now)) result changed.new }
+    ensures value { MayLend (Makes (made_by_code rule.now (sight_of view.now))) result
+        given.new changed.new view.now.variables.now }
     ensures capacity { vec_capacity answers.new ≡ vec_capacity answers.old }
     ensures counts { AreCounts counts.new view.now }
     ensures delay { IfOk result (λ made. made.1 ≤ MAX_DELAY) }
 {
     match rule.constant() {
-        Some(constant) => {
-            copy(view.variables, changed);
-            Ok((constant.given, constant.delay))
-        }
-        None => give_formed(rule, view, changed, counts, answers),
+        Some(constant) => Ok((Some(constant), constant.delay)),
+        None => match give_formed(rule, view, changed, counts, given, answers) {
+            Ok(delay) => Ok((None, delay)),
+            Err(stop) => Err(stop),
+        },
     }
 }
 
-/// The same, where its forms are evaluated.
+/// The same, where its forms are evaluated. The answer is its delay.
+#[inline(never)]
 fn give_formed(
     rule: &RuleCode,
     view: &View,
     changed: &mut [Value],
     counts: &mut Counts,
+    given: &mut Given,
     answers: &mut Vec<Answer>,
-) -> Result<(Given, Time), RuleStop>
+) -> Result<Time, RuleStop>
     requires view { IsView view.now }
     requires counts { AreCounts counts.old view.now }
     requires variables { length changed.old ≡ length view.now.variables.now }
     requires room { rule_depth rule.now ≤ vec_capacity answers.old }
-    ensures value { Makes (made_by_code rule.now (sight_of view.now)) result changed.new }
+    ensures value { Makes (made_by_code rule.now (sight_of view.now))
+        (with_given given.new result) changed.new }
     ensures capacity { vec_capacity answers.new ≡ vec_capacity answers.old }
     ensures counts { AreCounts counts.new view.now }
-    ensures delay { IfOk result (λ made. made.1 ≤ MAX_DELAY) }
+    ensures delay { IfOk result (λ ms. ms ≤ MAX_DELAY) }
 {
-    let given = give_values(rule.gives(), view, counts, answers)?;
+    give_values(rule.gives(), view, counts, given, answers)?;
     let delay = delay(rule, view, counts, answers)?;
     copy(view.variables, changed);
     set_variables(rule.sets(), view, changed, counts, answers)?;
-    Ok((given, delay))
+    Ok(delay)
 }
 
 /// The delay of a rule.
@@ -209,26 +273,28 @@ fn delay_of(
     delay_in(&value)
 }
 
+/// The values that a rule gives, each at its port.
 fn give_values(
     gives: &[NumberedForm],
     view: &View,
     counts: &mut Counts,
+    given: &mut Given,
     answers: &mut Vec<Answer>,
-) -> Result<Given, RuleStop>
+) -> Result<(), RuleStop>
     requires view { IsView view.now }
     requires counts { AreCounts counts.old view.now }
     requires room { deepest (map plain gives.now) ≤ vec_capacity answers.old }
     ensures value { GivesValues (given_by_code (map plain gives.now)
-        (sight_of view.now) no_values) result }
+        (sight_of view.now) no_values) (filled given.new result) }
     ensures capacity { vec_capacity answers.new ≡ vec_capacity answers.old }
     ensures counts { AreCounts counts.new view.now }
 {
-    let mut given = Given { values: [None; 4] };
+    *given = Given { values: [None; 4] };
     for give in gives {
         let value = number(&give.form, view, view.variables, counts, answers)?;
         given.put(give.number, value);
     }
-    Ok(given)
+    Ok(())
 }
 
 fn set_variables(
@@ -291,8 +357,5 @@ fn number(
     if let Some(value) = plain_number(form) {
         return Ok(value);
     }
-    match run(form, view, variables, counts, answers) {
-        Ok(answer) => Ok(number_in(answer)),
-        Err(stop) => Err(stop),
-    }
+    run_number(form, view, variables, counts, answers)
 }

@@ -88,6 +88,7 @@ fn how_many_undefined(values: &[Value]) -> u64
     count
 }
 
+/// Whether a value is `?`.
 #[inline(always)]
 fn is_undefined(value: &Value) -> bool
     ensures { result ≡ same_value AnyValue.Undefined value.now }
@@ -113,6 +114,7 @@ fn how_many_numbers(wanted: i64, values: &[Value]) -> u64
     count
 }
 
+/// Whether a value is a number of so many hundred-thousandths.
 #[inline(always)]
 fn is_number(wanted: i64, value: &Value) -> bool
     ensures { result ≡ same_value (AnyValue.Num wanted) value.now }

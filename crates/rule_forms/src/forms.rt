@@ -19,7 +19,7 @@ pub struct PortAt {
 #[derive(Clone, Copy)]
 pub enum PlainTest {
     Truth(Tri),
-    /// A neighbour's value, compared with a number.
+    /// The value of a neighbour by its offset and port, compared with a value.
     NeighbourIs(Compare, u8, u8, Value),
     /// A count, compared with a number.
     CountIs(Compare, Count, Value),
@@ -46,6 +46,7 @@ pub enum Test {
 #[derive(Drop)]
 pub enum Form {
     Number(Value),
+    /// The value of a neighbour, by its offset and port.
     Neighbour(u8, u8),
     Variable(u8),
     Now,

@@ -21,6 +21,7 @@ pub struct NumberedForm {
     pub form: Form,
 }
 
+/// The forms of values for ports.
 pub(crate) fn forms_of_gives(
     alloc: Global,
     gives: &[Give],
@@ -36,6 +37,7 @@ pub(crate) fn forms_of_gives(
     Ok(forms)
 }
 
+/// The forms of values for variables.
 pub(crate) fn forms_of_sets(
     alloc: Global,
     sets: &[SetVariable],

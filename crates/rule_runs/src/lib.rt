@@ -1,4 +1,9 @@
-//! Calls on rules: texts that are read and refused, and what rules give a cell.
+//! Tests of rules, with enough memory.
+//!
+//! - A text is read as a rule, and others are refused, each for its reason (`texts`); a rule with
+//!   all parts gives and sets, rules stop, and code is postfix (`outcomes`).
+//! - Crates that are tried: `rule_syntax`, and below it `rule_words`; `rule_eval`, and below it
+//!   `rule_forms`.
 #![tactic(auto)]
 
 #[cfg(test)]

@@ -1,4 +1,4 @@
--- What is known of a rule when it is read.
+-- Private: what is known of a rule when it is read.
 use Rattle.std.specs.Prelude.{◌≡◌, ◌&&◌, not, ℕ, Bool, true, false, ⊤, Option, Some, None, List, []}
 use Rattle.std.specs.Prelude.{◌∷◌, ◌++◌, map, length, codes, if◌then◌else◌}
 use Rattle.std.specs.Bool.{then_some}

@@ -136,6 +136,7 @@ fn word_before<'t, 'a>(kind: Kind, tokens: &'t [Token<'a>]) -> Option<(&'a [u8],
     }
 }
 
+/// Whether a token is the mark `?`.
 pub(crate) fn is_question(token: &Token<'_>) -> bool
     ensures { result ≡ is_mark (codes "?") (token_of token.now) }
 {

@@ -127,12 +127,14 @@ impl<'a> NamedValues<'a> {
     }
 }
 
+/// Whether a term gives a value, and no truth value.
 pub(crate) fn is_number(term: &Term) -> bool
     ensures { result ≡ is_sort Sort.Number term.now.sort }
 {
     matches!(term.sort, Some(Sort::Number))
 }
 
+/// Whether a term gives a truth value.
 pub(crate) fn is_truth(term: &Term) -> bool
     ensures { result ≡ is_sort Sort.Truth term.now.sort }
 {

@@ -82,7 +82,8 @@ made [] gives maker (x ∷ xs) = miscounted
 made (a ∷ takes) gives maker [] = miscounted
 made (a ∷ takes) gives maker (x ∷ xs) = made takes gives (maker (taken a x)) xs
 
--- a function of the language
+-- a function of the language: its word, the sorts that it takes and gives, and what it makes of
+-- arguments over what a cell sees, where that is not too large
 pub record Row : Type 0 where
   pub word : Bytes
   pub takes : List Sort

@@ -17,11 +17,13 @@ use Rattle.rule_tree.specs.Functions.{row}
 use Rattle.rule_tree.specs.Sound.{function_signature}
 use Rattle.quantity.specs.Bytes.{Bytes}
 
--- a neighbour's port
+-- a neighbour by the coordinates of its offset, and which of its ports is read
 pub record Cell : Type 0 where
   pub place : List ℤ
   pub port : Bytes
 
+-- an expression as it is written: neighbours by their coordinates, variables and ports by their
+-- words
 mutual
   pub data Phrase : Type 0 where
     value : Value → Phrase

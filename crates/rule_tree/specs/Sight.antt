@@ -11,7 +11,9 @@ use Rattle.quantity.specs.Arithmetic.{same_value}
 use Rattle.rule_tree.specs.declared.outcome.Answer.{Answer}
 use Rattle.rule_tree.specs.declared.outcome.Answer.TheVariants.{Num as Number', Logic}
 
--- what a cell sees when it evaluates its rules
+-- what a cell sees when it evaluates its rules: the time in milliseconds, its place in a space of
+-- so many dimensions, what the neighbour by each offset gave at its ports, out first, the value at
+-- the port that the rules are for, and its variables
 pub record Sight : Type 0 where
   pub time : ℕ
   pub place : Place

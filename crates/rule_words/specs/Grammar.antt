@@ -46,6 +46,7 @@ pub data IsCell : List Token → Cell → Type 0 where
       IsCell (mark (codes "(") ∷ row ++ mark (codes ",") ∷ column ++ mark (codes ",") ∷ plane
       ++ mark (codes ")") ∷ port) (record { place = i ∷ j ∷ k ∷ []; port = p })
 
+-- tokens of a phrase of a level, which is one of each looser level too
 mutual
   pub data IsPhrase : Level → List Token → Phrase → Type 0 where
     tight : {l : Level} {ts : List Token} {a : Phrase} → IsPhrase (tighter l) ts a → IsPhrase l ts a

@@ -1,4 +1,4 @@
--- What one token changes for those behind it, and the first piece of a text.
+-- Private: what one token changes for those behind it, and the first piece of a text.
 use Rattle.std.specs.Prelude.{ℕ, ◌==◌, ◌&&◌, Bool, false, max, if◌then◌else◌, Option, length, drop}
 use Rattle.std.specs.Prelude.{List, [], ◌∷◌, codes}
 use Rattle.std.specs.List.{list_any, prefix_len}

@@ -51,6 +51,7 @@ pub fn word_length(text: &[u8]) -> usize
     text.iter().take_while(|byte| is_of_word(**byte)).count()
 }
 
+/// Whether a word or a number may have this byte: a letter, a digit, `_` or `.`.
 pub fn is_of_run(byte: u8) -> bool
     ensures { result ≡ is_of_run byte }
 {

@@ -92,7 +92,7 @@ impl Mark {
         mark_in(&MARKS, text)
     }
 
-    /// Its text.
+    /// How the mark is written.
     pub fn text(self) -> &'static [u8]
         ensures { result.now ≡ text_of self }
     {

@@ -6,7 +6,7 @@ ghost use Rattle.run_files.specs.AskedFiles.{names_of, frames_name, name_at};
 
 use asked_words::{Asked, FramesFile};
 
-/// One of the files.
+/// One of the files that a run makes: its log, its output, its frames, or the state at its end.
 #[derive(Clone, Copy)]
 pub enum Output {
     Log,

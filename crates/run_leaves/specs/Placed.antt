@@ -1,5 +1,4 @@
--- What the leaves of a run start with: a place for each leaf, and a store for each group. Only
--- private clauses name these.
+-- Private: what the leaves of a run start with: a place for each leaf, and a store for each group.
 use Rattle.std.specs.Prelude.{◌≡◌, ℕ, Some, List, map, length, slice_get, IsTrue}
 use Rattle.model_tree.specs.declared.table.Model.{Model}
 use Rattle.model_tree.specs.declared.leaves.LeafAt.{LeafAt}

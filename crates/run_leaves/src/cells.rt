@@ -1,5 +1,5 @@
 // What one cell gives, and how it moves.
-ghost use Rattle.std.specs.Prelude.{◌≡◌, ℕ, ◌+◌, ◌<◌, ◌≤◌, ◌++◌, Some, [], ◌∷◌, length, OnOk, OnErr, IsTrue, slice_index_or};
+ghost use Rattle.std.specs.Prelude.{◌≡◌, ℕ, ◌+◌, ◌<◌, ◌≤◌, ◌++◌, Some, [], ◌∷◌, length, OnOk, OnErr, IsTrue};
 ghost use Rattle.std.specs.List.{All};
 ghost use Rattle.quantity.specs.declared.bounds.TheConstants.{MAX_DELAY};
 ghost use Rattle.quantity.specs.declared.value.Value.{Value as AnyValue};
@@ -10,13 +10,13 @@ ghost use Rattle.model_tree.specs.Pull.{cell_ports};
 ghost use Rattle.model_tree.specs.Sound.{is_sound_group};
 ghost use Rattle.run_model.specs.CellStep.{cell_next, cell_emitted, cell_output};
 ghost use Rattle.cell_engine.specs.Layout.{StandsFor};
-ghost use Rattle.cell_table.specs.Told.{cell_at, bag_of_given, if_given, OnlyCell};
-ghost use Rattle.cell_engine.specs.Cells.{with_cell, computed_at};
+ghost use Rattle.cell_table.specs.Told.{cell_at, OnlyCell};
+ghost use Rattle.cell_engine.specs.Cells.{with_cell, computed_at, Computes};
 ghost use Rattle.run_leaves.specs.Seated.{HasPort};
-ghost use Rattle.run_leaves.specs.Moving.{MovesCell, leaf_stop};
+ghost use Rattle.run_leaves.specs.Moving.{AreNamesFor, MovesCell, leaf_stop};
 
 use atomic_face::PortNo;
-use cell_engine::{CellStop, CellStore, Computed, Given, Steps};
+use cell_engine::{CellStop, CellStore, Computed, Steps};
 use cycle_steps::halt::{LeafStop, Told};
 use quantity::{Name, OutOfMemory, Time, Value};
 use rule_tree::RuleStop;
@@ -40,42 +40,15 @@ pub(crate) fn give_of_cell<L: Ledger>(
         ≡ with_cell store.old cell (cell_emitted t (cell_at store.old.cells cell)) }
     ensures steps { steps.new ≡ steps.old + 1 }
 {
-    let given = store.emit(cell, t, steps);
-    let Ok(()) = append_given(given, into) else {
+    let Ok(()) = store.emit_into(cell, t, into, steps) else {
         into.clear();
         return Err(OutOfMemory);
     };
     Ok(())
 }
 
-/// Appends what is given port by port.
-fn append_given(given: Given, into: &mut Vec<(PortNo, Value)>) -> Result<(), OutOfMemory>
-    ensures { OnOk result (into.new.items ≡ into.old.items ++ bag_of_given given) }
-{
-    for port in 0..4u16 {
-        append_one(port, given.values[usize::from(port)], into)?;
-    }
-    Ok(())
-}
-
-/// Appends a value at a port, where there is one.
-fn append_one(
-    port: u16,
-    value: Option<Value>,
-    into: &mut Vec<(PortNo, Value)>,
-) -> Result<(), OutOfMemory>
-    ensures { OnOk result (into.new.items ≡ into.old.items ++ if_given (port, value)) }
-{
-    let Some(value) = value else {
-        return Ok(());
-    };
-    let Ok(()) = into.push((PortNo(port), value)) else {
-        return Err(OutOfMemory);
-    };
-    Ok(())
-}
-
-/// A cell after its emission moves: its computed value and its next time.
+/// A cell after its emission moves: its computed value and its next time. The names of its ports
+/// are those that its bag needs.
 pub(crate) fn move_cell<L: Ledger>(
     store: &mut CellStore,
     cell: u32,
@@ -90,16 +63,45 @@ pub(crate) fn move_cell<L: Ledger>(
     requires time { t ≤ MAX_DELAY }
     requires ports { All (λ (o : AnyPort × AnyValue). o.0.0 < length ports.now) bag.now }
     ensures moves { (g : Group) → StandsFor g store.old.layout → IsTrue (is_sound_group g)
-        → ports.now ≡ cell_ports g cell
+        → AreNamesFor bag.now ports.now (cell_ports g cell)
         → MovesCell store.old.cells store.new.cells cell
         (computed_at t g store.old.cells cell woken bag.now) result }
     ensures layout { store.new.layout ≡ store.old.layout }
     ensures only { OnlyCell cell store.old.cells store.new.cells }
     ensures steps { steps.new ≤ steps.old + (length store.old.layout.offsets + 2) }
 {
-    match store.compute(cell, t, woken, bag, ports, steps) {
+    match step_cell(store, cell, t, woken, bag, ports, steps) {
         Ok(()) => Ok(told_of(store.computed(cell, steps))),
         Err(why) => Err(stop_of_leaf(why)),
+    }
+}
+
+/// The step of a cell after its emission; without a bag its ports have no part in it.
+#[inline(always)]
+fn step_cell<L: Ledger>(
+    store: &mut CellStore,
+    cell: u32,
+    t: Time,
+    woken: bool,
+    bag: &[(PortNo, Value)],
+    ports: &[Name],
+    steps: &mut Steps<L>,
+) -> Result<(), CellStop>
+    requires within { cell < length store.old.cells }
+    requires time { t ≤ MAX_DELAY }
+    requires ports { All (λ (o : AnyPort × AnyValue). o.0.0 < length ports.now) bag.now }
+    ensures computed { (g : Group) → StandsFor g store.old.layout → IsTrue (is_sound_group g)
+        → AreNamesFor bag.now ports.now (cell_ports g cell)
+        → Computes cell store.old.cells store.new.cells
+        (computed_at t g store.old.cells cell woken bag.now) result }
+    ensures layout { store.new.layout ≡ store.old.layout }
+    ensures only { OnlyCell cell store.old.cells store.new.cells }
+    ensures steps { steps.new ≡ steps.old + (1 + length store.old.layout.offsets) }
+{
+    if bag.is_empty() {
+        store.compute_alone(cell, t, woken, steps)
+    } else {
+        store.compute(cell, t, woken, bag, ports, steps)
     }
 }
 

@@ -1,4 +1,13 @@
-//! The leaves of a run: their states, and who watches whom.
+//! The leaves of a run: the cells of all groups and all boxes, each under its number in declared
+//! order.
+//!
+//! - `FlatLeaves::new` takes a sound `Model` and the stock with its boxes; `give` lets a due leaf
+//!   give, `move_leaf` moves one, `start_time` tells when it waits at the start, `save_cell`,
+//!   `save_box`, `put_cell` and `put_box` tell and set its state. `Watchers` tells who watches a
+//!   leaf, by blocks of cells. They are the `Leaves` and the `Watched` of `cycle_steps`.
+//! - Definitions: `specs/Seated.antt` (how the leaves of `run_model` are kept), `Moving.antt` (what
+//!   calls change), `Watching.antt`. It rests on `CellStore` of `cell_engine` and on `Stock` of
+//!   `atomic_face`.
 #![tactic(auto)]
 
 mod blocks;
@@ -6,6 +15,7 @@ mod boxes;
 mod cells;
 mod gathered;
 pub mod leaves;
+mod names;
 mod start;
 pub mod watchers;
 

@@ -20,10 +20,10 @@ use Rattle.room_edge.specs.Outside.{Outside}
 use Rattle.answer_model.specs.declared.status.Status.{Status}
 use Rattle.answer_model.specs.declared.status.Status.TheVariants as exit
 use Rattle.answer_model.specs.Status.{of_run, IsOf}
-use Rattle.answer_model.specs.Asked.{Source, file, made, Asked}
+use Rattle.answer_model.specs.Asked.{Source, made, Asked}
 use Rattle.answer_model.specs.Answer.{Answer}
 use Rattle.answer_model.specs.Endings.{Says, ShowsEnd, made_after, EndsWith}
-use Rattle.answer_model.specs.RunEnd.{Said, said, done_line, made_line, mark_text, many_line, stop_line, stop_status}
+use Rattle.answer_model.specs.RunEnd.{Said, said, done_line, made_line, many_line, stop_line, stop_status}
 use Rattle.answer_model.proofs.Endings.{endings_follow}
 use Rattle.answer_model.proofs.Said.{said_among, shown_among}
 use Rattle.answer_model.proofs.Stages.{then_ends, rose_by_said, rose_by_shown}
@@ -39,16 +39,11 @@ use Rattle.run_loop.specs.declared.going.Going.{Going}
 use Rattle.run_loop.specs.declared.ending.Ending.{Ending}
 use Rattle.run_loop.specs.Begins.{CountsNone, counts_at_start}
 use Rattle.run_loop.specs.Ran.{HasEnded}
-use Rattle.run_loop.specs.Ends.{IsVerdict, end_text, made_text, leaf_called, IsSaid, is_shown, is_complained, HasCounted}
+use Rattle.run_loop.specs.Ends.{IsVerdict, made_text, mark_behind, leaf_called, said_with, IsSaid, is_shown, is_complained, HasCounted}
 use Rattle.run_loop.specs.ToBe.{IsAnswerOf}
 use Rattle.run_loop.proofs.Leaving.{told_made}
 
 -- ---- the last line
-
--- of a model that is read
-pub end_told : (a : Asked) (tree : Tree) (cycles : List Cycle) (going : Going) (line : Bytes) (name : Word) → a.source ≡ file name → HasCounted a tree cycles going → line ≡ ended (end_text a.end going.cycles) → line ≡ ended (done_line a tree cycles)
-end_told a tree cycles going line name read has is =
-    is ∙ ap (λ n. ended (end_text a.end n)) has.number ∙ sym (ap (λ (s : Source). ended (done_line (record a { source = s }) tree cycles)) read)
 
 -- what was counted of a made model
 counted_made : (a : Asked) (tree : Tree) (cycles : List Cycle) (going : Going) (size : ℕ) → a.source ≡ made size → HasCounted a tree cycles going → going.counted ≡ Some (counts_of cycles (no_counts (leaf_count tree)))
@@ -72,35 +67,32 @@ made_is size tree cycles =
     from_zero n = omega arith
 
 -- of a model that is made
-pub made_told : (a : Asked) (tree : Tree) (cycles : List Cycle) (going : Going) (line : Bytes) (size cells : ℕ) (k : Counts) → a.source ≡ made size → going.counted ≡ Some k → cells ≡ leaf_count tree → HasCounted a tree cycles going → line ≡ ended (made_text size cells going.cycles k)
-    → line ≡ ended (done_line a tree cycles)
+pub made_told : (a : Asked) (tree : Tree) (cycles : List Cycle) (going : Going) (line : Bytes) (size cells : ℕ) (k : Counts) → a.source ≡ made size → going.counted ≡ Some k → cells ≡ leaf_count tree → HasCounted a tree cycles going → line ≡ made_text size cells going.cycles k
+    → line ≡ done_line a tree cycles
 made_told a tree cycles going line size cells k of_size counted all has is =
     let both : Some k ≡ Some (counts_of cycles (no_counts (leaf_count tree))) = sym counted ∙ counted_made a tree cycles going size of_size has in
     let same : k ≡ counts_of cycles (no_counts (leaf_count tree)) = cc in
-    is ∙ (λ i. ended (made_text size (all i) (has.number i) (same i))) ∙ ap ended (made_is size tree cycles) ∙ sym (ap (λ (s : Source). ended (done_line (record a { source = s }) tree cycles)) of_size)
+    is ∙ (λ i. made_text size (all i) (has.number i) (same i)) ∙ made_is size tree cycles ∙ sym (ap (λ (s : Source). done_line (record a { source = s }) tree cycles) of_size)
 
 -- ---- what is said
 
--- of a run that is done, where no order of service is asked for
-pub done_said : (a : Asked) (tree : Tree) (events : List Event) (cycles : List Cycle) (v : Verdict) (old new : Outside) (status : Status) → a.seed ≡ None → v ≡ done → ShowsEnd (ended (done_line a tree cycles)) exit.Done old new status
-    → IsSaid (said a tree events cycles v) old new status
-done_said a tree events cycles v old new status unmarked is shows =
-    let mark : mark_text a tree events ≡ [] = ap (λ (s : Option ℕ). mark_text (record a { seed = s }) tree events) unmarked in
-    let line : done_line a tree cycles ++ mark_text a tree events ≡ done_line a tree cycles = ap (λ m. done_line a tree cycles ++ m) mark ∙ append-nil (done_line a tree cycles) in
-    subst (λ (x : Verdict). IsSaid (said a tree events cycles x) old new status) (sym is)
-    (is_shown refl (subst (λ (l : Bytes). ShowsEnd (ended l) exit.Done old new status) (sym line) shows))
+-- of a run that is done, with its mark
+pub done_said : (mark : Option ℕ) (a : Asked) (tree : Tree) (cycles : List Cycle) (v : Verdict) (old new : Outside) (status : Status) → v ≡ done → ShowsEnd (ended (done_line a tree cycles ++ mark_behind mark)) exit.Done old new status
+    → IsSaid (said_with mark a tree cycles v) old new status
+done_said mark a tree cycles v old new status is shows =
+    subst (λ (x : Verdict). IsSaid (said_with mark a tree cycles x) old new status) (sym is) (is_shown refl shows)
 
 -- of a stop
-pub stop_said : (a : Asked) (tree : Tree) (events : List Event) (cycles : List Cycle) (v : Verdict) (leaf t : ℕ) (why : RuleStop) (old new : Outside) (status : Status) → v ≡ stop leaf t why → Says (ended (stop_line tree leaf t why)) (stop_status why) old new status
-    → IsSaid (said a tree events cycles v) old new status
-stop_said a tree events cycles v leaf t why old new status is says =
-    subst (λ (x : Verdict). IsSaid (said a tree events cycles x) old new status) (sym is) (is_complained refl says)
+pub stop_said : (mark : Option ℕ) (a : Asked) (tree : Tree) (cycles : List Cycle) (v : Verdict) (leaf t : ℕ) (why : RuleStop) (old new : Outside) (status : Status) → v ≡ stop leaf t why → Says (ended (stop_line tree leaf t why)) (stop_status why) old new status
+    → IsSaid (said_with mark a tree cycles v) old new status
+stop_said mark a tree cycles v leaf t why old new status is says =
+    subst (λ (x : Verdict). IsSaid (said_with mark a tree cycles x) old new status) (sym is) (is_complained refl says)
 
 -- of too many cycles
-pub many_said : (a : Asked) (tree : Tree) (events : List Event) (cycles : List Cycle) (v : Verdict) (t : ℕ) (old new : Outside) (status : Status) → v ≡ too_many t → Says (ended (many_line a.limit t)) exit.TooManyCycles old new status
-    → IsSaid (said a tree events cycles v) old new status
-many_said a tree events cycles v t old new status is says =
-    subst (λ (x : Verdict). IsSaid (said a tree events cycles x) old new status) (sym is) (is_complained refl says)
+pub many_said : (mark : Option ℕ) (a : Asked) (tree : Tree) (cycles : List Cycle) (v : Verdict) (t : ℕ) (old new : Outside) (status : Status) → v ≡ too_many t → Says (ended (many_line a.limit t)) exit.TooManyCycles old new status
+    → IsSaid (said_with mark a tree cycles v) old new status
+many_said mark a tree cycles v t old new status is says =
+    subst (λ (x : Verdict). IsSaid (said_with mark a tree cycles x) old new status) (sym is) (is_complained refl says)
 
 -- ---- the outcome
 
@@ -127,10 +119,10 @@ own_stop NoTrueRule = (refl, λ e. absurd cc)
 own_stop Overflow = (refl, λ e. absurd cc)
 own_stop (BadDelay d) = (refl, λ e. absurd cc)
 
-own : (a : Asked) (tree : Tree) (events : List Event) (cycles : List Cycle) (v : Verdict) → IsOwn (said a tree events cycles v).status
-own a tree events cycles done = (refl, λ e. absurd cc)
-own a tree events cycles (too_many t) = (refl, λ e. absurd cc)
-own a tree events cycles (stop leaf t why) = own_stop why
+own : (mark : Option ℕ) (a : Asked) (tree : Tree) (cycles : List Cycle) (v : Verdict) → IsOwn (said_with mark a tree cycles v).status
+own mark a tree cycles done = (refl, λ e. absurd cc)
+own mark a tree cycles (too_many t) = (refl, λ e. absurd cc)
+own mark a tree cycles (stop leaf t why) = own_stop why
 
 told_known : (s : Said) (old new : Outside) (status : Status) → IsOwn s.status → IsSaid s old new status → IsOf of_run status
 told_known s old new status is (is_shown none shows) = shown_among of_run s.shown s.status old new status is.0 refl refl shows
@@ -154,33 +146,34 @@ has_counted a tree r was going ending begins has =
       counted = has.counted ∙ ap (option_map (counts_of r.cycles)) begins.counted;
     }
 
--- what is told of a verdict and of the cycles that were counted
-abbrev pub TellsAny : Asked → Tree → Going → Ending → Outside → Outside → Status → Type 0
-TellsAny a tree going ending old new status =
-    (events : List Event) (cycles : List Cycle) (v : Verdict) → IsVerdict ending v → HasCounted a tree cycles going → IsSaid (said a tree events cycles v) old new status
+-- what is told of a verdict, of the cycles that were counted and of a mark
+abbrev pub TellsAny : Option ℕ → Asked → Tree → Going → Ending → Outside → Outside → Status → Type 0
+TellsAny mark a tree going ending old new status =
+    (cycles : List Cycle) (v : Verdict) → IsVerdict ending v → HasCounted a tree cycles going → IsSaid (said_with mark a tree cycles v) old new status
 
-module _ (n : Names) (pieces : List Piece) (a : Asked) (tree : Tree) (r : Run) (old mid new : Outside) (was going : Going) (ending : Ending) (status : Status) (begins : CountsNone a tree was) (has : HasEnded r was going ending) (adds : AddsAll n pieces old mid) (tells : TellsAny a tree going ending mid new status) where
-  told : (events : List Event) → IsSaid (said a tree events r.cycles r.verdict) mid new status
-  told events = tells events r.cycles r.verdict has.verdict (has_counted a tree r was going ending begins has)
+module _ (n : Names) (pieces : List Piece) (mark : Option ℕ) (a : Asked) (tree : Tree) (r : Run) (old mid new : Outside) (was going : Going) (ending : Ending) (status : Status) (begins : CountsNone a tree was) (has : HasEnded r was going ending) (adds : AddsAll n pieces old mid) (tells : TellsAny mark a tree going ending mid new status) where
+  told : IsSaid (said_with mark a tree r.cycles r.verdict) mid new status
+  told = tells r.cycles r.verdict has.verdict (has_counted a tree r was going ending begins has)
 
-  pub created_ends : (x : Answer) (events : List Event) (inputs : List Word) → IsAnswerOf n (texts_of pieces) (said a tree events r.cycles r.verdict) x → EndsWith x (made_after inputs (files n no_texts)) old new status
-  created_ends x events inputs is = told_ends x n (texts_of pieces) (said a tree events r.cycles r.verdict) inputs old mid new status is adds.adds (told events)
+  pub created_ends : (x : Answer) (events : List Event) (inputs : List Word) → said_with mark a tree r.cycles r.verdict ≡ said a tree events r.cycles r.verdict → IsAnswerOf n (texts_of pieces) (said a tree events r.cycles r.verdict) x → EndsWith x (made_after inputs (files n no_texts)) old new status
+  created_ends x events inputs same is =
+      told_ends x n (texts_of pieces) (said a tree events r.cycles r.verdict) inputs old mid new status is adds.adds (subst (λ (s : Said). IsSaid s mid new status) same told)
 
   pub created_known : IsOf of_run status
-  created_known = told_known (said a tree [] r.cycles r.verdict) mid new status (own a tree [] r.cycles r.verdict) (told [])
+  created_known = told_known (said_with mark a tree r.cycles r.verdict) mid new status (own mark a tree r.cycles r.verdict) told
 
   pub created_rose : status ≡ exit.WriteFault → WriteFaultCounted old new
-  created_rose five = told_rose (said a tree [] r.cycles r.verdict) old mid new status (own a tree [] r.cycles r.verdict) adds.adds.keeps (told []) five
+  created_rose five = told_rose (said_with mark a tree r.cycles r.verdict) old mid new status (own mark a tree r.cycles r.verdict) adds.adds.keeps told five
 
-pub created_made : (a : Asked) (tree : Tree) (r : Run) (mid new : Outside) (was going : Going) (ending : Ending) (status : Status) → CountsNone a tree was → HasEnded r was going ending → TellsAny a tree going ending mid new status → new.made ≡ mid.made
-created_made a tree r mid new was going ending status begins has tells =
-    told_made (said a tree [] r.cycles r.verdict) mid new status (tells [] r.cycles r.verdict has.verdict (has_counted a tree r was going ending begins has))
+pub created_made : (mark : Option ℕ) (a : Asked) (tree : Tree) (r : Run) (mid new : Outside) (was going : Going) (ending : Ending) (status : Status) → CountsNone a tree was → HasEnded r was going ending → TellsAny mark a tree going ending mid new status → new.made ≡ mid.made
+created_made mark a tree r mid new was going ending status begins has tells =
+    told_made (said_with mark a tree r.cycles r.verdict) mid new status (tells r.cycles r.verdict has.verdict (has_counted a tree r was going ending begins has))
 
-pub created_answers : (n : Names) (pieces : List Piece) (a : Asked) (tree : Tree) (r : Run) (old mid new : Outside) (was going : Going) (ending : Ending) (status : Status) → CountsNone a tree was → HasEnded r was going ending → AddsAll n pieces old mid → TellsAny a tree going ending mid new status
+pub created_answers : (n : Names) (pieces : List Piece) (mark : Option ℕ) (a : Asked) (tree : Tree) (r : Run) (old mid new : Outside) (was going : Going) (ending : Ending) (status : Status) → CountsNone a tree was → HasEnded r was going ending → AddsAll n pieces old mid → TellsAny mark a tree going ending mid new status
     → AnswersFaults old new status
-created_answers n pieces a tree r old mid new was going ending status begins has adds tells =
+created_answers n pieces mark a tree r old mid new was going ending status begins has adds tells =
     then_answers old mid new status (clean_adds n pieces old mid adds)
-    (told_answers (said a tree [] r.cycles r.verdict) mid new status (tells [] r.cycles r.verdict has.verdict (has_counted a tree r was going ending begins has)))
+    (told_answers (said_with mark a tree r.cycles r.verdict) mid new status (tells r.cycles r.verdict has.verdict (has_counted a tree r was going ending begins has)))
 
 -- ---- how a leaf is called
 

@@ -1,6 +1,7 @@
 -- The files that a run leaves: pieces that were written, and a line that changes no file.
-use Rattle.std.proofs.Common.{◌≡◌, ℕ, ◌+◌, ◌≤◌, true, Option, List, [], inl, inr, refl, sym, ap, ◌∙◌, subst, arith}
+use Rattle.std.proofs.Common.{◌≡◌, ℕ, ◌+◌, ◌≤◌, Bool, Option, List, [], inl, inr, refl, sym, ap, ◌∙◌, subst, arith}
 use Rattle.std.specs.Prelude.{Ok}
+use Rattle.std.proofs.lemmas.Bool.{OnTrue_at, OnTrue_from}
 use Rattle.std.proofs.lemmas.List.{append-nil}
 use Rattle.quantity.specs.Bytes.{Bytes}
 use Rattle.model_tree.specs.Tree.{Word}
@@ -66,18 +67,19 @@ made_by : (x : Answer) (inputs : List Word) (fs : List (Word × Bytes)) (old new
 made_by x inputs fs old new leads = (leads old (steps_lead.start x old)).more.made
 
 -- the visits before the first cycle, and those of the cycles that were begun
-pub created_leaves : (x : Answer) (a : Asking) (r : Run) (w : Option Showing) (old mid new : Outside) (before first after : ℕ) → first ≤ before + first_visits a → MakesAll a.names old mid → WritesBegun a r w mid new (spent true first after)
-    → Leaves a r w old new (spent true before after)
-created_leaves x a r w old mid new before first after cost made b =
+pub created_leaves : (x : Answer) (a : Asking) (r : Run) (w : Option Showing) (old mid new : Outside) (is_counted : Bool) (before first after : ℕ) → first ≤ before + first_visits a → MakesAll a.names old mid → WritesBegun a r w mid new (spent is_counted first after)
+    → Leaves a r w old new (spent is_counted before after)
+created_leaves x a r w old mid new is_counted before first after cost made b =
     let leads : LeadsTo x (looked_for []) (made_after [] (files a.names b.part)) old b.written = λ start way. b.adds.leads no_texts x [] start (made.leads x [] start way) in
-    all_made b.begun b.behind b.part b.cycles b.order (b.told ∙ made_by x [] (files a.names b.part) old b.written leads) (sum (first_visits a) (begun_visits a r b.begun b.behind) cost b.within)
+    all_made b.begun b.behind b.part b.cycles b.order (b.told ∙ made_by x [] (files a.names b.part) old b.written leads) (OnTrue_from is_counted _ (λ on. sum (first_visits a) (begun_visits a r b.begun b.behind) cost (OnTrue_at on b.within)))
   where
     sum : (c d : ℕ) → first ≤ before + c → after ≤ first + d → after ≤ before + c + d
     sum c d p q = omega (arith, p, q)
 
-pub unmade_leaves : (x : Answer) (a : Asking) (r : Run) (w : Option Showing) (why : Unwritten) (old mid new : Outside) (before first : ℕ) → first ≤ before + first_visits a → FallsMaking a.names why old mid → new.made ≡ mid.made
-    → Leaves a r w old new (spent true before first)
-unmade_leaves x a r w why old mid new before first cost f same = some_made f.file (same ∙ made_by x [] (made_before a.names f.file) old mid (f.leads x [])) cost
+pub unmade_leaves : (x : Answer) (a : Asking) (r : Run) (w : Option Showing) (why : Unwritten) (old mid new : Outside) (is_counted : Bool) (before first : ℕ) → first ≤ before + first_visits a → FallsMaking a.names why old mid → new.made ≡ mid.made
+    → Leaves a r w old new (spent is_counted before first)
+unmade_leaves x a r w why old mid new is_counted before first cost f same =
+    some_made f.file (same ∙ made_by x [] (made_before a.names f.file) old mid (f.leads x [])) (OnTrue_from is_counted _ (λ on. cost))
 
 -- with the frames that are asked for, and the most cycles that the run may have
 pub leaves_as : (a : Asking) (s : Standing) (k n : ℕ) (w v : Option Showing) (old new : Outside) (spent : Spent) → k ≡ n → w ≡ v → Leaves a (run_of k s) w old new spent → Leaves a (run_of n s) v old new spent

@@ -2,6 +2,7 @@ pub mod Known
 pub mod GoesOn
 pub mod Costs
 pub mod Stands
+pub mod Marks
 pub mod Whole
 pub mod Ended
 pub mod Sounds

@@ -1,6 +1,8 @@
 -- The end of a run: the last frame, and the state in which it is left.
-use Rattle.std.proofs.Common.{◌≡◌, ℕ, ◌+◌, ◌≤◌, true, Option, List, [], sym, ◌∙◌, subst, arith}
-use Rattle.std.specs.Prelude.{Result, Ok, Err}
+use Rattle.std.proofs.Common.{◌≡◌, ℕ, ◌+◌, ◌≤◌, Bool, Option, None, List, [], sym, ◌∙◌, subst, arith}
+use Rattle.std.specs.Prelude.{Result, Ok, Err, IsTrue}
+use Rattle.std.specs.Bool.{OnTrue}
+use Rattle.std.proofs.lemmas.Bool.{OnTrue_at, OnTrue_from}
 use Rattle.std.proofs.lemmas.List.{append-nil}
 use Rattle.model_tree.specs.Tree.{Tree}
 use Rattle.run_model.specs.Run.{Run, RunState}
@@ -11,6 +13,7 @@ use Rattle.room_edge.specs.Outside.{Outside}
 use Rattle.answer_model.specs.RunFiles.{saved_text}
 use Rattle.answer_model.specs.Visits.{state_visits}
 use Rattle.asked_words.specs.declared.asked.Asked as code
+use Rattle.flat_run.specs.Marking.{Marking}
 use Rattle.flat_run.specs.Standing.{Standing, tree_in}
 use Rattle.flat_run.specs.Steps.{Keeps}
 use Rattle.run_files.specs.declared.outputs.Output.TheVariants.{Frames, State}
@@ -29,21 +32,24 @@ use Rattle.run_loop.specs.Left.{run_of, IsFitTo}
 use Rattle.run_loop.specs.Ends.{IsVerdict}
 use Rattle.run_loop.specs.DoneIn.{DoneIn}
 use Rattle.run_loop.specs.Leaves.{spent as spent_of}
+use Rattle.run_loop.specs.Marked.{IsMarked}
 use Rattle.run_loop.specs.Saving.{LeftIn, Saves}
 use Rattle.run_loop.specs.Ran.{asking, BreaksOff, RunsTo, RunsWhole}
 use Rattle.run_loop.proofs.GoesOn.{same_tree}
+use Rattle.run_loop.proofs.Marks.{still_none}
 use Rattle.run_loop.proofs.Stands.{cost_of, saved_in, all_pieces}
 
 -- ---- the state
 
 -- a run that is done goes on from states that fit the model
-pub left_in : (n : ℕ) (s m : Standing) (ending : Ending) → IsFitTo n s → Keeps s m → DoneIn (Ok ending) (run_of n s).left m → LeftIn ending m
-left_in n s m Done fit keeps d = (
+pub left_in : (n : ℕ) (s m : Standing) (ending : Ending) (is_saved : Bool) (old new : Option Marking) → IsFitTo n s → Keeps s m → DoneIn (Ok ending) (run_of n s).left m → (IsTrue is_saved → old ≡ None) → IsMarked ending n s old new → LeftIn ending is_saved new m
+left_in n s m Done is_saved old new fit keeps d none marked = (
   d.1,
   subst (λ (t : Tree). FitsTree t m.state.leaf_states) (sym (same_tree s m keeps))
       (subst (λ (x : RunState). FitsTree (tree_in s) x.leaf_states) (sym d.0) fit.fits),
+  λ given. still_none n s old new (none given) marked,
 )
-left_in n s m (Stopped halt) fit keeps d = tt
+left_in n s m (Stopped halt) is_saved old new fit keeps d none marked = tt
 
 -- it was left as it stands
 saves : (r : Run) (m : Standing) (ending : Ending) → IsVerdict ending r.verdict → DoneIn (Ok ending) r.left m → Saves ending r m
@@ -63,7 +69,7 @@ cost_kept a s m before after keeps within = subst (λ (t : Tree). after ≤ befo
 
 -- ---- behind all cycles
 
-module _ (a : code.Asked) (s : Standing) (r : Run) (old mid : Going) (ending : Ending) (outside first : Outside) (before after : ℕ) (was : RunsTo (asking a s) r old mid outside first (spent_of true before after) (Ok ending)) where
+module _ (a : code.Asked) (s : Standing) (r : Run) (old mid : Going) (ending : Ending) (outside first : Outside) (is_counted : Bool) (before after : ℕ) (was : RunsTo (asking a s) r old mid outside first (spent_of is_counted before after) (Ok ending)) where
   abbrev names : Names
   names = names_of a
 
@@ -85,20 +91,21 @@ module _ (a : code.Asked) (s : Standing) (r : Run) (old mid : Going) (ending : E
   frame_created later adds created = subst (AreCreated names) (sym adds.adds.created) (cycles_created created)
 
   -- no more visits than all cycles, the verdict and the state that is saved cost
-  whole_within : (spent : ℕ) → spent ≤ after + state_visits names.state (tree_in s) → spent ≤ before + (cost_of s r.cycles + last_visits (tree_in s) r.verdict r.left + state_visits names.state (tree_in s))
-  whole_within spent cost = sum (cost_of s r.cycles + last_visits (tree_in s) r.verdict r.left) (state_visits names.state (tree_in s)) spent cost was.1.within
+  whole_within : (spent : ℕ) → spent ≤ after + state_visits names.state (tree_in s) → OnTrue is_counted (spent ≤ before + (cost_of s r.cycles + last_visits (tree_in s) r.verdict r.left + state_visits names.state (tree_in s)))
+  whole_within spent cost =
+      OnTrue_from is_counted _ (λ on. sum (cost_of s r.cycles + last_visits (tree_in s) r.verdict r.left) (state_visits names.state (tree_in s)) spent cost (OnTrue_at on was.1.within))
     where
       sum : (c d spent : ℕ) → spent ≤ after + d → after ≤ before + c → spent ≤ before + (c + d)
       sum c d spent p q = omega (arith, p, q)
 
   -- all cycles are written, and not all of the end
   end_broken : (why : Unwritten) (later : Outside) (spent : ℕ) → Falls names why (all_pieces a s r old.drawn) outside later → spent ≤ after + state_visits names.state (tree_in s)
-      → BreaksOff (asking a s) why r old.drawn outside later (spent_of true before spent)
+      → BreaksOff (asking a s) why r old.drawn outside later (spent_of is_counted before spent)
   end_broken why later spent falls cost =
       record { begun = r.cycles; behind = []; cycles = sym (append-nil r.cycles); falls = falls; within = whole_within spent cost }
 
   -- the last frame is not written whole
-  pub last_fell : (why : Unwritten) (later : Outside) → Falls names why (frame_of mid.drawn) first later → BreaksOff (asking a s) why r old.drawn outside later (spent_of true before after)
+  pub last_fell : (why : Unwritten) (later : Outside) → Falls names why (frame_of mid.drawn) first later → BreaksOff (asking a s) why r old.drawn outside later (spent_of is_counted before after)
   last_fell why later falls =
       end_broken why later after
       (run_unwritten names (tree_in s) (letters_of a.given.letters) old.drawn r.cycles (saved_in a s r) why outside first later was.1.adds (subst (λ (w : Option Showing). Falls names why (frame_of w) first later) was.1.drawn falls))
@@ -111,11 +118,11 @@ module _ (a : code.Asked) (s : Standing) (r : Run) (old mid : Going) (ending : E
 
   -- the state is not written whole
   pub state_fell : (why : Unwritten) (later last : Outside) (spent : ℕ) → AddsAll names (frame_of mid.drawn) first later → Falls names why (one_piece State (saved_in a s r)) later last → spent ≤ after + state_visits names.state (tree_in s)
-      → BreaksOff (asking a s) why r old.drawn outside last (spent_of true before spent)
+      → BreaksOff (asking a s) why r old.drawn outside last (spent_of is_counted before spent)
   state_fell why later last spent adds falls cost = end_broken why last spent (all_written later last (Err why) adds falls) cost
 
   pub whole_run : (new : Going) (later last : Outside) (spent : ℕ) → AddsAll names (frame_of mid.drawn) first later → AddsAll names (one_piece State (saved_in a s r)) later last → new.counted ≡ mid.counted → new.cycles ≡ mid.cycles
-      → spent ≤ after + state_visits names.state (tree_in s) → RunsWhole (asking a s) r old new outside last (spent_of true before spent) (Ok ending)
+      → spent ≤ after + state_visits names.state (tree_in s) → RunsWhole (asking a s) r old new outside last (spent_of is_counted before spent) (Ok ending)
   whole_run new later last spent adds state counted_is cycles_is cost = (
     record { verdict = was.0.verdict; cycles = cycles_is ∙ was.0.cycles; counted = counted_is ∙ was.0.counted },
     all_written later last (Ok tt) adds state,

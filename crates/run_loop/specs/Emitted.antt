@@ -1,4 +1,4 @@
--- What the cells of a group have emitted last, as frames show it before the first cycle.
+-- Private: what the cells of a group have emitted last, as frames show it before the first cycle.
 use Rattle.std.specs.Prelude.{◌≡◌, ℕ, ◌+◌, ◌<◌, Option, Some, None, List, length, slice_get, IsTrue, ⊤}
 use Rattle.quantity.specs.declared.value.Value.{Value}
 use Rattle.cell_grid.specs.Space.{cell_count}

@@ -1,5 +1,5 @@
 -- How a run ended, and what is told of it.
-use Rattle.std.specs.Prelude.{◌≡◌, ℕ, List, [], ◌++◌, length, slice_get, codes, decimal, count_by}
+use Rattle.std.specs.Prelude.{◌≡◌, ℕ, Option, Some, None, List, [], ◌++◌, length, slice_get, codes, decimal, count_by}
 use Rattle.std.specs.Option.{option_map, unwrap_or}
 use Rattle.quantity.specs.Bytes.{Bytes}
 use Rattle.quantity.specs.Times.{time_text}
@@ -11,7 +11,7 @@ use Rattle.text_forms.specs.Lines.{leaf_name}
 use Rattle.room_edge.specs.Outside.{Outside}
 use Rattle.answer_model.specs.declared.status.Status.{Status}
 use Rattle.answer_model.specs.Asked.{Asked}
-use Rattle.answer_model.specs.RunEnd.{Said}
+use Rattle.answer_model.specs.RunEnd.{Said, said, shows, done_line}
 use Rattle.answer_model.specs.Endings.{Says, ShowsEnd}
 use Rattle.flat_run.specs.declared.progress.Stop.TheVariants.{NoTrueRule, Overflow, BadDelay, TooManyCycles, Memory}
 use Rattle.run_files.specs.Counts.{Counts, counts_of}
@@ -43,12 +43,23 @@ made_text size cells cycles k =
     ++ codes " y " ++ decimal k.y ++ codes " s " ++ decimal k.s
     ++ codes " ones " ++ decimal (count_by (λ b. b) k.ones)
 
+-- the mark behind it, where there is one
+abbrev pub mark_behind : Option ℕ → Bytes
+mark_behind None = []
+mark_behind (Some mark) = codes " mark " ++ decimal mark
+
 -- how the leaf of this number is called, or no bytes where there is none
 abbrev pub leaf_called : Tree → ℕ → Bytes
 leaf_called tree leaf =
     unwrap_or (option_map (λ l. leaf_text (leaf_name l)) (slice_get (leaves tree) leaf)) []
 
 -- ---- what is said of a run
+
+-- what a run with this verdict says, where its service was left with this mark
+abbrev pub said_with : Option ℕ → Asked → Tree → List Cycle → Verdict → Said
+said_with mark a tree cycles done = shows (done_line a tree cycles ++ mark_behind mark)
+said_with mark a tree cycles (too_many t) = said a tree [] cycles (too_many t)
+said_with mark a tree cycles (stop leaf t why) = said a tree [] cycles (stop leaf t why)
 
 -- it is said, as far as it can be: a line is shown, or a line is complained
 pub data IsSaid (s : Said) (old new : Outside) (status : Status) : Type 0 where

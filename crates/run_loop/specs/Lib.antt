@@ -9,4 +9,5 @@ pub mod Stopping
 pub mod Begins
 pub mod ToBe
 pub mod Saving
+pub mod Marked
 pub mod Emitted

@@ -1,16 +1,19 @@
--- The state in which a run is left, where it is done.
-use Rattle.std.specs.Prelude.{◌≡◌, None, ⊤}
+-- Private: the state in which a run is left, where it is done.
+use Rattle.std.specs.Prelude.{◌≡◌, Bool, Option, None, IsTrue, ⊤}
 use Rattle.run_model.specs.Fitting.{FitsTree}
 use Rattle.run_model.specs.Run.{Run}
+use Rattle.flat_run.specs.Marking.{Marking}
 use Rattle.flat_run.specs.Standing.{Standing, tree_in}
 use Rattle.run_loop.specs.declared.ending.Ending.{Ending}
 use Rattle.run_loop.specs.declared.ending.Ending.TheVariants.{Done, Stopped}
 use Rattle.run_loop.specs.Ends.{IsVerdict}
 
--- no stop was answered, and the states fit the model
-abbrev pub LeftIn : Ending → Standing → Type 0
-LeftIn Done s = (s.stopped ≡ None) × FitsTree (tree_in s) s.state.leaf_states
-LeftIn (Stopped why) s = ⊤
+-- no stop was answered, the states fit the model, and where they are to be saved messages have no
+-- order of service
+abbrev pub LeftIn : Ending → Bool → Option Marking → Standing → Type 0
+LeftIn Done is_saved m s =
+    (s.stopped ≡ None) × FitsTree (tree_in s) s.state.leaf_states × (IsTrue is_saved → m ≡ None)
+LeftIn (Stopped why) is_saved m s = ⊤
 
 -- a run has this verdict, and where it is done it was left so
 abbrev pub LeftSo : Ending → Run → Standing → Type 0

@@ -1,4 +1,4 @@
--- A stop ends a run, but for want of memory.
+-- Private: a stop ends a run, but for want of memory.
 use Rattle.std.specs.Prelude.{◌≡◌, Result, Ok, Err}
 use Rattle.flat_run.specs.declared.progress.Stop.{Stop}
 use Rattle.flat_run.specs.declared.progress.Stop.TheVariants as stops

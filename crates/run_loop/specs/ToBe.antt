@@ -1,4 +1,5 @@
--- The answer to a run, by the texts of its files and what is said at its end.
+-- Private, for proofs alone: the answer to a run, by the texts of its files and what is said at its
+-- end.
 use Rattle.std.specs.Prelude.{◌≡◌}
 use Rattle.answer_model.specs.Answer.{Answer}
 use Rattle.answer_model.specs.RunEnd.{Said}

@@ -1,5 +1,6 @@
 // What a run begins with.
-ghost use Rattle.std.specs.Prelude.{◌≡◌, ◌+◌, ◌<◌, ◌≤◌, ◌^◌, None, Option, List, IfOk};
+ghost use Rattle.std.specs.Prelude.{◌≡◌, ◌+◌, ◌<◌, ◌≤◌, ◌^◌, None, Option, List, IfOk, IsTrue};
+ghost use Rattle.std.specs.Option.{is_some};
 ghost use Rattle.model_tree.specs.Tree.{leaf_count};
 ghost use Rattle.model_tree.specs.Leaves.{OfTree};
 ghost use Rattle.run_model.specs.Fitting.{FitsTree};
@@ -13,10 +14,10 @@ ghost use Rattle.run_loop.specs.Answers.{BeginsFrom};
 ghost use Rattle.run_loop.specs.Begins.{CountsNone, counts_at_start};
 
 use crate::going::Going;
+use crate::resumable::Resumable;
 use crate::shown::show_emitted;
 use asked_words::{Asked, GroupAt, Source};
-use atomic_face::AtomicModel;
-use flat_run::{FlatRun, Steps};
+use flat_run::Steps;
 use model_tree::Model;
 use quantity::{OutOfMemory, Time};
 use record_text::Records;
@@ -24,28 +25,30 @@ use run_files::{Counted, Drawn, drawn_at_start};
 use saved_runs::accepted::groups_stand;
 use std::alloc::Global;
 use std::sync::ledger::Ledger;
-use time_queue::TimeQueue;
 
 /// Frames of which nothing is drawn yet, with what the cells had emitted where the run goes on from
 /// a saved state; and nothing counted. Those cells take one visit each.
-pub(crate) fn begin<Q: TimeQueue, M: AtomicModel, L: Ledger>(
+pub(crate) fn begin<C: Resumable<L>, L: Ledger>(
     alloc: Global,
     asked: &Asked<'_>,
     group: Option<GroupAt>,
-    run: &FlatRun<Q, M>,
+    run: &C,
     steps: &mut Steps<L>,
 ) -> Result<Going, OutOfMemory>
-    requires goes { run.now.stopped ≡ None }
-    requires fits { FitsTree (tree_in run.now) run.now.state.leaf_states }
-    requires few { leaf_count (tree_in run.now) < 2 ^ 32 }
-    requires found { IsFoundIn run.now.model (asked_of asked.now).frames group }
-    requires shows { CanShow (tree_in run.now) (asked_of asked.now).frames }
+    requires goes { (C.standing run.now).stopped ≡ None }
+    requires unserved { (IsTrue (is_some asked.now.given.state) → C.marking run.now ≡ None) }
+    requires fits { let s = C.standing run.now in FitsTree (tree_in s) s.state.leaf_states }
+    requires few { leaf_count (tree_in (C.standing run.now)) < 2 ^ 32 }
+    requires found { IsFoundIn (C.standing run.now).model (asked_of asked.now).frames group }
+    requires shows { CanShow (tree_in (C.standing run.now)) (asked_of asked.now).frames }
     ensures drawn { IfOk result (λ going. (events : List Event) (from : Option Saved)
-        → BeginsFrom (asked_of asked.now) events from run.now
-        → going.drawn ≡ showing_at_start (tree_in run.now) from (asked_of asked.now).frames) }
-    ensures counted { IfOk result (CountsNone (asked_of asked.now) (tree_in run.now)) }
+        → BeginsFrom (asked_of asked.now) events from (C.standing run.now)
+        → going.drawn
+        ≡ showing_at_start (tree_in (C.standing run.now)) from (asked_of asked.now).frames) }
+    ensures counted { IfOk result
+        (CountsNone (asked_of asked.now) (tree_in (C.standing run.now))) }
     ensures visits { steps.new ≤ steps.old
-        + state_visits (asked_of asked.now).state (tree_in run.now) }
+        + state_visits (asked_of asked.now).state (tree_in (C.standing run.now)) }
 {
     let drawn = drawn_before_run(alloc, asked, group, run, steps)?;
     let counted = counted_at_start(alloc, &asked.source, run.model())?;
@@ -59,23 +62,25 @@ pub(crate) fn begin<Q: TimeQueue, M: AtomicModel, L: Ledger>(
 }
 
 /// The frames of which nothing is drawn yet.
-fn drawn_before_run<Q: TimeQueue, M: AtomicModel, L: Ledger>(
+fn drawn_before_run<C: Resumable<L>, L: Ledger>(
     alloc: Global,
     asked: &Asked<'_>,
     group: Option<GroupAt>,
-    run: &FlatRun<Q, M>,
+    run: &C,
     steps: &mut Steps<L>,
 ) -> Result<Option<Drawn>, OutOfMemory>
-    requires goes { run.now.stopped ≡ None }
-    requires fits { FitsTree (tree_in run.now) run.now.state.leaf_states }
-    requires few { leaf_count (tree_in run.now) < 2 ^ 32 }
-    requires found { IsFoundIn run.now.model (asked_of asked.now).frames group }
-    requires shows { CanShow (tree_in run.now) (asked_of asked.now).frames }
+    requires goes { (C.standing run.now).stopped ≡ None }
+    requires unserved { (IsTrue (is_some asked.now.given.state) → C.marking run.now ≡ None) }
+    requires fits { let s = C.standing run.now in FitsTree (tree_in s) s.state.leaf_states }
+    requires few { leaf_count (tree_in (C.standing run.now)) < 2 ^ 32 }
+    requires found { IsFoundIn (C.standing run.now).model (asked_of asked.now).frames group }
+    requires shows { CanShow (tree_in (C.standing run.now)) (asked_of asked.now).frames }
     ensures drawn { IfOk result (λ drawn. (events : List Event) (from : Option Saved)
-        → BeginsFrom (asked_of asked.now) events from run.now
-        → drawn ≡ showing_at_start (tree_in run.now) from (asked_of asked.now).frames) }
+        → BeginsFrom (asked_of asked.now) events from (C.standing run.now)
+        → drawn
+        ≡ showing_at_start (tree_in (C.standing run.now)) from (asked_of asked.now).frames) }
     ensures visits { steps.new ≤ steps.old
-        + state_visits (asked_of asked.now).state (tree_in run.now) }
+        + state_visits (asked_of asked.now).state (tree_in (C.standing run.now)) }
 {
     groups_stand();
     let mut drawn = drawn_at_start(alloc, run.model(), asked, group)?;

@@ -1,18 +1,18 @@
 // How a run ended, and what is told of it.
-ghost use Rattle.std.specs.Prelude.{◌≡◌, ◌++◌, List, codes, IfOk};
+ghost use Rattle.std.specs.Prelude.{◌≡◌, ◌++◌, ℕ, Option, List, codes, IfOk};
 ghost use Rattle.quantity.specs.ValueTexts.{text5};
 ghost use Rattle.model_tree.specs.Leaves.{OfTree};
-ghost use Rattle.run_model.specs.Run.{Event, Cycle, Verdict};
+ghost use Rattle.run_model.specs.Run.{Cycle, Verdict};
 ghost use Rattle.text_forms.specs.Lines.{ended};
 ghost use Rattle.answer_model.specs.declared.status.Status.TheVariants as exit;
 ghost use Rattle.answer_model.specs.Endings.{Says, ShowsEnd};
-ghost use Rattle.answer_model.specs.RunEnd.{done_line as last_line, said, many_line, stopped_at};
+ghost use Rattle.answer_model.specs.RunEnd.{done_line as last_line, many_line, stopped_at};
 ghost use Rattle.asked_words.specs.Shown.{asked_of};
 ghost use Rattle.run_loop.specs.declared.ending.Ending.TheVariants.{Stopped};
-ghost use Rattle.run_loop.specs.Ends.{IsVerdict, IsSaid, HasCounted};
+ghost use Rattle.run_loop.specs.Ends.{IsVerdict, IsSaid, HasCounted, mark_behind, said_with};
 
 use crate::going::Going;
-use crate::lines::{delay_line, end_line, made_line, many_cycles_line, stopped_line};
+use crate::lines::{delay_line, end_line, made_line, many_cycles_line, put_mark, stopped_line};
 use asked_words::{Asked, Source};
 use flat_run::Stop;
 use model_tree::Model;
@@ -28,23 +28,25 @@ pub(crate) enum Ending {
     Stopped(Stop),
 }
 
-/// Tells how a run ended: shows its last line where it is done, and else complains of the stop.
+/// Tells how a run ended: shows its last line where it is done, with the mark of its order of
+/// service, if it has one, and else complains of the stop.
 pub(crate) fn tell_ending<R: Room>(
     alloc: Global,
     room: &mut R,
     asked: &Asked<'_>,
     model: &Model,
     going: &Going,
+    mark: Option<u32>,
     ending: Ending,
 ) -> Status
     // For the cycles and the verdict of the run.
-    ensures { OfTree model.now (λ tree. (events : List Event) (cycles : List Cycle) (v : Verdict)
+    ensures { OfTree model.now (λ tree. (cycles : List Cycle) (v : Verdict)
         → IsVerdict ending v → HasCounted (asked_of asked.now) tree cycles going.now
-        → IsSaid (said (asked_of asked.now) tree events cycles v)
+        → IsSaid (said_with mark (asked_of asked.now) tree cycles v)
         (R.outside room.old) (R.outside room.new) result) }
 {
     match ending {
-        Ending::Done => show_done(alloc, room, asked, model, going),
+        Ending::Done => show_done(alloc, room, asked, model, going, mark),
         Ending::Stopped(stop) => complain_stop(alloc, room, asked, model, stop),
     }
 }
@@ -56,19 +58,38 @@ fn show_done<R: Room>(
     asked: &Asked<'_>,
     model: &Model,
     going: &Going,
+    mark: Option<u32>,
 ) -> Status
     ensures { OfTree model.now (λ tree. (cycles : List Cycle)
         → HasCounted (asked_of asked.now) tree cycles going.now
-        → ShowsEnd (ended (last_line (asked_of asked.now) tree cycles)) exit.Done
-        (R.outside room.old) (R.outside room.new) result) }
+        → ShowsEnd (ended (last_line (asked_of asked.now) tree cycles ++ mark_behind mark))
+        exit.Done (R.outside room.old) (R.outside room.new) result) }
 {
-    let Ok(line) = done_line(alloc, asked, model, going) else {
+    let Ok(line) = marked_line(alloc, asked, model, going, mark) else {
         return Status::NoMemory;
     };
     show(alloc, room, &line)
 }
 
-/// The last line of a run that is done.
+/// The last line of a run that is done, with the mark of its order of service, if it has one.
+fn marked_line(
+    alloc: Global,
+    asked: &Asked<'_>,
+    model: &Model,
+    going: &Going,
+    mark: Option<u32>,
+) -> Result<Vec<u8>, OutOfMemory>
+    ensures { IfOk result (λ line. OfTree model.now (λ tree. (cycles : List Cycle)
+        → HasCounted (asked_of asked.now) tree cycles going.now
+        → line.items ≡ ended (last_line (asked_of asked.now) tree cycles ++ mark_behind mark))) }
+{
+    let mut line = done_line(alloc, asked, model, going)?;
+    put_mark(alloc, mark, &mut line)?;
+    line.extend_from_slice(b"\n")?;
+    Ok(line)
+}
+
+/// The last line of a run that is done, without mark and line feed.
 fn done_line(
     alloc: Global,
     asked: &Asked<'_>,
@@ -77,7 +98,7 @@ fn done_line(
 ) -> Result<Vec<u8>, OutOfMemory>
     ensures { IfOk result (λ line. OfTree model.now (λ tree. (cycles : List Cycle)
         → HasCounted (asked_of asked.now) tree cycles going.now
-        → line.items ≡ ended (last_line (asked_of asked.now) tree cycles))) }
+        → line.items ≡ last_line (asked_of asked.now) tree cycles)) }
 {
     let Source::Made(size) = asked.source else {
         return end_line(alloc, asked.end, going.cycles);
@@ -97,9 +118,9 @@ fn complain_stop<R: Room>(
     model: &Model,
     stop: Stop,
 ) -> Status
-    ensures { OfTree model.now (λ tree. (events : List Event) (cycles : List Cycle) (v : Verdict)
+    ensures { OfTree model.now (λ tree. (mark : Option ℕ) (cycles : List Cycle) (v : Verdict)
         → IsVerdict (Stopped stop) v
-        → IsSaid (said (asked_of asked.now) tree events cycles v)
+        → IsSaid (said_with mark (asked_of asked.now) tree cycles v)
         (R.outside room.old) (R.outside room.new) result) }
 {
     match stop {

@@ -4,25 +4,24 @@ ghost use Rattle.quantity.specs.ValueTexts.{text5};
 ghost use Rattle.model_tree.specs.Leaves.{OfTree};
 ghost use Rattle.text_forms.specs.Lines.{ended};
 ghost use Rattle.answer_model.specs.RunEnd.{many_line, stopped_at};
-ghost use Rattle.run_loop.specs.Ends.{end_text, made_text, leaf_called};
+ghost use Rattle.run_loop.specs.Ends.{end_text, made_text, mark_behind, leaf_called};
 
 use model_tree::Model;
 use quantity::{OutOfMemory, Time, Value};
 use run_files::Counted;
 use std::alloc::Global;
 
-/// The line of a run that is done.
+/// The line of a run that is done, without its line feed.
 pub(crate) fn end_line(alloc: Global, end: Time, cycles: u64) -> Result<Vec<u8>, OutOfMemory>
-    ensures { IfOk result (λ line. line.items ≡ ended (end_text end cycles)) }
+    ensures { IfOk result (λ line. line.items ≡ end_text end cycles) }
 {
     let mut line = b"end ".to_vec(alloc)?;
     end.text(&mut line)?;
     put_number(alloc, b" cycles ", cycles, &mut line)?;
-    line.extend_from_slice(b"\n")?;
     Ok(line)
 }
 
-/// The line of a run of a made model that is done.
+/// The line of a run of a made model that is done, without its line feed.
 pub(crate) fn made_line(
     alloc: Global,
     size: u32,
@@ -30,7 +29,7 @@ pub(crate) fn made_line(
     cycles: u64,
     counted: &Counted,
 ) -> Result<Vec<u8>, OutOfMemory>
-    ensures { IfOk result (λ line. line.items ≡ ended (made_text size cells cycles counted.now)) }
+    ensures { IfOk result (λ line. line.items ≡ made_text size cells cycles counted.now) }
 {
     let mut line: Vec<u8> = Vec::new(alloc);
     put_number(alloc, b"made ", u64::from(size), &mut line)?;
@@ -39,8 +38,21 @@ pub(crate) fn made_line(
     put_number(alloc, b" y ", counted.y(), &mut line)?;
     put_number(alloc, b" s ", counted.s(), &mut line)?;
     put_number(alloc, b" ones ", counted.ones(), &mut line)?;
-    line.extend_from_slice(b"\n")?;
     Ok(line)
+}
+
+/// Appends the mark of an order of service, where there is one.
+pub(crate) fn put_mark(
+    alloc: Global,
+    mark: Option<u32>,
+    into: &mut Vec<u8>,
+) -> Result<(), OutOfMemory>
+    ensures { OnOk result (into.new.items ≡ into.old.items ++ mark_behind mark) }
+{
+    match mark {
+        None => Ok(()),
+        Some(mark) => put_number(alloc, b" mark ", u64::from(mark), into),
+    }
 }
 
 /// Appends a text and a number behind it.

@@ -1,6 +1,7 @@
 // A run goes on, cycle by cycle, and each cycle is written.
-ghost use Rattle.std.specs.Prelude.{◌≡◌, ◌+◌, ◌<◌, ◌≤◌, ◌^◌, true, None};
+ghost use Rattle.std.specs.Prelude.{◌≡◌, ◌+◌, ◌<◌, ◌≤◌, ◌^◌, None, IfOk, IsTrue};
 ghost use Rattle.std.specs.Bool.{OnTrue};
+ghost use Rattle.std.specs.Option.{is_some};
 ghost use Rattle.run_model.specs.Visits.{visits};
 ghost use Rattle.answer_model.specs.Visits.{state_visits};
 ghost use Rattle.flat_run.specs.Standing.{tree_in};
@@ -9,20 +10,20 @@ ghost use Rattle.run_files.specs.AskedFiles.{names_of};
 ghost use Rattle.run_files.specs.Texts.{AreApart, AreCreated};
 ghost use Rattle.run_loop.specs.DoneIn.{DoneIn};
 ghost use Rattle.run_loop.specs.Left.{run_of, HaveValues, IsFitTo};
+ghost use Rattle.run_loop.specs.Marked.{IsMarked};
 ghost use Rattle.run_loop.specs.Ran.{asking, RunsTo, RunsWhole};
 ghost use Rattle.run_loop.specs.Leaves.{spent};
 ghost use Rattle.run_loop.specs.Stopping.{StopsAs};
 
 use crate::ending::Ending;
 use crate::going::{Going, write_next};
+use crate::resumable::Resumable;
 use crate::saved::write_saved;
 use asked_words::Asked;
-use atomic_face::AtomicModel;
-use flat_run::{Cycles, FlatRun, Progress, Steps, Stop};
+use flat_run::{Cycles, Progress, Steps, Stop};
 use room_edge::Room;
 use run_files::{Unwritten, write_last};
 use std::sync::ledger::Ledger;
-use time_queue::TimeQueue;
 
 /// Runs at most so many cycles, and writes each, and at the end the last frame and, where the run is
 /// done and it is to be saved, the state in which it is left. A cycle that is due after them is one
@@ -32,25 +33,32 @@ use time_queue::TimeQueue;
 ///
 /// `Fault` where a file could not be written, `Memory` where memory ran out: the files have the
 /// first pieces of the cycles that were begun, in their order, and of one piece maybe a beginning.
-pub(crate) fn run_all<R: Room, Q: TimeQueue, M: AtomicModel, L: Ledger>(
+pub(crate) fn run_all<R: Room, C: Resumable<L>, L: Ledger>(
     room: &mut R,
     asked: &Asked<'_>,
     going: &mut Going,
-    run: &mut FlatRun<Q, M>,
+    run: &mut C,
     most: u64,
     steps: &mut Steps<L>,
 ) -> Result<Ending, Unwritten>
     requires apart { AreApart (names_of asked.now) }
     requires created { AreCreated (names_of asked.now) (R.outside room.old).created }
-    requires goes { run.old.stopped ≡ None }
+    requires goes { (C.standing run.old).stopped ≡ None }
     requires few { going.old.cycles + most < 2 ^ 64 }
-    requires values { HaveValues (tree_in run.old) }
-    requires fit { IsFitTo most run.old }
-    ensures runs { RunsWhole (asking asked.now run.old) (run_of most run.old) going.old going.new
-        (R.outside room.old) (R.outside room.new) (spent true steps.old steps.new) result }
-    ensures keeps { Keeps run.old run.new }
-    ensures visits { steps.new ≤ steps.old + visits (tree_in run.old) (run_of most run.old)
-        + state_visits (names_of asked.now).state (tree_in run.old) }
+    requires values { HaveValues (tree_in (C.standing run.old)) }
+    requires fit { IsFitTo most (C.standing run.old) }
+    requires unserved { (IsTrue (is_some asked.now.given.save) → C.marking run.old ≡ None) }
+    ensures runs { let s = C.standing run.old in
+        RunsWhole (asking asked.now s)
+        (run_of most s) going.old going.new (R.outside room.old) (R.outside room.new)
+        (spent C.is_counted steps.old steps.new) result }
+    ensures keeps { Keeps (C.standing run.old) (C.standing run.new) }
+    // The mark is that of all cycles, where the run is done.
+    ensures marked { IfOk result (λ ending. IsMarked ending most (C.standing run.old)
+        (C.marking run.old) (C.marking run.new)) }
+    ensures visits { let s = C.standing run.old in
+        OnTrue C.is_counted (steps.new ≤ steps.old + visits (tree_in s) (run_of most s)
+        + state_visits (names_of asked.now).state (tree_in s)) }
 {
     let ending = run_cycles(room, asked, going, run, most, steps)?;
     write_last(room, asked, &mut going.drawn, &mut going.piece)?;
@@ -79,6 +87,8 @@ fn run_cycles<R: Room, C: Cycles<L>, L: Ledger>(
         (spent C.is_counted steps.old steps.new) result }
     ensures keeps { Keeps (C.standing run.old) (C.standing run.new) }
     ensures left { DoneIn result (run_of most (C.standing run.old)).left (C.standing run.new) }
+    ensures marked { IfOk result (λ ending. IsMarked ending most (C.standing run.old)
+        (C.marking run.old) (C.marking run.new)) }
     ensures visits { let s = C.standing run.old in
         OnTrue C.is_counted (steps.new ≤ steps.old + visits (tree_in s) (run_of most s)) }
 {

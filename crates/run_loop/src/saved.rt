@@ -1,5 +1,6 @@
 // The state in which a run is left.
-ghost use Rattle.std.specs.Prelude.{◌≡◌, ◌+◌, ◌≤◌, None};
+ghost use Rattle.std.specs.Prelude.{◌≡◌, ◌+◌, ◌≤◌, None, IsTrue};
+ghost use Rattle.std.specs.Option.{is_some};
 ghost use Rattle.run_model.specs.Fitting.{FitsTree};
 ghost use Rattle.run_model.specs.Run.{Run};
 ghost use Rattle.text_forms.specs.StateText.{text_of_state};
@@ -14,14 +15,12 @@ ghost use Rattle.run_files.specs.Written.{Writes};
 ghost use Rattle.run_loop.specs.Saving.{LeftIn, Saves};
 
 use crate::ending::Ending;
+use crate::resumable::Resumable;
 use asked_words::Asked;
-use atomic_face::AtomicModel;
-use flat_run::{FlatRun, Steps};
+use flat_run::Steps;
 use room_edge::Room;
 use run_files::{Output, Unwritten, write_piece};
-use state_file::save_state;
 use std::sync::ledger::Ledger;
-use time_queue::TimeQueue;
 
 /// Writes the state in which a run is left, where it is done and its state is to be saved; else
 /// nothing. `piece` is room that it uses again.
@@ -30,24 +29,27 @@ use time_queue::TimeQueue;
 ///
 /// `Fault` where the file could not be written, `Memory` where memory ran out: it has a beginning of
 /// the state.
-pub(crate) fn write_saved<R: Room, Q: TimeQueue, M: AtomicModel, L: Ledger>(
+pub(crate) fn write_saved<R: Room, C: Resumable<L>, L: Ledger>(
     room: &mut R,
     asked: &Asked<'_>,
     ending: &Ending,
-    run: &FlatRun<Q, M>,
+    run: &C,
     piece: &mut Vec<u8>,
     steps: &mut Steps<L>,
 ) -> Result<(), Unwritten>
     requires apart { AreApart (names_of asked.now) }
     requires created { AreCreated (names_of asked.now) (R.outside room.old).created }
-    // Where the run is done it goes on, and its states fit the model.
-    requires left { LeftIn ending.now run.now }
+    // Where the run is done it goes on, its states fit the model, and where it is to be saved its
+    // messages have no order of service.
+    requires left { LeftIn ending.now (is_some asked.now.given.save) (C.marking run.now)
+        (C.standing run.now) }
     // For a run that has ended so and was left as it stands.
-    ensures texts { (r : Run) → Saves ending.now r run.now →
-        Writes (names_of asked.now) (one_piece state (saved_text asked.now.end (tree_in run.now) r))
+    ensures texts { (r : Run) → Saves ending.now r (C.standing run.now) →
+        Writes (names_of asked.now)
+        (one_piece state (saved_text asked.now.end (tree_in (C.standing run.now)) r))
         (R.outside room.old) (R.outside room.new) result }
     ensures visits { steps.new ≤ steps.old
-        + state_visits (names_of asked.now).state (tree_in run.now) }
+        + state_visits (names_of asked.now).state (tree_in (C.standing run.now)) }
 {
     match ending {
         Ending::Done => write_state(room, asked, run, piece, steps),
@@ -56,27 +58,28 @@ pub(crate) fn write_saved<R: Room, Q: TimeQueue, M: AtomicModel, L: Ledger>(
 }
 
 /// Writes the state in which a run stands, where it is to be saved.
-fn write_state<R: Room, Q: TimeQueue, M: AtomicModel, L: Ledger>(
+fn write_state<R: Room, C: Resumable<L>, L: Ledger>(
     room: &mut R,
     asked: &Asked<'_>,
-    run: &FlatRun<Q, M>,
+    run: &C,
     piece: &mut Vec<u8>,
     steps: &mut Steps<L>,
 ) -> Result<(), Unwritten>
     requires apart { AreApart (names_of asked.now) }
     requires created { AreCreated (names_of asked.now) (R.outside room.old).created }
-    requires goes { run.now.stopped ≡ None }
-    requires fits { FitsTree (tree_in run.now) run.now.state.leaf_states }
-    ensures texts { Writes (names_of asked.now)
-        (one_piece state (text_of_state (tree_in run.now) asked.now.end run.now.state.leaf_states))
+    requires goes { (C.standing run.now).stopped ≡ None }
+    requires fits { let s = C.standing run.now in FitsTree (tree_in s) s.state.leaf_states }
+    requires unserved { (IsTrue (is_some asked.now.given.save) → C.marking run.now ≡ None) }
+    ensures texts { let s = C.standing run.now in Writes (names_of asked.now)
+        (one_piece state (text_of_state (tree_in s) asked.now.end s.state.leaf_states))
         (R.outside room.old) (R.outside room.new) result }
     ensures visits { steps.new ≤ steps.old
-        + state_visits (names_of asked.now).state (tree_in run.now) }
+        + state_visits (names_of asked.now).state (tree_in (C.standing run.now)) }
 {
     if asked.given.save.is_none() {
         return Ok(());
     }
     piece.clear();
-    let filled = save_state(run, asked.end, piece, steps);
+    let filled = run.save(asked.end, piece, steps);
     write_piece(room, asked, Output::State, filled, piece)
 }

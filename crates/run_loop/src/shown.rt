@@ -5,6 +5,7 @@ ghost use Rattle.sparse_cycle.specs.Sparse.{leaf_of};
 ghost use Rattle.run_leaves.specs.Saved.{is_cell};
 ghost use Rattle.run_loop.specs.Emitted.{AreCells, with_emitted, given_by, AreUnbegun, IsUnbegun};
 
+use crate::resumable::Resumable;
 use atomic_face::AtomicModel;
 use flat_run::{FlatRun, Steps};
 use quantity::{OutOfMemory, Value};
@@ -14,18 +15,19 @@ use time_queue::TimeQueue;
 
 /// Each cell of the group that is drawn, if one is, has the value that it has emitted last. Each
 /// takes one visit.
-pub(crate) fn show_emitted<Q: TimeQueue, M: AtomicModel, L: Ledger>(
-    run: &FlatRun<Q, M>,
+pub(crate) fn show_emitted<C: Resumable<L>, L: Ledger>(
+    run: &C,
     drawn: &mut Option<Drawn>,
     steps: &mut Steps<L>,
 ) -> Result<(), OutOfMemory>
-    requires goes { run.now.stopped ≡ None }
-    requires few { length run.now.state.leaf_states < 2 ^ 32 }
+    requires unserved { C.marking run.now ≡ None }
+    requires goes { (C.standing run.now).stopped ≡ None }
+    requires few { length (C.standing run.now).state.leaf_states < 2 ^ 32 }
     requires unbegun { AreUnbegun drawn.old }
-    requires cells { AreCells run.now.state.leaf_states drawn.old }
-    ensures shown { OnOk result
-        (drawn.new ≡ option_map (with_emitted run.now.state.leaf_states) drawn.old) }
-    ensures visits { steps.new ≤ steps.old + length run.now.state.leaf_states }
+    requires cells { AreCells (C.standing run.now).state.leaf_states drawn.old }
+    ensures shown { OnOk result (drawn.new
+        ≡ option_map (with_emitted (C.standing run.now).state.leaf_states) drawn.old) }
+    ensures visits { steps.new ≤ steps.old + length (C.standing run.now).state.leaf_states }
 {
     match drawn {
         None => Ok(()),
@@ -34,28 +36,30 @@ pub(crate) fn show_emitted<Q: TimeQueue, M: AtomicModel, L: Ledger>(
 }
 
 /// The same of a group.
-fn show_cells<Q: TimeQueue, M: AtomicModel, L: Ledger>(
-    run: &FlatRun<Q, M>,
+fn show_cells<C: Resumable<L>, L: Ledger>(
+    run: &C,
     drawn: &mut Drawn,
     steps: &mut Steps<L>,
 ) -> Result<(), OutOfMemory>
-    requires goes { run.now.stopped ≡ None }
-    requires few { length run.now.state.leaf_states < 2 ^ 32 }
+    requires unserved { C.marking run.now ≡ None }
+    requires goes { (C.standing run.now).stopped ≡ None }
+    requires few { length (C.standing run.now).state.leaf_states < 2 ^ 32 }
     requires unbegun { IsUnbegun drawn.old }
-    requires cells { AreCells run.now.state.leaf_states (Some drawn.old) }
-    ensures shown { OnOk result (drawn.new ≡ with_emitted run.now.state.leaf_states drawn.old) }
-    ensures visits { steps.new ≤ steps.old + length run.now.state.leaf_states }
+    requires cells { AreCells (C.standing run.now).state.leaf_states (Some drawn.old) }
+    ensures shown { OnOk result
+        (drawn.new ≡ with_emitted (C.standing run.now).state.leaf_states drawn.old) }
+    ensures visits { steps.new ≤ steps.old + length (C.standing run.now).state.leaf_states }
 {
     for cell in 0..drawn.cells() {
         let leaf = drawn.first() + cell;
-        let value = emitted(run, leaf, steps)?;
+        let value = run.emitted(leaf, steps)?;
         drawn.preset(cell, value);
     }
     Ok(())
 }
 
-/// The value that a cell emitted last.
-fn emitted<Q: TimeQueue, M: AtomicModel, L: Ledger>(
+/// The value that a cell of a flat run emitted last.
+pub(crate) fn last_emitted<Q: TimeQueue, M: AtomicModel, L: Ledger>(
     run: &FlatRun<Q, M>,
     leaf: u32,
     steps: &mut Steps<L>,

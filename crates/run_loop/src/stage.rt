@@ -1,5 +1,6 @@
 // All of the program after its inputs are read.
-ghost use Rattle.std.specs.Prelude.{◌≡◌, ◌+◌, ◌≤◌, true, Option, List};
+ghost use Rattle.std.specs.Prelude.{◌≡◌, ◌+◌, ◌≤◌, Option, List};
+ghost use Rattle.std.specs.Bool.{OnTrue};
 ghost use Rattle.model_tree.specs.Tree.{Word};
 ghost use Rattle.run_model.specs.Run.{Event, most_cycles as most};
 ghost use Rattle.run_model.specs.Visits.{visits};
@@ -15,45 +16,46 @@ ghost use Rattle.flat_run.specs.Standing.{tree_in};
 ghost use Rattle.run_files.specs.Groups.{showing_at_start};
 ghost use Rattle.run_loop.specs.Answers.{MayRun, BeginsFrom, answer_to};
 ghost use Rattle.run_loop.specs.Left.{run_of};
+ghost use Rattle.run_loop.specs.Marked.{IsOrdered};
 ghost use Rattle.run_loop.specs.Ran.{asking};
 ghost use Rattle.run_loop.specs.Leaves.{spent, Leaves};
 
 use crate::begin::{begin, most_cycles};
 use crate::ending::tell_ending;
 use crate::laws::runs_are_fit;
+use crate::resumable::Resumable;
 use crate::run::run_all;
 use asked_words::{Asked, GroupAt};
-use atomic_face::AtomicModel;
-use flat_run::{FlatRun, Steps};
+use flat_run::Steps;
 use room_edge::Room;
 use run_files::{create_files, tell_unwritten};
 use std::alloc::Global;
 use std::sync::ledger::Ledger;
-use time_queue::TimeQueue;
 use told_lines::Status;
 
 /// Makes the log, the output, the file of frames and that of the state at the end, runs a model to
-/// its end, from the start or from a saved state, and tells how that went: all of the program after
-/// its inputs are read.
+/// its end, from the start or from a saved state, whichever way its cycles are made, and tells how
+/// that went: all of the program after its inputs are read.
 ///
 /// Answers what a process ends with: `Done` where the run came to its end, and then its state is
 /// saved, if that is asked for; `NoTrueRule`, `Overflow`, `BadDelay` or `TooManyCycles` where it
 /// stopped before; `WriteFault` where a file could not be made or written, or a line be told; and
 /// `NoMemory` where memory ran out.
-pub fn run_and_tell<R: Room, Q: TimeQueue, M: AtomicModel, L: Ledger>(
+pub fn run_and_tell<R: Room, C: Resumable<L>, L: Ledger>(
     alloc: Global,
     room: &mut R,
     asked: &Asked<'_>,
     drawn: Option<GroupAt>,
-    run: &mut FlatRun<Q, M>,
+    run: &mut C,
     steps: &mut Steps<L>,
 ) -> Status
-    requires { MayRun asked.now drawn run.old }
+    requires may_run { MayRun asked.now drawn (C.standing run.old) }
+    requires ordered { IsOrdered asked.now (C.marking run.old) }
     // With the files that were looked for.
     ensures ends { (events : List Event) (from : Option Saved) (inputs : List Word)
-        → BeginsFrom (asked_of asked.now) events from run.old
-        → EndsWith (answer_to (asked_of asked.now) events from run.old inputs) (looked_for inputs)
-        (R.outside room.old) (R.outside room.new) result }
+        → BeginsFrom (asked_of asked.now) events from (C.standing run.old)
+        → EndsWith (answer_to (asked_of asked.now) events from (C.standing run.old) inputs)
+        (looked_for inputs) (R.outside room.old) (R.outside room.new) result }
     ensures known { IsOf of_run result }
     ensures write_fault { result ≡ WriteFault
         → WriteFaultCounted (R.outside room.old) (R.outside room.new) }
@@ -61,16 +63,17 @@ pub fn run_and_tell<R: Room, Q: TimeQueue, M: AtomicModel, L: Ledger>(
     ensures faults { AnswersFaults (R.outside room.old) (R.outside room.new) result }
     // The files that it leaves, with pieces in their order, and the visits of the cycles begun.
     ensures leaves { (events : List Event) (from : Option Saved)
-        → BeginsFrom (asked_of asked.now) events from run.old
-        → Leaves (asking asked.now run.old)
-        (run_of (most asked.now.end asked.now.given.limit) run.old)
-        (showing_at_start (tree_in run.old) from (asked_of asked.now).frames)
-        (R.outside room.old) (R.outside room.new) (spent true steps.old steps.new) }
+        → BeginsFrom (asked_of asked.now) events from (C.standing run.old)
+        → let s = C.standing run.old in Leaves (asking asked.now s)
+        (run_of (most asked.now.end asked.now.given.limit) s)
+        (showing_at_start (tree_in s) from (asked_of asked.now).frames)
+        (R.outside room.old) (R.outside room.new) (spent C.is_counted steps.old steps.new) }
     // The visits that the reference run may cost, and those of a state that is read or saved.
     ensures visits { let a = asked_of asked.now in
-        let r = run_of (most asked.now.end asked.now.given.limit) run.old in
-        steps.new ≤ steps.old + (state_visits a.state (tree_in run.old)
-        + visits (tree_in run.old) r + state_visits a.save (tree_in run.old)) }
+        let s = C.standing run.old in
+        let r = run_of (most asked.now.end asked.now.given.limit) s in
+        OnTrue C.is_counted (steps.new ≤ steps.old + (state_visits a.state (tree_in s)
+        + visits (tree_in s) r + state_visits a.save (tree_in s))) }
 {
     runs_are_fit();
     let Ok(mut going) = begin(alloc, asked, drawn, run, steps) else {
@@ -82,7 +85,7 @@ pub fn run_and_tell<R: Room, Q: TimeQueue, M: AtomicModel, L: Ledger>(
     }
     let most = most_cycles(asked.end, asked.given.limit);
     match run_all(room, asked, &mut going, run, most, steps) {
-        Ok(ending) => tell_ending(alloc, room, asked, run.model(), &going, ending),
+        Ok(ending) => tell_ending(alloc, room, asked, run.model(), &going, run.mark(), ending),
         Err(why) => tell_unwritten(alloc, room, asked, why),
     }
 }

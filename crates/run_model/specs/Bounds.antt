@@ -59,6 +59,7 @@ pub record IsBoundedGroup (g : Group) : Type 0 where
 abbrev pub AreBoundedSettings : Class → List ℤ → Type 0
 AreBoundedSettings class = (bounds_of class).bounded_settings
 
+-- the values of a model are bounded: those of its groups, and the settings of its boxes
 abbrev mutual
   pub HasBoundedValues : Tree → Type 0
   HasBoundedValues (coupled name ins outs children links) = HaveBoundedValues children

@@ -15,7 +15,7 @@ use Rattle.run_model.specs.Cycle.{LeafState, box_state, cell_state, initial_leaf
 
 -- ---- records of a cycle
 
--- a value at a port of a leaf
+-- a value at a port of a leaf; leaves are numbered in declared order
 pub record PortRecord : Type 0 where
   pub leaf : ℕ
   pub port : ℕ
@@ -32,7 +32,8 @@ pub record OutRecord : Type 0 where
   pub port : ℕ
   pub value : Value
 
--- the records of a cycle: Y, N, X, S and outputs
+-- the records of the cycle at this time: values given at ports out (Y) and at further ports (N),
+-- values that reached leaves (X), leaves that moved (S), and values at outputs of top
 pub record Cycle : Type 0 where
   pub time : ℕ
   pub y : List PortRecord

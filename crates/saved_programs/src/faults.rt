@@ -1,6 +1,6 @@
 // Runs that save and resume in which a call of the room fails, or whose state is cut short.
 use crate::models;
-use crate::runner::run;
+use memory_runs::run;
 use room_edge::{MemoryRoom, RoomCall};
 use std::process::Abort;
 use std::test::Fail;
@@ -96,7 +96,7 @@ fn leaves(
     room.put_file("ring.ma", models::RING.as_bytes())?;
     room.put_file("old.txt", state)?;
     let status = run(rt.alloc(), start.words, room)?;
-    stands(rt, status, room, wanted, number);
+    stands(rt, status.number(), room, wanted, number);
     are_made(rt, room, start.log, wanted, number);
     Ok(())
 }

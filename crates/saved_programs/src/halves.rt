@@ -1,6 +1,6 @@
 // Runs in two halves: what is made is that of one run.
 use crate::models;
-use crate::runner::{put_files, run};
+use memory_runs::{put_files, run};
 use room_edge::MemoryRoom;
 use std::process::Abort;
 use std::test::Fail;
@@ -162,7 +162,7 @@ fn run_done(
 ) -> Result<(), Fail> {
     put_files(room, files)?;
     let status = run(rt.alloc(), words, room)?;
-    is_done(rt, words, status, room)
+    is_done(rt, words, status.number(), room)
 }
 
 /// Compares a status and what was complained with those of a run that is done.

@@ -1,30 +1,6 @@
 // The models that are run, and what is written of the ring.
 
-/// Three cells in a ring: a cell is 1 where one of the three is.
-pub(crate) const RING: &str = "[top]
-components : line
-[line]
-type : cell
-dim : (1,3)
-delay : transport
-defaultDelayTime : 100
-border : wrapped
-neighbors : line(0,-1) line(0,0) line(0,1)
-initialvalue : 0
-initialrowvalue : 0 010
-localtransition : r
-[r]
-rule : 1 100 { truecount = 1 }
-rule : 0 100 { t }
-";
-
-/// The log of the ring up to 100: five lines of 45 bytes.
-pub(crate) const RING_LOG: &str = "Y / 00:00:00:000 / line(0,0) / out / 0.00000
-Y / 00:00:00:000 / line(0,1) / out / 1.00000
-Y / 00:00:00:000 / line(0,2) / out / 0.00000
-Y / 00:00:00:100 / line(0,0) / out / 1.00000
-Y / 00:00:00:100 / line(0,2) / out / 1.00000
-";
+pub(crate) use memory_runs::models::{RING, RING_LOG};
 
 /// Its log from there up to 200.
 pub(crate) const LATER_LOG: &str = "Y / 00:00:00:200 / line(0,0) / out / 0.00000

@@ -1,12 +1,9 @@
 // Words of saving and resuming that are refused.
 use crate::models;
 use crate::rows::{Row, answers};
+use memory_runs::models::USAGE;
 use std::process::Abort;
 use std::test::Fail;
-
-/// How words are refused.
-const USAGE: &str =
-    "usage: cdpp (-m MODEL | -G N) -t END [-e EVENTS] [-l LOG] [-o OUT] [-d FRAMES -g GROUP] [-L LETTERS] [-c LIMIT] [-w WIDTH] [-p DECIMALS] [-f PLANE] [-S SAVE] [-R STATE]\n";
 
 /// The files that are there.
 const FILES: [(&str, &str); 2] = [("ring.ma", models::RING), ("s.txt", models::RING_STATE)];

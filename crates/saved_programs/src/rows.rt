@@ -1,6 +1,6 @@
 // Runs that save their state, that go on from one, and whose state is refused.
 use crate::models;
-use crate::runner::{put_files, run};
+use memory_runs::{put_files, run};
 use room_edge::MemoryRoom;
 use std::process::Abort;
 use std::test::Fail;
@@ -167,7 +167,7 @@ fn answers_in(
 ) -> Result<(), Fail> {
     put_files(room, row.files)?;
     let status = run(rt.alloc(), row.words, room)?;
-    stands(rt, status, room, row);
+    stands(rt, status.number(), room, row);
     are_made(rt, room, row);
     Ok(())
 }

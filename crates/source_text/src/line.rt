@@ -28,6 +28,7 @@ pub(crate) fn is_blank(byte: u8) -> bool
     byte == b' ' || byte == b'\t'
 }
 
+/// The text without the blanks at its front.
 pub(crate) fn without_blanks_before(text: &[u8]) -> &[u8]
     ensures { result.now ≡ without_blanks_before text.now }
 {

@@ -1,4 +1,4 @@
--- The lines of leaves, one behind the other. Only private clauses name these.
+-- Private: the lines of leaves, one behind the other.
 use Rattle.std.specs.Prelude.{List}
 use Rattle.std.specs.List.{flat_map, zip}
 use Rattle.quantity.specs.Bytes.{Bytes}

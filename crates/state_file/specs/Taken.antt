@@ -1,4 +1,4 @@
--- What is put of the state that the lines of a text tell. Only private clauses name these.
+-- Private: what is put of the state that the lines of a text tell.
 use Rattle.std.specs.Prelude.{◌≡◌, ℕ, Bool, true, false, ◌&&◌, Option, Some, None, List, ℤ, length}
 use Rattle.std.specs.Prelude.{IsTrue}
 use Rattle.std.specs.declared.result.Result.{Result}

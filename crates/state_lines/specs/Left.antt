@@ -1,4 +1,4 @@
--- Words that are read one after another: what a reader has left. Only private clauses name these.
+-- Private: words that are read one after another: what a reader has left.
 use Rattle.std.specs.Prelude.{◌≡◌, ℕ, zero, suc, Option, Some, None, List, [], ◌∷◌, length}
 use Rattle.std.specs.Option.{option_copied}
 use Rattle.quantity.specs.declared.bounds.TheConstants.{MAX_TIME}

@@ -1,4 +1,4 @@
--- The lines of a text, one after another. Only private clauses of the reading name these.
+-- The lines of a text, one after another, and what stands behind each.
 use Rattle.std.specs.Prelude.{ℕ, ◌+◌, Option, Some, None, List, [], ◌∷◌, codes}
 use Rattle.std.specs.List.{slice_split}
 use Rattle.std.specs.Option.{option_map}

@@ -1,4 +1,4 @@
--- Words of a line, each after a blank. Only private clauses name these.
+-- Private: words of a line, each after a blank.
 use Rattle.std.specs.Prelude.{List, ◌∷◌}
 use Rattle.std.specs.List.{flat_map}
 use Rattle.quantity.specs.Bytes.{Bytes}

@@ -1,4 +1,4 @@
--- How long the states of a table are held.
+-- Private: how long the states of a table are held.
 use Rattle.std.specs.Prelude.{ℕ, ◌≤◌, Option, List, slice_get}
 use Rattle.std.specs.Option.{ForSome, option_and_then}
 use Rattle.quantity.specs.declared.bounds.TheConstants.{MAX_DELAY}

@@ -1,4 +1,4 @@
--- The settings and the state of a table, as the classes' table names them.
+-- Private: the settings and the state of a table, as the classes' table names them.
 use Rattle.std.specs.Prelude.{ℕ, ◌==◌, ◌&&◌, ◌||◌, Bool, Option, Some, None, map, ℤ, pos}
 use Rattle.quantity.specs.declared.value.Value.{Value}
 use Rattle.atomic_face.specs.declared.class.PortNo.{PortNo}

@@ -1,4 +1,4 @@
--- The parameters of a table, read one by one.
+-- Private: the parameters of a table, read one by one.
 use Rattle.std.specs.Prelude.{◌≡◌, ℕ, ◌<◌, ◌==◌, min, Bool, not, ◌&&◌, Option, Some, None, List, [], ◌∷◌, ◌++◌, length, slice_index_or, ℤ, pos, if◌then◌else◌, codes}
 use Rattle.std.specs.List.{filter_map, find}
 use Rattle.std.specs.Option.{option_map, is_some}

@@ -24,7 +24,7 @@ pub record ShownCell : Type 0 where
   pub cell : ℕ
   pub value : Value
 
--- what is drawn, and how
+-- what is drawn: a plane of a space, each value in so many places and with so many decimals
 pub record Picture : Type 0 where
   pub space : Space
   pub plane : ℕ

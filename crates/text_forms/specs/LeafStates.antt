@@ -36,12 +36,12 @@ is_leaf_state t l s = false
 
 -- ---- and its numbers are in range
 
--- each has a text
+-- each value of a port has a text
 abbrev pub has_values_in_range : PortState → Bool
 has_values_in_range p =
     is_value p.emitted && is_value p.computed && list_all (λ (q : ℕ × Value). is_value q.1) p.pairs
 
--- at most 10^17
+-- a number of a box, at most 10^17 in size
 abbrev pub is_word : ℤ → Bool
 is_word w = nat_le (unsigned_abs w) (10 ^ 17)
 

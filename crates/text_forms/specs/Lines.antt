@@ -56,7 +56,7 @@ records_of c N = of_ports out_port_name c.n
 records_of c X = of_ports in_port_name c.x
 records_of c S = of_moves c.s
 
--- their lines
+-- the lines of these records, which are those of this letter
 abbrev pub lines_of_records : List Leaf → ℕ → Letter → LetterRecords → List LogLine
 lines_of_records ls time letter (of_ports port rs) =
     filter_map (given_line ls time letter port) rs
@@ -66,7 +66,7 @@ lines_of_records ls time letter (of_moves rs) = filter_map (moved_line ls time) 
 abbrev pub lines_of_letter : List Leaf → Cycle → Letter → List LogLine
 lines_of_letter ls c letter = lines_of_records ls c.time letter (records_of c letter)
 
--- letter by letter
+-- all lines of a cycle, letter by letter
 abbrev pub cycle_lines : List Leaf → Cycle → List LogLine
 cycle_lines ls c = flat_map (lines_of_letter ls c) all_letters
 

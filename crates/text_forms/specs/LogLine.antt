@@ -49,10 +49,12 @@ abbrev pub next_text : Option ℕ → Bytes
 next_text None = codes "..."
 next_text (Some t) = time_text t
 
+-- the letter of a line: S where a leaf moved
 abbrev pub letter_of : LogLine → Letter
 letter_of (given letter time leaf port value) = letter
 letter_of (moved time leaf state next) = S
 
+-- a letter as it is written
 abbrev pub letter_text : Letter → Bytes
 letter_text letter = letter_byte letter ∷ []
 
@@ -81,7 +83,7 @@ is_leaf l =
     is_name l.name && list_all (λ n. nat_le n 1048575) l.at
     && ((length l.at == 0) || (length l.at == 2) || (length l.at == 3))
 
--- a cell
+-- the leaf is a cell
 abbrev pub has_place : LeafName → Bool
 has_place l = not (length l.at == 0)
 
@@ -133,7 +135,7 @@ leaf_of (name ∷ at ∷ []) = record { name = name; at = at_in at }
 leaf_of (name ∷ parts) = record { name = name; at = [] }
 leaf_of [] = record { name = []; at = [] }
 
--- from a text
+-- a leaf's name from a text
 abbrev pub leaf_in : Bytes → LeafName
 leaf_in text = leaf_of (slice_split (λ c. c == 40) text)
 

@@ -40,7 +40,7 @@ abbrev pub leaf_lines : List Leaf → List LeafState → List Bytes
 leaf_lines ls states =
     map (λ (p : Leaf × LeafState). leaf_line p.0 p.1) (zip ls states) ++ codes "end" ∷ []
 
--- all lines
+-- all lines of a state at this time
 abbrev pub state_lines : ℕ → List Leaf → List LeafState → List Bytes
 state_lines t ls states = codes "state 1" ∷ at_line t ∷ leaf_lines ls states
 

@@ -13,7 +13,7 @@ pub enum Letter {
     S,
 }
 
-/// What lines tell.
+/// What the lines of a letter tell of a leaf.
 #[derive(Clone, Copy, PartialEq, Eq, Debug)]
 pub enum Tells {
     /// A value at a port: of a cell alone, or of any leaf.

@@ -1,5 +1,12 @@
-//! Calls on texts and rooms: values, words, sections and events that are read and written, and what
-//! a room does where a call fails; what the real folder and both streams hold.
+//! Tests of texts and rooms: each call that can want memory, once with enough of it, and calls that
+//! fail.
+//!
+//! - Values, times and names are written and copied (`quantities`); words and parts of tuples are
+//!   listed (`words_and_tuples`); two model files and an empty one are cut into sections, which are
+//!   found by name (`sections`); events are read, skipped and taken (`events`).
+//! - Rooms in memory are read within a limit and past it, and written whole, or fail (`rooms`); of
+//!   the real folder, two files are made in turns with both streams between (`folder`).
+//! - Crates that are tried: `quantity`, `source_text`, `ma_lines`, `event_list`, `room_edge`.
 #![tactic(auto)]
 
 #[cfg(test)]

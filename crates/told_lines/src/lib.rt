@@ -1,4 +1,10 @@
-//! What a program tells: lines that are shown and complained, and the statuses that it ends with.
+//! What a program tells: a line that is shown or complained, and the status that it ends with.
+//!
+//! - `show` takes the bytes with which a program ends; `complain`, `complain_named`, `complain_of`
+//!   and `write_fault` take a line or a name. Each answers the `Status`: the one that belongs to
+//!   it, or that of a write fault or of want of memory where the line can't be written.
+//! - Definitions: `answer_model/specs/Endings.antt` (`Says`, `ShowsEnd`), `Answer.antt` there (the
+//!   lines). It rests on `show_all` and `complain_all` of `room_edge`.
 #![tactic(auto)]
 
 mod complaints;

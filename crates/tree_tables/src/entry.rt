@@ -8,7 +8,7 @@ pub enum Ref {
     OutputOf { processor: u32, port: u32 },
 }
 
-/// A processor.
+/// A processor of a model's tree: a component, or a cell of a group.
 #[derive(Drop)]
 pub struct Entry {
     /// The number of its parent. That of top is behind the last.

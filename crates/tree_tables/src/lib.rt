@@ -1,4 +1,11 @@
-// The processors of a model in tables: made once, so that no message looks up a name.
+//! The processors of a model's tree in tables, made once, so that to serve a message no name is
+//! looked up.
+//!
+//! - `tables_of` takes a `Model`, and gives an `Entry` for each processor: its parent, its
+//!   children, its leaf, and for each of its ports where the links into it begin (`Ref`).
+//! - Definitions: `specs/Stations.antt` (`stations`), over `served_tree/specs/Processors.antt` and
+//!   `Rows.antt`. The children are found by `Children`, links by `Arrivals` of `port_net`. No
+//!   program calls it yet.
 #![tactic(auto)]
 
 mod begins;

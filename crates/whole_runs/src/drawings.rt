@@ -1,6 +1,6 @@
 // Rows of runs of `drawlog`: words and logs, and what is answered to them.
-use crate::models;
 use crate::rows::Row;
+use memory_runs::models::RING_LOG;
 
 /// The log of the ring without its last three bytes.
 const CUT_LOG: &str = "Y / 00:00:00:000 / line(0,0) / out / 0.00000
@@ -29,7 +29,7 @@ const USAGE: &str = "usage: drawlog -l LOG -g GROUP -s SIZE [-w WIDTH] [-p DECIM
 /// and words that are refused.
 pub(crate) const DRAWINGS: [Row<'static>; 7] = [
     Row {
-        files: &[("log.txt", models::RING_LOG)],
+        files: &[("log.txt", RING_LOG)],
         words: "drawlog -l log.txt -g line -s 1,3 -w 2",
         status: 0,
         shown: FRAMES,
@@ -45,7 +45,7 @@ pub(crate) const DRAWINGS: [Row<'static>; 7] = [
         made: &[],
     },
     Row {
-        files: &[("log.txt", models::RING_LOG)],
+        files: &[("log.txt", RING_LOG)],
         words: "drawlog -l log.txt -g line -s 1,2 -w 2",
         status: 13,
         shown: "",
@@ -61,7 +61,7 @@ pub(crate) const DRAWINGS: [Row<'static>; 7] = [
         made: &[],
     },
     Row {
-        files: &[("log.txt", models::RING_LOG)],
+        files: &[("log.txt", RING_LOG)],
         words: "drawlog -l log.txt -g line",
         status: 2,
         shown: "",
@@ -69,7 +69,7 @@ pub(crate) const DRAWINGS: [Row<'static>; 7] = [
         made: &[],
     },
     Row {
-        files: &[("log.txt", models::RING_LOG)],
+        files: &[("log.txt", RING_LOG)],
         words: "drawlog -l log.txt -g line -s 0,3",
         status: 2,
         shown: "",
@@ -77,7 +77,7 @@ pub(crate) const DRAWINGS: [Row<'static>; 7] = [
         made: &[],
     },
     Row {
-        files: &[("log.txt", models::RING_LOG)],
+        files: &[("log.txt", RING_LOG)],
         words: "drawlog -l log.txt -g line -s 1,3 -f 1",
         status: 2,
         shown: "",

@@ -1,6 +1,7 @@
 // Models of the greatest size, and of one more; files that are too long.
 use crate::models;
-use crate::rows::{Row, answers, put_files, run};
+use crate::rows::{Row, answers};
+use memory_runs::{put_files, run};
 use room_edge::MemoryRoom;
 use std::alloc::Global;
 use std::process::Abort;
@@ -183,7 +184,7 @@ fn blinks(rt: &(impl Abort + AllocGlobal), room: &mut MemoryRoom) -> Result<(), 
     put_files(room, &QUIET_FILES)?;
     let words = "cdpp -m m.ma -t 00:00:10:000 -l log.txt -L YS";
     let status = run(rt.alloc(), words, room)?;
-    has_blinked(rt, status, room);
+    has_blinked(rt, status.number(), room);
     Ok(())
 }
 
@@ -273,7 +274,7 @@ fn long_is_refused(
     room.put_file(name, text.as_bytes())?;
     let status = run(rt.alloc(), READ_WORDS, room)?;
     assert_eq!(rt;
-        (status, room.complained()),
+        (status.number(), room.complained()),
         (wanted, complained.as_bytes()),
         "{complained}"
     );

@@ -1,31 +1,5 @@
 // The models that are run, and long logs of them.
 
-/// Three cells in a ring: a cell is 1 where one of the three is.
-pub(crate) const RING: &str = "[top]
-components : line
-[line]
-type : cell
-dim : (1,3)
-delay : transport
-defaultDelayTime : 100
-border : wrapped
-neighbors : line(0,-1) line(0,0) line(0,1)
-initialvalue : 0
-initialrowvalue : 0 010
-localtransition : r
-[r]
-rule : 1 100 { truecount = 1 }
-rule : 0 100 { t }
-";
-
-/// The log of the ring: five lines of 45 bytes.
-pub(crate) const RING_LOG: &str = "Y / 00:00:00:000 / line(0,0) / out / 0.00000
-Y / 00:00:00:000 / line(0,1) / out / 1.00000
-Y / 00:00:00:000 / line(0,2) / out / 0.00000
-Y / 00:00:00:100 / line(0,0) / out / 1.00000
-Y / 00:00:00:100 / line(0,2) / out / 1.00000
-";
-
 /// Life with a blinker, a comment, capitals, and a rule over two lines.
 pub(crate) const LIFE: &str = "[Top]
 components : Life
@@ -162,27 +136,6 @@ localtransition : r
 rule : 1 100 { (0,0) > ? }
 ";
 
-/// Two generators and a queue.
-pub(crate) const SERVED: &str = "[top]
-components : s h@generator q@queue
-out : o
-link : out@h in@q
-link : a@s in@q
-link : b@s in@q
-link : out@q o
-[s]
-components : g@generator
-out : a b
-link : out@g a
-link : out@g b
-[g]
-value : 7
-count : 1
-[h]
-value : 8
-count : 1
-";
-
 /// Two cells in a ring, each of which has the other twice as a neighbour.
 pub(crate) const PAIR: &str = "[top]
 components : line
@@ -275,71 +228,6 @@ initialvalue : 0
 localtransition : r
 [r]
 rule : { 100000 * 100000 } 100 { t }
-";
-
-/// A function of chance.
-pub(crate) const RANDOM: &str = "[top]
-components : g
-[g]
-type : cell
-dim : (1,1)
-neighbors : g(0,0)
-initialvalue : 0
-localtransition : r
-[r]
-rule : { uniform(0,1) } 100 { t }
-";
-
-/// A cell that is no neighbour.
-pub(crate) const STRANGER: &str = "[top]
-components : g
-[g]
-type : cell
-dim : (1,1)
-neighbors : g(0,0)
-initialvalue : 0
-localtransition : r
-[r]
-rule : { (0,1) } 100 { t }
-";
-
-/// A value and a truth are added.
-pub(crate) const MIXED: &str = "[top]
-components : g
-[g]
-type : cell
-dim : (1,1)
-neighbors : g(0,0)
-initialvalue : 0
-localtransition : r
-[r]
-rule : { (0,0) + t } 100 { t }
-";
-
-/// A function that there is not.
-pub(crate) const NO_FUNCTION: &str = "[top]
-components : g
-[g]
-type : cell
-dim : (1,1)
-neighbors : g(0,0)
-initialvalue : 0
-localtransition : r
-[r]
-rule : { power(2,3) } 100 { t }
-";
-
-/// A brace that is never closed.
-pub(crate) const OPEN: &str = "[top]
-components : g
-[g]
-type : cell
-dim : (1,1)
-neighbors : g(0,0)
-initialvalue : 0
-localtransition : r
-[r]
-rule : 1 100 { t
 ";
 
 /// Four cells in two planes, whose values come from a file.

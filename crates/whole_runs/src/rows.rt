@@ -1,26 +1,12 @@
 // Whole runs of the two programs, over a room in memory, for `cdpp` with two boxes of each class:
 // what is answered to words and files.
-ghost use Rattle.std.specs.Prelude.{◌≡◌, ◌<◌, ◌^◌, length, IfOk};
-
 use crate::drawings::DRAWINGS;
 use crate::forms::{FURTHER_KEYS, LIGHTS};
 use crate::tables;
-use atomic_face::{AtomicModel, Class};
-use atomic_kinds::{CounterModel, CpuModel, GeneratorModel, QueueModel};
-use cdpp_top::cdpp;
-use cell_engine::Steps;
-use drawlog_top::drawlog;
+use memory_runs::{put_files, run};
 use room_edge::MemoryRoom;
-use state_tables::TableModel;
-use std::alloc::Global;
-use std::marker::Brand;
 use std::process::Abort;
-use std::sync::ledger::{Blank, Ledger};
 use std::test::Fail;
-
-/// How words are refused.
-pub(crate) const USAGE: &str =
-    "usage: cdpp (-m MODEL | -G N) -t END [-e EVENTS] [-l LOG] [-o OUT] [-d FRAMES -g GROUP] [-L LETTERS] [-c LIMIT] [-w WIDTH] [-p DECIMALS] [-f PLANE] [-S SAVE] [-R STATE]\n";
 
 /// A run: the files in the room, the words, and what is answered: the status, what is shown and
 /// complained, and the files that are made.
@@ -32,93 +18,6 @@ pub(crate) struct Row<'a> {
     pub(crate) shown: &'a str,
     pub(crate) complained: &'a str,
     pub(crate) made: &'a [(&'a str, &'a str)],
-}
-
-fn counted<L: Ledger>(
-    alloc: Global,
-    words: &[String],
-    boxes: Vec<Box<dyn AtomicModel>>,
-    room: &mut MemoryRoom,
-    blank: Blank,
-) -> u8
-    requires few { length boxes.items < 2 ^ 32 }
-    requires name { blank.name ≡ L.name }
-    requires parts { blank.parts ≡ L.parts }
-    requires some { 0 < L.parts }
-{
-    let mut steps: Steps<L> = Steps::new(blank);
-    cdpp(alloc, words, boxes, room, &mut steps).number()
-}
-
-/// The words of a command line.
-fn words_of(alloc: Global, text: &str) -> Result<Vec<String>, Fail> {
-    let mut words: Vec<String> = Vec::new(alloc);
-    for word in text.split(' ') {
-        words.push(String::from_str(alloc, word)?)?;
-    }
-    Ok(words)
-}
-
-/// A box of a class.
-fn box_of(alloc: Global, class: Class) -> Result<Box<dyn AtomicModel>, Fail> {
-    let model: Box<dyn AtomicModel> = match class {
-        Class::Queue => Box::new(alloc, QueueModel::new(alloc))?,
-        Class::Generator => Box::new(alloc, GeneratorModel::new())?,
-        Class::Cpu => Box::new(alloc, CpuModel::new(alloc))?,
-        Class::Counter => Box::new(alloc, CounterModel::new())?,
-        Class::Table => Box::new(alloc, TableModel::new(alloc)?)?,
-    };
-    Ok(model)
-}
-
-/// Two of each class.
-const CLASSES: [Class; 10] = [
-    Class::Queue,
-    Class::Generator,
-    Class::Cpu,
-    Class::Counter,
-    Class::Table,
-    Class::Queue,
-    Class::Generator,
-    Class::Cpu,
-    Class::Counter,
-    Class::Table,
-];
-
-/// Puts two boxes of each class behind the others.
-fn push_boxes(alloc: Global, boxes: &mut Vec<Box<dyn AtomicModel>>) -> Result<(), Fail> {
-    for class in &CLASSES {
-        boxes.push(box_of(alloc, *class)?)?;
-    }
-    Ok(())
-}
-
-/// Two boxes of each class.
-fn boxes_of(alloc: Global) -> Result<Vec<Box<dyn AtomicModel>>, Fail>
-    ensures { IfOk result (λ boxes. length boxes.items < 2 ^ 32) }
-{
-    let mut boxes: Vec<Box<dyn AtomicModel>> = Vec::new(alloc);
-    push_boxes(alloc, &mut boxes)?;
-    if boxes.len() > CLASSES.len() {
-        return Err(Fail::new("many boxes"));
-    }
-    Ok(boxes)
-}
-
-/// Runs `cdpp` in the room, with two boxes of each class.
-fn run_cdpp(alloc: Global, words: &[String], room: &mut MemoryRoom) -> Result<u8, Fail> {
-    let boxes = boxes_of(alloc)?;
-    let blank = Blank::new(1);
-    Ok(counted::<Brand>(alloc, words, boxes, room, blank))
-}
-
-/// Runs the program that the words begin with, in the room.
-pub(crate) fn run(alloc: Global, text: &str, room: &mut MemoryRoom) -> Result<u8, Fail> {
-    let words = words_of(alloc, text)?;
-    if text.as_bytes().starts_with(b"drawlog") {
-        return Ok(drawlog(alloc, &words, room).number());
-    }
-    run_cdpp(alloc, &words, room)
 }
 
 /// The text of the first file of a row, by which rows of the same words are told apart.
@@ -155,14 +54,6 @@ fn are_made(rt: &impl Abort, room: &MemoryRoom, row: &Row<'_>) {
     }
 }
 
-/// Puts files into the room.
-pub(crate) fn put_files(room: &mut MemoryRoom, files: &[(&str, &str)]) -> Result<(), Fail> {
-    for (name, text) in files {
-        room.put_file(name, text.as_bytes())?;
-    }
-    Ok(())
-}
-
 /// Runs a row in the room, and compares what is left.
 fn answers_in(
     rt: &(impl Abort + AllocGlobal),
@@ -171,7 +62,7 @@ fn answers_in(
 ) -> Result<(), Fail> {
     put_files(room, row.files)?;
     let status = run(rt.alloc(), row.words, room)?;
-    stands(rt, status, room, row);
+    stands(rt, status.number(), room, row);
     are_made(rt, room, row);
     Ok(())
 }

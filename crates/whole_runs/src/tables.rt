@@ -1,27 +1,28 @@
 // Rows of runs of `cdpp`: words, models and events, and what is answered to them.
 use crate::models;
-use crate::rows::{Row, USAGE};
+use crate::rows::Row;
+use memory_runs::models::{RING, RING_LOG, SERVED, USAGE};
 
 /// The ring under several words, and a blinker that is drawn.
 pub(crate) const CELLS_FOLLOW_THEIR_NEIGHBOURS: [Row<'static>; 4] = [
     Row {
-        files: &[("row1.ma", models::RING)],
+        files: &[("row1.ma", RING)],
         words: "cdpp -m row1.ma -t 00:00:00:100 -l log.txt",
         status: 0,
         shown: "end 00:00:00:100 cycles 2\n",
         complained: "",
-        made: &[("log.txt", models::RING_LOG)],
+        made: &[("log.txt", RING_LOG)],
     },
     Row {
-        files: &[("row1.ma", models::RING)],
+        files: &[("row1.ma", RING)],
         words: "cdpp -mrow1.ma -l=log.txt -t0:0:0:100",
         status: 0,
         shown: "end 00:00:00:100 cycles 2\n",
         complained: "",
-        made: &[("log.txt", models::RING_LOG)],
+        made: &[("log.txt", RING_LOG)],
     },
     Row {
-        files: &[("row1.ma", models::RING)],
+        files: &[("row1.ma", RING)],
         words: "cdpp -m row1.ma -t 00:00:00:100 -l log.txt -L YS",
         status: 0,
         shown: "end 00:00:00:100 cycles 2\n",
@@ -381,7 +382,7 @@ Y / 00:00:00:000 / c / out / 6000000000.00000
 /// Generators with a queue, and a queue alone.
 pub(crate) const BOXES_SERVE: [Row<'static>; 2] = [
     Row {
-        files: &[("t.ma", models::SERVED)],
+        files: &[("t.ma", SERVED)],
         words: "cdpp -m t.ma -t 00:00:00:000 -l log.txt -o out.txt -L YXS",
         status: 0,
         shown: "end 00:00:00:000 cycles 2\n",
@@ -478,7 +479,7 @@ pub(crate) const PLANES_ARE_DRAWN: [Row<'static>; 3] = [
 /// Words that are refused with the line of usage.
 pub(crate) const WORDS_ARE_REFUSED: [Row<'static>; 4] = [
     Row {
-        files: &[("row1.ma", models::RING)],
+        files: &[("row1.ma", RING)],
         words: "cdpp -m row1.ma",
         status: 2,
         shown: "",
@@ -486,7 +487,7 @@ pub(crate) const WORDS_ARE_REFUSED: [Row<'static>; 4] = [
         made: &[],
     },
     Row {
-        files: &[("row1.ma", models::RING)],
+        files: &[("row1.ma", RING)],
         words: "cdpp -h",
         status: 2,
         shown: "",
@@ -494,7 +495,7 @@ pub(crate) const WORDS_ARE_REFUSED: [Row<'static>; 4] = [
         made: &[],
     },
     Row {
-        files: &[("row1.ma", models::RING)],
+        files: &[("row1.ma", RING)],
         words: "cdpp -m row1.ma -t 00:00:00:100 -l row1.ma",
         status: 2,
         shown: "",
@@ -502,7 +503,7 @@ pub(crate) const WORDS_ARE_REFUSED: [Row<'static>; 4] = [
         made: &[],
     },
     Row {
-        files: &[("row1.ma", models::RING)],
+        files: &[("row1.ma", RING)],
         words: "cdpp -G 4 -t 00:00:01:000",
         status: 2,
         shown: "",

@@ -102,11 +102,11 @@ keep_before : AllKeep (take 4 built_rows)
 keep_before =
     (word_keeps _ (λ w d. refl), (field_keeps _ _ (λ x d. refl), (field_keeps _ _ (λ x d. refl), (word_keeps _ (λ w d. refl), tt))))
 
-keep_between : AllKeep (take 6 (drop 7 built_rows))
+keep_between : AllKeep (take 7 (drop 7 built_rows))
 keep_between =
-    (word_keeps _ (λ w d. refl), (field_keeps _ _ (λ x d. refl), (field_keeps _ _ (λ x d. refl), (field_keeps _ _ (λ x d. refl), (field_keeps _ _ (λ x d. refl), (field_keeps _ _ (λ x d. refl), tt))))))
+    (word_keeps _ (λ w d. refl), (field_keeps _ _ (λ x d. refl), (field_keeps _ _ (λ x d. refl), (field_keeps _ _ (λ x d. refl), (field_keeps _ _ (λ x d. refl), (field_keeps _ _ (λ x d. refl), (field_keeps _ _ (λ x d. refl), tt)))))))
 
-keep_behind : AllKeep (drop 14 built_rows)
+keep_behind : AllKeep (drop 15 built_rows)
 keep_behind = (word_keeps _ (λ w d. refl), tt)
 
 no_names : (given : List Row) (e : Draft) → drafted [] given ≡ Some e → names e ≡ names nothing_given
@@ -118,9 +118,9 @@ names_are given e is =
     let l = made (drafted (drop 5 built_rows) given) _ a.from a.is in
     let o = made (drafted (drop 6 built_rows) given) _ l.from l.is in
     let d = made (drafted (drop 7 built_rows) given) _ o.from o.is in
-    let b = behind (take 6 (drop 7 built_rows)) (drop 13 built_rows) keep_between given d.from d.is in
-    let s = made (drafted (drop 14 built_rows) given) _ b.from b.is in
-    let c = behind (drop 14 built_rows) [] keep_behind given s.from s.is in
+    let b = behind (take 7 (drop 7 built_rows)) (drop 14 built_rows) keep_between given d.from d.is in
+    let s = made (drafted (drop 15 built_rows) given) _ b.from b.is in
+    let c = behind (drop 15 built_rows) [] keep_behind given s.from s.is in
     let none = c.same ∙ no_names given c.from c.is in
     let saved = b.same ∙ (save_is _ (value_of given (codes "S")) s.from b.from s.gives (ap (λ (n : Names). n.save) none) ∙ ap (with_save (value_of given (codes "S"))) none) in
     let pictured = drawn_is _ (value_of given (codes "d")) d.from o.from d.gives (ap (λ (n : Names). n.drawn) saved) ∙ ap (with_drawn (value_of given (codes "d"))) saved in

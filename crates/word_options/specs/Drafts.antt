@@ -18,7 +18,7 @@ use Rattle.word_options.specs.declared.table.Field.TheVariants as F
 abbrev pub text_of_name : Option (Bor Word) → Option Word
 text_of_name name = option_map (λ (n : Bor Word). n.now) name
 
--- an order of service is still to come
+-- a draft in code as in the definitions
 abbrev pub draft_of : Draft → D.Draft
 draft_of d =
     record {
@@ -36,7 +36,7 @@ draft_of d =
       width = d.width;
       decimals = d.decimals;
       plane = d.plane;
-      seed = None;
+      seed = d.seed;
       save = text_of_name d.save;
       state = text_of_name d.state;
     }
@@ -86,3 +86,4 @@ field_of F.Limit = D.field (D.number 1 1000000) (λ n d. record d { limit = n })
 field_of F.Width = D.field (D.number 1 20) (λ n d. record d { width = n })
 field_of F.Decimals = D.field (D.number 0 5) (λ n d. record d { decimals = n })
 field_of F.Plane = D.field (D.number 0 1048575) (λ n d. record d { plane = n })
+field_of F.Seed = D.field D.seed_in (λ n d. record d { seed = Some n })

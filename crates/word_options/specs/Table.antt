@@ -1,4 +1,4 @@
--- The options in code. Only private clauses name this.
+-- Private: the options in code.
 use Rattle.std.specs.Prelude.{ℕ, Option, Some, None, List, [], ◌∷◌, if◌then◌else◌}
 use Rattle.std.specs.List.{filter_map}
 use Rattle.clap.specs.Walk.{Row}

@@ -9,7 +9,7 @@ ghost use Rattle.word_options.specs.Table.{drafted_by, file_at, files_by};
 ghost use Rattle.word_options.specs.Drafts.{text_of_name, draft_of, place_of, field_of, IsBounded};
 
 use crate::table::{Field, Opt, Place};
-use crate::values::{letters_in, number};
+use crate::values::{letters_in, number, seed_in};
 use clap::ArgMatches;
 use quantity::{MAX_CELLS, Time};
 use record_text::Letters;
@@ -17,8 +17,8 @@ use record_text::Letters;
 /// What options ask for: a model's file or the size of a made one, 5 to 1000, the last instant, the
 /// files, the group that is drawn and its space as words, the letters of the log's lines, how many
 /// cycles an instant may have, 1 to 1,000,000, how frames look: 1 to 20 places for a value, at
-/// most 5 decimals, and the plane; and the file of the state at the end, and of the state that the
-/// run goes on from.
+/// most 5 decimals, and the plane; the seed of an order of service, at most 2,147,483,647; and the
+/// file of the state at the end, and of the state that the run goes on from.
 #[derive(Clone, Copy)]
 pub struct Draft<'a> {
     pub model: Option<&'a str>,
@@ -35,6 +35,7 @@ pub struct Draft<'a> {
     pub width: u8,
     pub decimals: u8,
     pub plane: u32,
+    pub seed: Option<u32>,
     pub save: Option<&'a str>,
     pub state: Option<&'a str>,
 }
@@ -65,6 +66,7 @@ impl<'a> Draft<'a> {
             width: 3,
             decimals: 0,
             plane: 0,
+            seed: None,
             save: None,
             state: None,
         }
@@ -151,6 +153,10 @@ impl<'a> Draft<'a> {
             }),
             Field::Plane => Some(Draft {
                 plane: number(0, MAX_CELLS - 1, text)?,
+                ..*self
+            }),
+            Field::Seed => Some(Draft {
+                seed: Some(seed_in(text)?),
                 ..*self
             }),
         }

@@ -34,6 +34,7 @@ pub(crate) enum Field {
     Width,
     Decimals,
     Plane,
+    Seed,
 }
 
 /// An option with one value: its name and its letter, which are the same, how it stands in the usage
@@ -72,7 +73,7 @@ const PLANE: Opt = Opt {
 };
 
 /// The options of the simulator.
-pub(crate) const CDPP: [Opt; 15] = [
+pub(crate) const CDPP: [Opt; 16] = [
     Opt {
         id: "m",
         letter: 'm',
@@ -146,6 +147,13 @@ pub(crate) const CDPP: [Opt; 15] = [
     WIDTH,
     DECIMALS,
     PLANE,
+    Opt {
+        id: "T",
+        letter: 'T',
+        shown: " [-T SEED]",
+        is_file: false,
+        field: Field::Seed,
+    },
     Opt {
         id: "S",
         letter: 'S',

@@ -3,7 +3,7 @@ ghost use Rattle.std.specs.Prelude.{◌≡◌, ◌≤◌, ◌++◌, ◌∷◌, [
 ghost use Rattle.std.specs.Option.{option_map};
 ghost use Rattle.rule_tree.specs.Scope.{differ};
 ghost use Rattle.record_text.specs.Chosen.{letters_of};
-ghost use Rattle.answer_model.specs.Options.{is_among, are_letters, letters_in, number};
+ghost use Rattle.answer_model.specs.Options.{is_among, are_letters, letters_in, number, seed_in};
 ghost use Rattle.answer_model.specs.Asked.{lower, group_in};
 ghost use Rattle.text_forms.specs.Letters.{letter_bytes};
 
@@ -22,6 +22,18 @@ pub fn number(low: u32, high: u32, text: &str) -> Option<u32>
 {
     let n = whole_number(7, text.as_bytes())? as u32;
     if low <= n && n <= high { Some(n) } else { None }
+}
+
+/// The seed of an order of service.
+pub(crate) fn seed_in(text: &str) -> Option<u32>
+    ensures { result ≡ seed_in text.now }
+{
+    let seed = whole_number(10, text.as_bytes())?;
+    if seed <= 2_147_483_647 {
+        Some(seed as u32)
+    } else {
+        None
+    }
 }
 
 fn is_letter(c: u8) -> bool

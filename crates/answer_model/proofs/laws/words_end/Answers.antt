@@ -44,6 +44,14 @@ returns c =
         six_decimals = refl;
         last_plane = refl;
         no_plane = refl;
+        first_seed = refl;
+        last_seed = refl;
+        past_seeds = refl;
+        ten_digits = refl;
+        eleven_digits = refl;
+        no_digit = refl;
+        seed_below = refl;
+        seed_again = refl;
         all_names = refl;
       };
       files = record {

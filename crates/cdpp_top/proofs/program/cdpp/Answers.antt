@@ -1,13 +1,14 @@
-use Rattle.std.proofs.Common.{true, map, refl, ◌∙◌, arith}
+use Rattle.std.proofs.Common.{map, refl, ◌∙◌, arith}
 use Rattle.std.specs.String.{string_bytes}
 use Rattle.std.proofs.lemmas.Option.{IfSome_then}
 use Rattle.answer_model.specs.Started.{started}
 use Rattle.answer_model.specs.Cdpp.{answer_of}
+use Rattle.answer_model.specs.Visits.{visits_for}
 use Rattle.answer_model.proofs.Stages.{at_start}
 use Rattle.answer_model.proofs.Causing.{run_ends}
-use Rattle.run_loop.specs.Leaves.{spent}
 use Rattle.cdpp_top.specs.Starting.{classes_by}
 use Rattle.cdpp_top.specs.Stages.{StandsAt}
+use Rattle.cdpp_top.specs.Ways.{standing_in}
 use Rattle.cdpp_top.proofs.Going.{if_some_all}
 use Rattle.cdpp_top.proofs.Joined.{read_then, read_ends, visited}
 use Rattle.cdpp_top.proofs.Leaving.{of_unrun, tells_made, leaves_of_start}
@@ -23,7 +24,7 @@ returns-in-Ok-clause-ends g c =
     let mid = g.R.Room.outside c.read.new.room in
     let new = g.R.Room.outside c.run.new.room in
     IfSome_then old.files c.in-Ok.ensures.reads
-    (λ files reads. read_then (λ s. StandsAt s.asked s.run) c.in-Ok.start (started words files classes) old mid new c.run.result reads c.run.ensures.ends)
+    (λ files reads. read_then (λ s. StandsAt s.asked (standing_in s.run)) c.in-Ok.start (started words files classes) old mid new c.run.result reads c.run.ensures.ends)
 
 pub returns-in-Ok-clause-causes : goal.returns-in-Ok-clause-causes
 returns-in-Ok-clause-causes g c =
@@ -55,7 +56,7 @@ returns-in-Ok-clause-leaves g c =
     let mid = g.R.Room.outside c.read.new.room in
     let new = g.R.Room.outside c.run.new.room in
     IfSome_then old.files c.in-Ok.ensures.reads
-    (λ files reads. leaves_of_start reads.0 (started words files classes) old mid new (spent true c.args.steps.now c.run.new.steps) c.run.result reads.1 c.in-Ok.ensures.only.made (c.run.ensures.leaves reads.0 reads.2))
+    (λ files reads. leaves_of_start reads.0 (started words files classes) old mid new c.args.steps.now c.run.new.steps c.run.result reads.1 c.in-Ok.ensures.only.made (c.run.ensures.leaves reads.0 reads.2))
 
 -- ---- it was not read, which a line tells
 
@@ -79,7 +80,9 @@ returns-in-Err-clause-faults g c = (c.in-Err.ensures.causes (g.R.Room.outside c.
 
 pub returns-in-Err-clause-visits : goal.returns-in-Err-clause-visits
 returns-in-Err-clause-visits g c =
-    if_some_all (g.R.Room.outside c.args.room.now).files _ (λ files. omega arith)
+    let words = map string_bytes c.args.words.now in
+    let classes = classes_by (λ m. g.M.AtomicModel.held m) c.args.boxes.items in
+    if_some_all (g.R.Room.outside c.args.room.now).files _ (λ files. if_some_all (visits_for words files classes) _ (λ most. omega arith))
 
 pub returns-in-Err-clause-leaves : goal.returns-in-Err-clause-leaves
 returns-in-Err-clause-leaves g c =
@@ -90,4 +93,4 @@ returns-in-Err-clause-leaves g c =
     let new = g.R.Room.outside c.tell_unread.new.room in
     let told = tells_made c.in-Err.why mid new c.tell_unread.result c.tell_unread.ensures in
     if_some_all old.files _ (λ files.
-    of_unrun (started words files classes) old new (spent true c.args.steps.now c.args.steps.now) c.tell_unread.result (record { made = told ∙ c.in-Err.ensures.only.made; visits = refl }))
+    of_unrun (started words files classes) old new c.args.steps.now c.args.steps.now c.tell_unread.result (record { made = told ∙ c.in-Err.ensures.only.made; visits = refl }))

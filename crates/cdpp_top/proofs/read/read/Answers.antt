@@ -8,6 +8,7 @@ use Rattle.answer_model.specs.Endings.{looked_for, EndsWith}
 use Rattle.asked_words.specs.Shown.{asked_of}
 use Rattle.cdpp_top.specs.Starting.{classes_by}
 use Rattle.cdpp_top.specs.Stages.{StandsAt}
+use Rattle.cdpp_top.specs.Ways.{standing_in}
 use Rattle.answer_model.proofs.Causing.{nothing_read}
 use Rattle.cdpp_top.proofs.Causing.{refused_ends, unread_words_end}
 use Rattle.cdpp_top.proofs.Going.{if_some_all}
@@ -25,7 +26,7 @@ returns-in-Ok-Some-clause-reads g c =
     let a = asked_of c.in-Ok-Some.asked in
     let is : Some a ≡ asked words = rw c.in-Ok-Some.field-0-is at c.in-Ok-Some.ensures.value in
     IfSome_then old.files c.read_inputs.ensures.reads
-    (λ files reads. read_as (λ s. StandsAt s.asked s.run) (inputs_read a files classes) (started words files classes) old new c.read_inputs.result (asked_start words files classes a is) reads)
+    (λ files reads. read_as (λ s. StandsAt s.asked (standing_in s.run)) (inputs_read a files classes) (started words files classes) old new c.read_inputs.result (asked_start words files classes a is) reads)
 
 pub returns-in-Ok-Some-clause-causes : goal.returns-in-Ok-Some-clause-causes
 returns-in-Ok-Some-clause-causes g c =

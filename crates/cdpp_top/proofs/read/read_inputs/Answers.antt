@@ -18,11 +18,13 @@ use Rattle.cdpp_top.specs.declared.unread.Unread.TheVariants as why
 use Rattle.cdpp_top.specs.Unread.{unread_model}
 use Rattle.cdpp_top.specs.Starting.{classes_by, tree_on}
 use Rattle.cdpp_top.specs.Stages.{ReadsEvents, ReadCauses, ReadsStart, StandsAt}
+use Rattle.cdpp_top.specs.Ways.{standing_in, marking_in}
 use Rattle.cdpp_top.proofs.Boxes.{none_taken, classes_are}
 use Rattle.cdpp_top.proofs.Causing.{nothing_told, model_told, only_then, misses_then}
 use Rattle.cdpp_top.proofs.Going.{if_some_all}
 use Rattle.cdpp_top.proofs.Groups.{sound_is}
 use Rattle.cdpp_top.proofs.Reading.{ReadsAsked, has_events, starts, stops_at_model, stops_at_events, stops_at_run, stops_at_state}
+use Rattle.cdpp_top.proofs.Orders.{no_state_asked}
 use Rattle.cdpp_top.proofs.Stops.{no_memory, no_line}
 use Rattle.cdpp_top.proofs.read.read_inputs.Goals as goal
 
@@ -40,7 +42,7 @@ returns-in_err-stock-clause-reads g c =
     let is : c.from_residual.result ≡ Err why.Memory = search rules in
     if_some_all old.files _ (λ files.
     let y = answer_of (inputs_read (asked_of x) files classes) in
-    subst (λ r. ReadsStart (λ s. StandsAt s.asked s.run) (inputs_read (asked_of x) files classes) old old r) (sym is)
+    subst (λ r. ReadsStart (λ s. StandsAt s.asked (standing_in s.run)) (inputs_read (asked_of x) files classes) old old r) (sym is)
     (λ after s tells. no_line y [] old old after s (no_memory y [] old) tells))
 
 pub returns-in_err-stock-clause-causes : goal.returns-in_err-stock-clause-causes
@@ -65,7 +67,7 @@ returns-in_err-read-clause-reads g c =
     let are = ap classes_of c.in_ok-stock.ensures ∙ classes_are (λ m. g.M.AtomicModel.held m) c.args.boxes.items in
     let reads = subst (λ (cs : List Class). ReadsAsked x cs c.read_source.new.stock (Err w) old mid) are c.in_err-read.ensures.reads in
     IfSome_then old.files (stops_at_model x classes c.read_source.new.stock w old mid reads) (λ files stops.
-    subst (λ r. ReadsStart (λ s. StandsAt s.asked s.run) (inputs_read (asked_of x) files classes) old mid r) (sym is) stops)
+    subst (λ r. ReadsStart (λ s. StandsAt s.asked (standing_in s.run)) (inputs_read (asked_of x) files classes) old mid r) (sym is) stops)
 
 pub returns-in_err-read-clause-causes : goal.returns-in_err-read-clause-causes
 returns-in_err-read-clause-causes g c =
@@ -102,7 +104,7 @@ returns-in_err-events-clause-reads g c =
     let reads = subst (λ (cs : List Class). ReadsAsked x cs stock (Ok (record { model = m; routes = c.in_ok-read.read.routes; drawn = c.in_ok-read.read.drawn })) old mid) are c.in_ok-read.ensures.reads in
     let later = subst (λ (names : List Bytes). IfSome mid.files (λ files. ReadsEvents (text_of_name x.given.events) names files mid new (Err w))) ports c.in_err-events.ensures.reads in
     IfSome_then old.files (stops_at_events x classes stock m c.in_ok-read.read.routes c.in_ok-read.read.drawn w old mid new reads later) (λ files stops.
-    subst (λ r. ReadsStart (λ s. StandsAt s.asked s.run) (inputs_read (asked_of x) files classes) old new r) (sym is) stops)
+    subst (λ r. ReadsStart (λ s. StandsAt s.asked (standing_in s.run)) (inputs_read (asked_of x) files classes) old new r) (sym is) stops)
 
 pub returns-in_err-events-clause-causes : goal.returns-in_err-events-clause-causes
 returns-in_err-events-clause-causes g c =
@@ -147,7 +149,7 @@ returns-in_err-at_start-clause-reads g c =
     let had = has_events x classes stock m c.in_ok-read.read.routes c.in_ok-read.read.drawn events old mid late reads later in
     let is : c.from_residual-in_err-at_start.result ≡ Err why.Memory = search rules in
     IfSome_then old.files had (λ files has.
-    subst (λ r. ReadsStart (λ s. StandsAt s.asked s.run) (inputs_read (asked_of x) files classes) old late r) (sym is) (stops_at_run x classes (tree_on m stock) events old late files has))
+    subst (λ r. ReadsStart (λ s. StandsAt s.asked (standing_in s.run)) (inputs_read (asked_of x) files classes) old late r) (sym is) (stops_at_run x classes (tree_on m stock) events old late files has))
 
 pub returns-in_err-at_start-clause-causes : goal.returns-in_err-at_start-clause-causes
 returns-in_err-at_start-clause-causes g c =
@@ -165,6 +167,9 @@ returns-in_err-at_start-clause-only g c =
     only_then (g.R.Room.outside c.args.room.now) (g.R.Room.outside c.read_source.new.room) (g.R.Room.outside c.read_events.new.room) c.in_ok-read.ensures.reads.only c.in_ok-events.ensures.only
 
 -- ---- no state
+
+pub read_state-requires-clause-unserved : goal.read_state-requires-clause-unserved
+read_state-requires-clause-unserved g c = no_state_asked c.args.asked (marking_in c.in_ok-at_start.at_start) c.in_ok-at_start.ensures.marked c.requires.bounds.unsaved
 
 pub returns-in_err-run-clause-reads : goal.returns-in_err-run-clause-reads
 returns-in_err-run-clause-reads g c =
@@ -185,8 +190,8 @@ returns-in_err-run-clause-reads g c =
     let w = c.in_err-run.field-0.0 in
     let is : c.from_residual-in_err-run.result ≡ Err w = search rules in
     let only = only_then old mid late c.in_ok-read.ensures.reads.only c.in_ok-events.ensures.only in
-    IfSome_then old.files (stops_at_state x classes c.in_ok-at_start.at_start m stock events w old late new c.in_ok-at_start.ensures.made only had c.in_err-run.ensures.reads) (λ files stops.
-    subst (λ r. ReadsStart (λ s. StandsAt s.asked s.run) (inputs_read (asked_of x) files classes) old new r) (sym is) stops)
+    IfSome_then old.files (stops_at_state x classes (standing_in c.in_ok-at_start.at_start) m stock events w old late new c.in_ok-at_start.ensures.made only had c.in_err-run.ensures.reads) (λ files stops.
+    subst (λ r. ReadsStart (λ s. StandsAt s.asked (standing_in s.run)) (inputs_read (asked_of x) files classes) old new r) (sym is) stops)
 
 pub returns-in_err-run-clause-causes : goal.returns-in_err-run-clause-causes
 returns-in_err-run-clause-causes g c =
@@ -231,7 +236,7 @@ returns-clause-reads g c =
     let had = has_events x classes stock m c.in_ok-read.read.routes c.in_ok-read.read.drawn events old mid late reads later in
     let new = g.R.Room.outside c.read_state.new.room in
     let only = only_then old mid late c.in_ok-read.ensures.reads.only c.in_ok-events.ensures.only in
-    starts x classes c.in_ok-at_start.at_start c.in_ok-run.run' m stock events old late new c.in_ok-at_start.ensures.made only had c.in_ok-run.ensures.reads
+    starts x classes (standing_in c.in_ok-at_start.at_start) (standing_in c.in_ok-run.run') m stock events old late new c.in_ok-at_start.ensures.made only had c.in_ok-run.ensures.reads
 
 pub returns-clause-causes : goal.returns-clause-causes
 returns-clause-causes g c =
@@ -258,5 +263,8 @@ pub returns-clause-may_run : goal.returns-clause-may_run
 returns-clause-may_run g c =
     let e = c.in_ok-read.ensures in
     let r = c.in_ok-read.read in
-    c.runs_may_run.ensures c.args.asked c.read_source.new.stock r.model r.routes r.drawn c.in_ok-events.events c.in_ok-at_start.at_start c.in_ok-run.run'
+    c.runs_may_run.ensures c.args.asked c.read_source.new.stock r.model r.routes r.drawn c.in_ok-events.events (standing_in c.in_ok-at_start.at_start) (standing_in c.in_ok-run.run')
     (record { bounds = c.requires.bounds; ready = e.reads.ready; drawn = e.drawn; found = e.reads.group }) c.in_ok-at_start.ensures.made c.in_ok-run.ensures.goes_on
+
+pub returns-clause-ordered : goal.returns-clause-ordered
+returns-clause-ordered g c = record { marked = c.in_ok-run.ensures.marked ∙ c.in_ok-at_start.ensures.marked; unsaved = c.requires.bounds.unsaved }

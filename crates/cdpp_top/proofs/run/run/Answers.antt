@@ -1,38 +1,68 @@
-use Rattle.std.proofs.Common.{ℕ, ◌+◌, ◌≤◌, inr, true, subst}
-use Rattle.answer_model.specs.Answer.{Answer}
-use Rattle.answer_model.specs.Endings.{looked_for, EndsWith}
-use Rattle.run_loop.specs.Leaves.{spent}
-use Rattle.cdpp_top.proofs.Leaving.{leaves_started}
-use Rattle.cdpp_top.proofs.Started.{begins_asked, same_answer, same_visits}
+use Rattle.std.proofs.Common.{refl, subst}
+use Rattle.flat_run.specs.Standing.{Standing}
+use Rattle.tree_serve.specs.OrderedRun.{OrderedRun}
+use Rattle.run_loop.specs.Answers.{MayRun}
+use Rattle.run_loop.specs.Marked.{IsOrdered}
+use Rattle.cdpp_top.specs.declared.way.Way.{Way}
+use Rattle.cdpp_top.specs.Stages.{StandsAt}
+use Rattle.cdpp_top.specs.Ways.{standing_in, marking_in}
+use Rattle.cdpp_top.proofs.Orders.{uncounted}
 use Rattle.cdpp_top.proofs.run.run.Goals as goal
 
-pub returns-clause-ends : goal.returns-clause-ends
-returns-clause-ends g c = λ s at_start.
-    let x = c.args.start in
-    let old = g.R.Room.outside c.args.room.now in
-    let new = g.R.Room.outside c.run_and_tell-status.new.room in
-    let begins = begins_asked x.asked x.drawn x.run s c.requires at_start in
-    subst (λ (y : Answer). EndsWith y (looked_for s.inputs) old new c.run_and_tell-status.result) (same_answer x.asked x.drawn x.run s c.requires at_start)
-    (c.run_and_tell-status.ensures.ends s.events s.from s.inputs begins)
+-- ---- a flat run
 
-pub returns-clause-known : goal.returns-clause-known
-returns-clause-known g c = c.run_and_tell-status.ensures.known
+pub run_to_end-requires-clause-may_run : goal.run_to_end-requires-clause-may_run
+run_to_end-requires-clause-may_run g c = subst (λ (w : Way Standing OrderedRun). MayRun c.args.start.asked c.args.start.drawn (standing_in w)) c.in-Flat.is c.requires.may_run
 
-pub returns-clause-write_fault : goal.returns-clause-write_fault
-returns-clause-write_fault g c = c.run_and_tell-status.ensures.write_fault
+pub run_to_end-requires-clause-ordered : goal.run_to_end-requires-clause-ordered
+run_to_end-requires-clause-ordered g c = subst (λ (w : Way Standing OrderedRun). IsOrdered c.args.start.asked (marking_in w)) c.in-Flat.is c.requires.ordered
 
-pub returns-clause-faults : goal.returns-clause-faults
-returns-clause-faults g c = c.run_and_tell-status.ensures.faults
+pub run_to_end-requires-clause-counted : goal.run_to_end-requires-clause-counted
+run_to_end-requires-clause-counted g c = λ e. refl
 
-pub returns-clause-visits : goal.returns-clause-visits
-returns-clause-visits g c = λ s at_start.
-    let x = c.args.start in
-    subst (λ (k : ℕ). c.run_and_tell-status.new.steps ≤ c.args.steps.now + k) (same_visits x.asked x.drawn x.run s c.requires at_start) c.run_and_tell-status.ensures.visits
+pub returns-in-Flat-clause-ends : goal.returns-in-Flat-clause-ends
+returns-in-Flat-clause-ends g c = λ s at_start. c.run_to_end.ensures.ends s (subst (λ (w : Way Standing OrderedRun). StandsAt c.args.start.asked (standing_in w) s) c.in-Flat.is at_start)
 
-pub returns-clause-leaves : goal.returns-clause-leaves
-returns-clause-leaves g c = λ s at_start.
-    let x = c.args.start in
-    let old = g.R.Room.outside c.args.room.now in
-    let new = g.R.Room.outside c.run_and_tell-status.new.room in
-    let begins = begins_asked x.asked x.drawn x.run s c.requires at_start in
-    inr (c.run_and_tell-status.ensures.known, leaves_started x.asked x.drawn x.run s old new (spent true c.args.steps.now c.run_and_tell-status.new.steps) c.requires at_start (c.run_and_tell-status.ensures.leaves s.events s.from begins))
+pub returns-in-Flat-clause-visits : goal.returns-in-Flat-clause-visits
+returns-in-Flat-clause-visits g c = λ s at_start. c.run_to_end.ensures.visits s (subst (λ (w : Way Standing OrderedRun). StandsAt c.args.start.asked (standing_in w) s) c.in-Flat.is at_start)
+
+pub returns-in-Flat-clause-leaves : goal.returns-in-Flat-clause-leaves
+returns-in-Flat-clause-leaves g c = λ s at_start. c.run_to_end.ensures.leaves s (subst (λ (w : Way Standing OrderedRun). StandsAt c.args.start.asked (standing_in w) s) c.in-Flat.is at_start)
+
+pub returns-in-Flat-clause-known : goal.returns-in-Flat-clause-known
+returns-in-Flat-clause-known g c = c.run_to_end.ensures.known
+
+pub returns-in-Flat-clause-write_fault : goal.returns-in-Flat-clause-write_fault
+returns-in-Flat-clause-write_fault g c = c.run_to_end.ensures.write_fault
+
+pub returns-in-Flat-clause-faults : goal.returns-in-Flat-clause-faults
+returns-in-Flat-clause-faults g c = c.run_to_end.ensures.faults
+
+-- ---- a run that is served in an order
+
+pub run_to_end-requires-in-Served-clause-may_run : goal.run_to_end-requires-in-Served-clause-may_run
+run_to_end-requires-in-Served-clause-may_run g c = subst (λ (w : Way Standing OrderedRun). MayRun c.args.start.asked c.args.start.drawn (standing_in w)) c.in-Served.is c.requires.may_run
+
+pub run_to_end-requires-in-Served-clause-ordered : goal.run_to_end-requires-in-Served-clause-ordered
+run_to_end-requires-in-Served-clause-ordered g c = subst (λ (w : Way Standing OrderedRun). IsOrdered c.args.start.asked (marking_in w)) c.in-Served.is c.requires.ordered
+
+pub run_to_end-requires-in-Served-clause-counted : goal.run_to_end-requires-in-Served-clause-counted
+run_to_end-requires-in-Served-clause-counted g c = uncounted c.args.start.asked c.in-Served.served.marking (subst (λ (w : Way Standing OrderedRun). IsOrdered c.args.start.asked (marking_in w)) c.in-Served.is c.requires.ordered)
+
+pub returns-in-Served-clause-ends : goal.returns-in-Served-clause-ends
+returns-in-Served-clause-ends g c = λ s at_start. c.run_to_end-in-Served.ensures.ends s (subst (λ (w : Way Standing OrderedRun). StandsAt c.args.start.asked (standing_in w) s) c.in-Served.is at_start)
+
+pub returns-in-Served-clause-visits : goal.returns-in-Served-clause-visits
+returns-in-Served-clause-visits g c = λ s at_start. c.run_to_end-in-Served.ensures.visits s (subst (λ (w : Way Standing OrderedRun). StandsAt c.args.start.asked (standing_in w) s) c.in-Served.is at_start)
+
+pub returns-in-Served-clause-leaves : goal.returns-in-Served-clause-leaves
+returns-in-Served-clause-leaves g c = λ s at_start. c.run_to_end-in-Served.ensures.leaves s (subst (λ (w : Way Standing OrderedRun). StandsAt c.args.start.asked (standing_in w) s) c.in-Served.is at_start)
+
+pub returns-in-Served-clause-known : goal.returns-in-Served-clause-known
+returns-in-Served-clause-known g c = c.run_to_end-in-Served.ensures.known
+
+pub returns-in-Served-clause-write_fault : goal.returns-in-Served-clause-write_fault
+returns-in-Served-clause-write_fault g c = c.run_to_end-in-Served.ensures.write_fault
+
+pub returns-in-Served-clause-faults : goal.returns-in-Served-clause-faults
+returns-in-Served-clause-faults g c = c.run_to_end-in-Served.ensures.faults

@@ -1,18 +1,17 @@
-use Rattle.std.proofs.Common.{◌≡◌, ◌∙◌, ◌++◌, [], ◌∷◌, map, ap, sym, arith, rules}
-use Rattle.std.specs.List.{range_with_len}
+use Rattle.std.proofs.Common.{◌≡◌, ◌∙◌, length, get_or, replicate, ap, rules}
+use Rattle.std.proofs.lemmas.List.{with_items_is}
+use Rattle.cell_grid.specs.Numbered.{numbered}
 use Rattle.cell_grid.specs.Space.{cell_count}
+use Rattle.cell_grid.specs.Zones.{zone_of}
 use Rattle.model_tree.specs.Stands.{group_of}
-use Rattle.cell_engine.specs.Layout.{set_of}
-use Rattle.cell_engine.proofs.Planned.{range_more}
+use Rattle.cell_engine.proofs.Planned.{laid-sets}
 use Rattle.cell_engine.proofs.make.sets_of_cells.Goals as goal
-
-pub loop-cell-preserved : goal.loop-cell-preserved
-loop-cell-preserved c =
-    let g = group_of c.args.group.now in
-    let pushed : c.push.new.self.items ≡ c.loop-cell.sets.items ++ c.set_of.result ∷ [] = search rules in
-    pushed ∙ (λ k. c.loop-cell.invariant k ++ c.set_of.ensures k ∷ []) ∙ sym (range_more (set_of g) c.loop-cell.cell)
 
 pub returns : goal.returns
 returns c =
-    let all : c.loop-cell.cell ≡ cell_count c.args.group.now.grid = omega (arith, c.loop-cell-test.false, c.loop-cell.auto.cell-end, c.cells-cell-end.ensures.value) in
-    c.loop-cell.invariant ∙ ap (λ n. map (set_of (group_of c.args.group.now)) (range_with_len 0 n)) all
+    let g = group_of c.args.group.now in
+    let zeros : c.in_ok-sets.sets.items ≡ replicate (cell_count g.space) 0 = search rules in
+    let items = with_items_is c.in_ok-sets.sets c.lay.new.into (c.lay.auto.into ∙ c.deref_mut.ensures.len) in
+    items
+    ∙ laid-sets g c.deref_mut.result.now c.lay.new.into (c.deref_mut.ensures.value ∙ zeros) c.lay.auto.into
+    (λ cell lt. c.lay.ensures cell lt ∙ ap (λ ns. numbered ns (get_or c.deref_mut.result.now cell 0) (zone_of g.zones g.space cell)) c.deref.ensures.value)

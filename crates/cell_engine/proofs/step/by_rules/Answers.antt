@@ -1,4 +1,5 @@
-use Rattle.std.proofs.Common.{◌≡◌, ◌<◌, ℕ, List, length, refl, sym, ◌∙◌, ap, subst, arith, Ok, Err}
+use Rattle.std.proofs.Common.{◌≡◌, ◌<◌, ℕ, Option, List, length, refl, sym, ◌∙◌, ap, subst, arith, Ok, Err}
+use Rattle.std.specs.Borrow.{Bor}
 use Rattle.std.specs.declared.result.Result.{Result}
 use Rattle.std.proofs.lemmas.List.{with_items_is}
 use Rattle.quantity.specs.declared.delay.DelayKind.{DelayKind}
@@ -6,10 +7,11 @@ use Rattle.quantity.specs.declared.value.Value.{Value}
 use Rattle.rule_tree.specs.declared.outcome.RuleStop.{RuleStop}
 use Rattle.rule_tree.specs.Chosen.{chosen}
 use Rattle.rule_tree.specs.Meaning.{Sight}
-use Rattle.rule_eval.specs.Evaluated.{Evaluates}
+use Rattle.rule_eval.specs.Evaluated.{Evaluates, IsLent}
 use Rattle.rule_eval.specs.Seen.{sight_of}
 use Rattle.rule_eval.specs.Room.{Room}
 use Rattle.rule_forms.specs.declared.given.Given.{Given}
+use Rattle.rule_forms.specs.declared.known.Constant.{Constant}
 use Rattle.cell_grid.specs.Space.{cell_count}
 use Rattle.cell_table.specs.Told.{cell_at}
 use Rattle.cell_table.proofs.Taking.{only_itself}
@@ -31,37 +33,50 @@ look-requires c =
       room = c.requires.ready.room;
     }
 
-pub evaluate-requires-clause-variables : goal.evaluate-requires-clause-variables
-evaluate-requires-clause-variables c =
+pub evaluate_into-requires-clause-variables : goal.evaluate_into-requires-clause-variables
+evaluate_into-requires-clause-variables c =
     ap length c.deref_mut-2.ensures.value ∙ c.requires.ready.changed ∙ sym c.requires.ready.variables ∙ sym c.view-view.ensures.count
 
-pub evaluate-requires-clause-depth : goal.evaluate-requires-clause-depth
-evaluate-requires-clause-depth c = c.requires.depth
+pub evaluate_into-requires-clause-depth : goal.evaluate_into-requires-clause-depth
+evaluate_into-requires-clause-depth c = c.requires.depth
 
-pub evaluate-requires-clause-view : goal.evaluate-requires-clause-view
-evaluate-requires-clause-view c =
+pub evaluate_into-requires-clause-view : goal.evaluate_into-requires-clause-view
+evaluate_into-requires-clause-view c =
     let here : c.args.i < cell_count c.args.plan.now.space = omega (arith, c.requires.cell, c.requires.ready.cells) in
     is_view c.view-view.result c.args.t c.args.plan.now c.args.table.now c.args.i c.args.port c.view-view.ensures.table c.requires.ready.cells here c.view-view.ensures.looks c.view-view.ensures.few
 
 pub take_made-requires : goal.take_made-requires
 take_made-requires c =
     let xs = c.args.desk.now.changed in
-    let long : length c.evaluate.new.changed ≡ length xs.items = omega (arith, c.evaluate.auto.changed, ap length c.deref_mut-2.ensures.value) in
-    let after = c.deref-in-Ok.ensures.value ∙ with_items_is xs c.evaluate.new.changed (omega (arith, long, xs.ok.0)) in
+    let long : length c.evaluate_into.new.changed ≡ length xs.items = omega (arith, c.evaluate_into.auto.changed, ap length c.deref_mut-2.ensures.value) in
+    let after = c.deref-in-None.ensures.value ∙ with_items_is xs c.evaluate_into.new.changed (omega (arith, long, xs.ok.0)) in
     record { cell = c.requires.cell; variables = ap length after ∙ long ∙ c.requires.ready.changed ∙ sym c.requires.ready.variables }
 
-pub returns-in-Ok-clause-only : goal.returns-in-Ok-clause-only
-returns-in-Ok-clause-only c = c.take_made.ensures.only
+pub returns-in-None-clause-only : goal.returns-in-None-clause-only
+returns-in-None-clause-only c = c.take_made.ensures.only
 
-pub returns-in-Ok-clause-ready : goal.returns-in-Ok-clause-ready
-returns-in-Ok-clause-ready c =
+pub returns-in-Some-clause-only : goal.returns-in-Some-clause-only
+returns-in-Some-clause-only c = c.take_lent.ensures.only
+
+pub returns-in-None-clause-ready : goal.returns-in-None-clause-ready
+returns-in-None-clause-ready c =
     let desk = c.args.desk.now in
     let around : length c.look.new.around ≡ length desk.neighbours.items = omega (arith, c.look.auto.around, ap length c.deref_mut.ensures.value) in
-    let changed : length c.evaluate.new.changed ≡ length desk.changed.items = omega (arith, c.evaluate.auto.changed, ap length c.deref_mut-2.ensures.value) in
+    let changed : length c.evaluate_into.new.changed ≡ length desk.changed.items = omega (arith, c.evaluate_into.auto.changed, ap length c.deref_mut-2.ensures.value) in
     let places = ap length (with_items_is desk.neighbours c.look.new.around (omega (arith, around, desk.neighbours.ok.0))) ∙ around in
-    let set = ap length (with_items_is desk.changed c.evaluate.new.changed (omega (arith, changed, desk.changed.ok.0))) ∙ changed in
+    let set = ap length (with_items_is desk.changed c.evaluate_into.new.changed (omega (arith, changed, desk.changed.ok.0))) ∙ changed in
     desk_after c.args.plan.now c.args.table.now c.take_made.new.table _ _ _ _ _ _ _ _ c.take_made.ensures.shape places c.look.ensures.room set
-    (ap (λ (room : Room). room.depth) c.evaluate.ensures.stack) c.requires.ready
+    (ap (λ (room : Room). room.depth) c.evaluate_into.ensures.stack) c.requires.ready
+
+pub returns-in-Some-clause-ready : goal.returns-in-Some-clause-ready
+returns-in-Some-clause-ready c =
+    let desk = c.args.desk.now in
+    let around : length c.look.new.around ≡ length desk.neighbours.items = omega (arith, c.look.auto.around, ap length c.deref_mut.ensures.value) in
+    let changed : length c.evaluate_into.new.changed ≡ length desk.changed.items = omega (arith, c.evaluate_into.auto.changed, ap length c.deref_mut-2.ensures.value) in
+    let places = ap length (with_items_is desk.neighbours c.look.new.around (omega (arith, around, desk.neighbours.ok.0))) ∙ around in
+    let set = ap length (with_items_is desk.changed c.evaluate_into.new.changed (omega (arith, changed, desk.changed.ok.0))) ∙ changed in
+    desk_after c.args.plan.now c.args.table.now c.take_lent.new.table _ _ _ _ _ _ _ _ c.take_lent.ensures.shape places c.look.ensures.room set
+    (ap (λ (room : Room). room.depth) c.evaluate_into.ensures.stack) c.requires.ready
 
 pub returns-in-Err-clause-only : goal.returns-in-Err-clause-only
 returns-in-Err-clause-only c = only_itself c.args.i c.args.table.now.cells
@@ -71,14 +86,14 @@ returns-in-Err-clause-ready c =
     let desk = c.args.desk.now in
     let table = c.args.table.now in
     let around : length c.look.new.around ≡ length desk.neighbours.items = omega (arith, c.look.auto.around, ap length c.deref_mut.ensures.value) in
-    let changed : length c.evaluate.new.changed ≡ length desk.changed.items = omega (arith, c.evaluate.auto.changed, ap length c.deref_mut-2.ensures.value) in
+    let changed : length c.evaluate_into.new.changed ≡ length desk.changed.items = omega (arith, c.evaluate_into.auto.changed, ap length c.deref_mut-2.ensures.value) in
     let places = ap length (with_items_is desk.neighbours c.look.new.around (omega (arith, around, desk.neighbours.ok.0))) ∙ around in
-    let set = ap length (with_items_is desk.changed c.evaluate.new.changed (omega (arith, changed, desk.changed.ok.0))) ∙ changed in
+    let set = ap length (with_items_is desk.changed c.evaluate_into.new.changed (omega (arith, changed, desk.changed.ok.0))) ∙ changed in
     desk_after c.args.plan.now table table _ _ _ _ _ _ _ _ (record { width = refl; variables = refl; cells = refl }) places c.look.ensures.room set
-    (ap (λ (room : Room). room.depth) c.evaluate.ensures.stack) c.requires.ready
+    (ap (λ (room : Room). room.depth) c.evaluate_into.ensures.stack) c.requires.ready
 
-pub returns-in-Ok-clause-cell : goal.returns-in-Ok-clause-cell
-returns-in-Ok-clause-cell c = λ trees st.
+pub returns-in-None-clause-cell : goal.returns-in-None-clause-cell
+returns-in-None-clause-cell c = λ trees st.
     let l = c.args.plan.now in
     let tb = c.args.table.now in
     let i = c.args.i in
@@ -87,15 +102,40 @@ returns-in-Ok-clause-cell c = λ trees st.
     let here : i < cell_count l.space = omega (arith, c.requires.cell, c.requires.ready.cells) in
     let shown : sight_of c.view-view.result ≡ record s { variables = cell.variables } = shows c.view-view.result c.args.t l tb i c.args.port c.view-view.ensures.table c.requires.ready.cells here c.view-view.ensures.looks in
     let xs = c.args.desk.now.changed in
-    let after : c.deref-in-Ok.result.now ≡ c.evaluate.new.changed = c.deref-in-Ok.ensures.value ∙ with_items_is xs c.evaluate.new.changed (omega (arith, c.evaluate.auto.changed, xs.ok.0)) in
-    let made : Result (Given × ℕ) RuleStop = Ok (c.in-Ok.given, c.in-Ok.delay) in
-    let evaluated : Evaluates (chosen trees (record s { variables = cell.variables })) made c.evaluate.new.changed =
-    subst (λ (x : Sight). Evaluates (chosen trees x) made c.evaluate.new.changed) shown (c.in-Ok.ensures.value trees st.codes_are) in
+    let given = c.evaluate_into.new.given in
+    let changed = c.evaluate_into.new.changed in
+    let after : c.deref-in-None.result.now ≡ changed = c.deref-in-None.ensures.value ∙ with_items_is xs changed (omega (arith, c.evaluate_into.auto.changed, xs.ok.0)) in
+    let made : Result (Given × ℕ) RuleStop = Ok (given, c.in-Ok.made.1) in
+    let meant : Evaluates (chosen trees (sight_of c.view-view.result)) made changed =
+    subst (λ (o : Option (Bor Constant)). IsLent (Evaluates (chosen trees (sight_of c.view-view.result))) o c.in-Ok.made.1 given changed c.view-view.result.variables.now) c.in-None.is (c.in-Ok.ensures.value trees st.codes_are) in
+    let evaluated : Evaluates (chosen trees (record s { variables = cell.variables })) made changed =
+    subst (λ (x : Sight). Evaluates (chosen trees x) made changed) shown meant in
     subst (λ (kind : DelayKind). Computes i tb.cells c.take_made.new.table.cells (ruled kind s trees cell) c.take_made.result) (ap (λ (m : Layout). m.kind) c.plan.view_is)
     (rules_finish _ c.take_made.result i tb.cells c.take_made.new.table.cells c.plan.inside.kind c.later-at.result s cell.variables cell trees
-    (c.in-Ok.given, c.in-Ok.delay) c.deref-in-Ok.result.now refl st.apart
+    (given, c.in-Ok.made.1) c.deref-in-None.result.now refl st.apart
     (subst (λ (ys : List Value). Evaluates (chosen trees (record s { variables = cell.variables })) made ys) (sym after) evaluated)
     (λ _. c.later-at.ensures) c.take_made.ensures.memory c.take_made.ensures.cell)
+
+pub returns-in-Some-clause-cell : goal.returns-in-Some-clause-cell
+returns-in-Some-clause-cell c = λ trees st.
+    let l = c.args.plan.now in
+    let tb = c.args.table.now in
+    let i = c.args.i in
+    let cell = cell_at tb.cells i in
+    let s = at_port c.args.port (sees l c.args.t tb i) in
+    let here : i < cell_count l.space = omega (arith, c.requires.cell, c.requires.ready.cells) in
+    let shown : sight_of c.view-view.result ≡ record s { variables = cell.variables } = shows c.view-view.result c.args.t l tb i c.args.port c.view-view.ensures.table c.requires.ready.cells here c.view-view.ensures.looks in
+    let seen = c.view-view.result.variables.now in
+    let given = c.in-Some.known.now.given in
+    let made : Result (Given × ℕ) RuleStop = Ok (given, c.in-Ok.made.1) in
+    let meant : Evaluates (chosen trees (sight_of c.view-view.result)) made seen =
+    subst (λ (o : Option (Bor Constant)). IsLent (Evaluates (chosen trees (sight_of c.view-view.result))) o c.in-Ok.made.1 c.evaluate_into.new.given c.evaluate_into.new.changed seen) c.in-Some.is (c.in-Ok.ensures.value trees st.codes_are) in
+    let evaluated : Evaluates (chosen trees (record s { variables = cell.variables })) made cell.variables =
+    subst (λ (x : Sight). Evaluates (chosen trees x) made x.variables) shown meant in
+    subst (λ (kind : DelayKind). Computes i tb.cells c.take_lent.new.table.cells (ruled kind s trees cell) c.take_lent.result) (ap (λ (m : Layout). m.kind) c.plan.view_is)
+    (rules_finish _ c.take_lent.result i tb.cells c.take_lent.new.table.cells c.plan.inside.kind c.later-at.result s cell.variables cell trees
+    (given, c.in-Ok.made.1) cell.variables refl st.apart evaluated
+    (λ _. c.later-at.ensures) c.take_lent.ensures.memory c.take_lent.ensures.cell)
 
 pub returns-in-Err-clause-cell : goal.returns-in-Err-clause-cell
 returns-in-Err-clause-cell c = λ trees st.
@@ -107,5 +147,5 @@ returns-in-Err-clause-cell c = λ trees st.
     let here : i < cell_count l.space = omega (arith, c.requires.cell, c.requires.ready.cells) in
     let shown : sight_of c.view-view.result ≡ record s { variables = cell.variables } = shows c.view-view.result c.args.t l tb i c.args.port c.view-view.ensures.table c.requires.ready.cells here c.view-view.ensures.looks in
     rules_stop _ i tb.cells tb.cells l.kind s cell.variables cell trees
-    c.in-Err.stop c.stop_of.result c.evaluate.new.changed refl c.stop_of.ensures
-    (subst (λ (x : Sight). let e : Result (Given × ℕ) RuleStop = Err c.in-Err.stop in Evaluates (chosen trees x) e c.evaluate.new.changed) shown (c.in-Err.ensures.value trees st.codes_are))
+    c.in-Err.stop c.stop_of.result c.evaluate_into.new.changed refl c.stop_of.ensures
+    (subst (λ (x : Sight). let e : Result (Given × ℕ) RuleStop = Err c.in-Err.stop in Evaluates (chosen trees x) e c.evaluate_into.new.changed) shown (c.in-Err.ensures.value trees st.codes_are))

@@ -7,5 +7,4 @@ abbrev pub invariant-loop-leaf : goal.invariant-loop-leaf
 invariant-loop-leaf g l = record {
   long : length (g.S.LeafSet.members l.woken) ≡ length (g.S.LeafSet.members l.fn.woken);
   woken : (k : ℕ) → (is_in (g.S.LeafSet.members l.fn.woken) k || watches_any (g.W.Watched.watches l.watched) l.givers k) ≡ (is_in (g.S.LeafSet.members l.woken) k || watches_any (g.W.Watched.watches l.watched) (drop l.leaf-index l.givers) k);
-  same : g.S.LeafSet.members l.touched ≡ g.S.LeafSet.members l.woken;
 }

@@ -1,8 +1,27 @@
+use Rattle.std.proofs.Common.{Option, Ok, List, sym, subst}
+use Rattle.std.specs.Borrow.{Bor}
+use Rattle.quantity.specs.declared.value.Value.{Value}
+use Rattle.rule_tree.specs.Chosen.{chosen}
+use Rattle.rule_forms.specs.declared.known.Constant.{Constant}
+use Rattle.rule_eval.specs.Evaluated.{Evaluates, IsLent}
 use Rattle.rule_eval.specs.Seen.{sight_of}
-use Rattle.rule_eval.proofs.ByTrees.{evaluates}
 use Rattle.rule_eval.proofs.evaluation.evaluate.Goals as goal
 
-pub returns-clause-value : goal.returns-clause-value
-returns-clause-value c =
+pub returns-in-Some-clause-value : goal.returns-in-Some-clause-value
+returns-in-Some-clause-value c =
     λ trees stand.
-    evaluates trees c.args.rules.now (sight_of c.args.view.now) c.first_true.result c.first_true.new.changed stand c.first_true.ensures.value
+    let view = c.args.view.now in
+    let outcome = chosen trees (sight_of view) in
+    let P : Option (Bor Constant) → Type 0 = λ o. IsLent (Evaluates outcome) o c.in-Ok.made.1 c.evaluate_into.new.given c.evaluate_into.new.changed view.variables.now in
+    let Q : List Value → Type 0 = λ vs. Evaluates outcome (Ok (c.in-Some.constant.now.given, c.in-Ok.made.1)) vs in
+    subst Q (sym c.copy.ensures) (subst P c.in-Some.is (c.in-Ok.ensures.value trees stand))
+
+pub returns-in-None-clause-value : goal.returns-in-None-clause-value
+returns-in-None-clause-value c =
+    λ trees stand.
+    let view = c.args.view.now in
+    let P : Option (Bor Constant) → Type 0 = λ o. IsLent (Evaluates (chosen trees (sight_of view))) o c.in-Ok.made.1 c.evaluate_into.new.given c.evaluate_into.new.changed view.variables.now in
+    subst P c.in-None.is (c.in-Ok.ensures.value trees stand)
+
+pub returns-in-Err-clause-value : goal.returns-in-Err-clause-value
+returns-in-Err-clause-value c = λ trees stand. c.in-Err.ensures.value trees stand

@@ -1,10 +1,11 @@
-use Rattle.std.proofs.Common.{◌≡◌, ◌∙◌, ◌+◌, ℕ, Err, List, drop, refl, sym, ap, subst, rules}
+use Rattle.std.proofs.Common.{◌≡◌, ◌∙◌, ◌+◌, ℕ, Option, Err, List, drop, refl, sym, ap, subst, rules}
 use Rattle.std.specs.declared.result.Result.{Result}
 use Rattle.std.proofs.lemmas.List.{drop_all}
 use Rattle.rule_tree.specs.declared.outcome.RuleStop.{RuleStop}
-use Rattle.rule_eval.specs.Evaluated.{Makes}
+use Rattle.std.specs.Borrow.{Bor}
+use Rattle.rule_eval.specs.Evaluated.{Makes, MayLend}
 use Rattle.rule_eval.specs.Seen.{sight_of}
-use Rattle.rule_forms.specs.declared.given.Given.{Given}
+use Rattle.rule_forms.specs.declared.known.Constant.{Constant}
 use Rattle.rule_forms.specs.ByCode.{Outcome, first_by_code, if_holds, made_by_code}
 use Rattle.rule_forms.specs.RuleCodes.{Codes}
 use Rattle.rule_eval.proofs.Making.{left_to, rule_holds, rule_stops}
@@ -16,8 +17,9 @@ returns-in_err-condition c =
     let stop = c.in_err-condition.field-0.0 in
     let is : c.from_residual.result ≡ Err stop = search rules in
     let stops = rule_stops c.args.rules.now c.loop-rule.rule-index c.rule-item.result s stop c.loop-rule-test.true c.rule-item.is c.in_err-condition.ensures.value in
-    let P : Outcome → Type 0 = λ o. Makes o c.from_residual.result c.loop-rule.changed in
-    let Q : Result (Given × ℕ) RuleStop → Type 0 = λ r. Makes (Err stop) r c.loop-rule.changed in
+    let seen = c.args.view.now.variables.now in
+    let P : Outcome → Type 0 = λ o. MayLend (Makes o) c.from_residual.result c.loop-rule.given c.loop-rule.changed seen in
+    let Q : Result (Option (Bor Constant) × ℕ) RuleStop → Type 0 = λ r. MayLend (Makes (Err stop)) r c.loop-rule.given c.loop-rule.changed seen in
     record {
       value = subst P (sym stops ∙ c.loop-rule.invariant.same) (subst Q (sym is) refl);
       capacity = c.condition.ensures.capacity ∙ c.loop-rule.invariant.capacity;
@@ -33,7 +35,7 @@ returns-in-True c =
     let s = sight_of c.args.view.now in
     let holds = ap (λ t. if_holds t (made_by_code rule s) (first_by_code (drop (i + 1) rules) s)) c.in-True.is in
     let now = rule_holds rules i rule s c.in_ok-condition.field-0 (made_by_code rule s) c.loop-rule-test.true c.rule-item.is c.in_ok-condition.ensures.value holds in
-    let P : Outcome → Type 0 = λ o. Makes o c.give.result c.give.new.changed in
+    let P : Outcome → Type 0 = λ o. MayLend (Makes o) c.give.result c.give.new.given c.give.new.changed c.args.view.now.variables.now in
     record {
       value = subst P (sym now ∙ c.loop-rule.invariant.same) c.give.ensures.value;
       capacity = c.give.ensures.capacity ∙ c.condition.ensures.capacity ∙ c.loop-rule.invariant.capacity;
@@ -60,7 +62,7 @@ pub returns : goal.returns
 returns c =
     let s = sight_of c.args.view.now in
     let none = ap (λ (rs : List Codes). first_by_code rs s) (drop_all c.loop-rule.rule-index c.args.rules.now c.loop-rule-test.false) in
-    let P : Outcome → Type 0 = λ o. Makes o (Err RuleStop.NoTrueRule) c.loop-rule.changed in
+    let P : Outcome → Type 0 = λ o. MayLend (Makes o) (Err RuleStop.NoTrueRule) c.loop-rule.given c.loop-rule.changed c.args.view.now.variables.now in
     record {
       value = subst P (sym none ∙ c.loop-rule.invariant.same) refl;
       capacity = c.loop-rule.invariant.capacity;

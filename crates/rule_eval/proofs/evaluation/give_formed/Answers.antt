@@ -1,21 +1,20 @@
 use Rattle.std.proofs.Common.{◌≡◌, ◌∙◌, ℕ, Ok, Err, sym, ap, subst, rules}
 use Rattle.std.specs.declared.result.Result.{Result}
 use Rattle.rule_tree.specs.declared.outcome.RuleStop.{RuleStop}
-use Rattle.rule_eval.specs.Evaluated.{Makes, GivesValues, SetsVariables}
+use Rattle.rule_eval.specs.Evaluated.{Makes, GivesValues, SetsVariables, with_given}
 use Rattle.rule_eval.specs.Seen.{seen, sight_of}
-use Rattle.rule_forms.specs.declared.given.Given.{Given}
 use Rattle.rule_forms.specs.ByCode.{no_values, given_by_code, set_by_code, delay_by_code, made_by_code}
 use Rattle.rule_eval.proofs.Making.{made_well, stopped_by_a_value, stopped_by_the_delay, stopped_by_a_set}
 use Rattle.rule_eval.proofs.evaluation.give_formed.Goals as goal
 
-pub returns-in_err-given-clause-value : goal.returns-in_err-given-clause-value
-returns-in_err-given-clause-value c =
+pub returns-in_err-give_values-clause-value : goal.returns-in_err-give_values-clause-value
+returns-in_err-give_values-clause-value c =
     let rule = c.args.rule.now in
     let s = sight_of c.args.view.now in
-    let stop = c.in_err-given.field-0.0 in
+    let stop = c.in_err-give_values.field-0.0 in
     let is : c.from_residual.result ≡ Err stop = search rules in
-    let given = subst (λ gs. GivesValues (given_by_code gs s no_values) (Err stop)) c.gives.ensures c.in_err-given.ensures.value in
-    let Q : Result (Given × ℕ) RuleStop → Type 0 = λ r. Makes (made_by_code rule s) r c.args.changed.now in
+    let given = subst (λ gs. GivesValues (given_by_code gs s no_values) (Err stop)) c.gives.ensures c.in_err-give_values.ensures.value in
+    let Q : Result ℕ RuleStop → Type 0 = λ r. Makes (made_by_code rule s) (with_given c.give_values.new.given r) c.args.changed.now in
     subst Q (sym is)
     (stopped_by_a_value (given_by_code rule.gives s no_values) (delay_by_code rule.delay s) (set_by_code rule.sets s) stop c.args.changed.now given)
 
@@ -25,10 +24,10 @@ returns-in_err-delay-clause-value c =
     let s = sight_of c.args.view.now in
     let stop = c.in_err-delay.field-0.0 in
     let is : c.from_residual-in_err-delay.result ≡ Err stop = search rules in
-    let given = subst (λ gs. GivesValues (given_by_code gs s no_values) (Ok c.in_ok-given.given)) c.gives.ensures c.in_ok-given.ensures.value in
-    let Q : Result (Given × ℕ) RuleStop → Type 0 = λ r. Makes (made_by_code rule s) r c.args.changed.now in
+    let given = subst (λ gs. GivesValues (given_by_code gs s no_values) (Ok c.give_values.new.given)) c.gives.ensures c.in_ok-give_values.ensures.value in
+    let Q : Result ℕ RuleStop → Type 0 = λ r. Makes (made_by_code rule s) (with_given c.give_values.new.given r) c.args.changed.now in
     subst Q (sym is)
-    (stopped_by_the_delay (given_by_code rule.gives s no_values) (delay_by_code rule.delay s) (set_by_code rule.sets s) c.in_ok-given.given stop c.args.changed.now given (sym c.in_err-delay.ensures.value))
+    (stopped_by_the_delay (given_by_code rule.gives s no_values) (delay_by_code rule.delay s) (set_by_code rule.sets s) c.give_values.new.given stop c.args.changed.now given (sym c.in_err-delay.ensures.value))
 
 pub returns-in_err-set_variables-clause-value : goal.returns-in_err-set_variables-clause-value
 returns-in_err-set_variables-clause-value c =
@@ -38,12 +37,12 @@ returns-in_err-set_variables-clause-value c =
     let changed = c.set_variables.new.changed in
     let stop = c.in_err-set_variables.field-0.0 in
     let is : c.from_residual-in_err-set_variables.result ≡ Err stop = search rules in
-    let given = subst (λ gs. GivesValues (given_by_code gs s no_values) (Ok c.in_ok-given.given)) c.gives.ensures c.in_ok-given.ensures.value in
+    let given = subst (λ gs. GivesValues (given_by_code gs s no_values) (Ok c.give_values.new.given)) c.gives.ensures c.in_ok-give_values.ensures.value in
     let sets = ap (λ xs. set_by_code xs (seen view c.copy.new.changed)) c.sets.ensures ∙ ap (λ vs. set_by_code rule.sets (seen view vs)) c.copy.ensures in
     let set = subst (λ o. SetsVariables {U = Unit {0}} o (Err stop) changed) sets c.in_err-set_variables.ensures.value in
-    let Q : Result (Given × ℕ) RuleStop → Type 0 = λ r. Makes (made_by_code rule s) r changed in
+    let Q : Result ℕ RuleStop → Type 0 = λ r. Makes (made_by_code rule s) (with_given c.give_values.new.given r) changed in
     subst Q (sym is)
-    (stopped_by_a_set (given_by_code rule.gives s no_values) (delay_by_code rule.delay s) (set_by_code rule.sets s) c.in_ok-given.given c.in_ok-delay.delay stop changed given (sym c.in_ok-delay.ensures.value) set)
+    (stopped_by_a_set (given_by_code rule.gives s no_values) (delay_by_code rule.delay s) (set_by_code rule.sets s) c.give_values.new.given c.in_ok-delay.delay stop changed given (sym c.in_ok-delay.ensures.value) set)
 
 pub returns-clause-value : goal.returns-clause-value
 returns-clause-value c =
@@ -51,10 +50,10 @@ returns-clause-value c =
     let view = c.args.view.now in
     let s = sight_of view in
     let changed = c.set_variables.new.changed in
-    let given = subst (λ gs. GivesValues (given_by_code gs s no_values) (Ok c.in_ok-given.given)) c.gives.ensures c.in_ok-given.ensures.value in
+    let given = subst (λ gs. GivesValues (given_by_code gs s no_values) (Ok c.give_values.new.given)) c.gives.ensures c.in_ok-give_values.ensures.value in
     let sets = ap (λ xs. set_by_code xs (seen view c.copy.new.changed)) c.sets.ensures ∙ ap (λ vs. set_by_code rule.sets (seen view vs)) c.copy.ensures in
     let set = subst (λ o. SetsVariables {U = Unit {0}} o (Ok tt) changed) sets c.in_ok-set_variables.ensures.value in
-    made_well (given_by_code rule.gives s no_values) (delay_by_code rule.delay s) (set_by_code rule.sets s) c.in_ok-given.given c.in_ok-delay.delay changed given (sym c.in_ok-delay.ensures.value) set
+    made_well (given_by_code rule.gives s no_values) (delay_by_code rule.delay s) (set_by_code rule.sets s) c.give_values.new.given c.in_ok-delay.delay changed given (sym c.in_ok-delay.ensures.value) set
 
 pub set_variables-requires-clause-counts : goal.set_variables-requires-clause-counts
 set_variables-requires-clause-counts c = c.delay.ensures.counts

@@ -3,9 +3,8 @@ use Rattle.std.specs.declared.result.Result.{Result}
 use Rattle.std.proofs.lemmas.List.{drop_all}
 use Rattle.quantity.specs.declared.value.Value.{Value}
 use Rattle.rule_tree.specs.declared.outcome.RuleStop.{RuleStop}
-use Rattle.rule_eval.specs.Evaluated.{GivesValues}
+use Rattle.rule_eval.specs.Evaluated.{GivesValues, filled}
 use Rattle.rule_eval.specs.Seen.{sight_of}
-use Rattle.rule_forms.specs.declared.given.Given.{Given}
 use Rattle.rule_forms.specs.declared.numbered.NumberedForm.{NumberedForm}
 use Rattle.rule_forms.specs.ByCode.{given_by_code}
 use Rattle.rule_forms.specs.Numbered.{plain}
@@ -37,8 +36,9 @@ returns-in_err-value c =
     let stop = c.in_err-value.field-0.0 in
     let is : c.from_residual.result ≡ Err stop = search rules in
     let stops = give_stops c.args.gives.now c.loop-give.give-index c.give-item.result (sight_of c.args.view.now) c.loop-give.given.values stop c.loop-give-test.true c.give-item.is c.in_err-value.ensures.value in
-    let P : Result (List (Option Value)) RuleStop → Type 0 = λ o. GivesValues o c.from_residual.result in
-    let Q : Result Given RuleStop → Type 0 = λ r. GivesValues (Err stop) r in
+    let given = c.loop-give.given in
+    let P : Result (List (Option Value)) RuleStop → Type 0 = λ o. GivesValues o (filled {U = Unit {0}} given c.from_residual.result) in
+    let Q : Result (Unit {0}) RuleStop → Type 0 = λ r. GivesValues (Err stop) (filled given r) in
     record {
       value = subst P (sym stops ∙ c.loop-give.invariant.same) (subst Q (sym is) refl);
       capacity = c.number.ensures.capacity ∙ c.loop-give.invariant.capacity;

@@ -1,4 +1,5 @@
 use Rattle.std.proofs.Common.{subst}
+use Rattle.std.specs.Option.{is_some}
 use Rattle.quantity.specs.Bytes.{Bytes}
 use Rattle.flat_run.specs.Standing.{tree_in}
 use Rattle.run_files.specs.declared.outputs.Output.TheVariants.{State}
@@ -11,19 +12,25 @@ use Rattle.run_loop.proofs.Saving.{saved_done, nothing_saved}
 use Rattle.run_loop.proofs.saved.write_saved.Goals as goal
 
 pub write_state-requires-clause-goes : goal.write_state-requires-clause-goes
-write_state-requires-clause-goes g c = (subst (λ (x : Ending). LeftIn x c.args.run.now) c.in-Done.is c.requires.left).0
+write_state-requires-clause-goes g c =
+    (subst (λ (x : Ending). LeftIn x (is_some c.args.asked.now.given.save) (g.C.Cycles.marking c.args.run.now) (g.C.Cycles.standing c.args.run.now)) c.in-Done.is c.requires.left).0
 
 pub write_state-requires-clause-fits : goal.write_state-requires-clause-fits
-write_state-requires-clause-fits g c = (subst (λ (x : Ending). LeftIn x c.args.run.now) c.in-Done.is c.requires.left).1
+write_state-requires-clause-fits g c =
+    (subst (λ (x : Ending). LeftIn x (is_some c.args.asked.now.given.save) (g.C.Cycles.marking c.args.run.now) (g.C.Cycles.standing c.args.run.now)) c.in-Done.is c.requires.left).1
+
+pub write_state-requires-clause-unserved : goal.write_state-requires-clause-unserved
+write_state-requires-clause-unserved g c =
+    (subst (λ (x : Ending). LeftIn x (is_some c.args.asked.now.given.save) (g.C.Cycles.marking c.args.run.now) (g.C.Cycles.standing c.args.run.now)) c.in-Done.is c.requires.left).2
 
 pub returns-in-Done-clause-texts : goal.returns-in-Done-clause-texts
 returns-in-Done-clause-texts g c = λ r saves.
-    let s = c.args.run.now in
+    let s = g.C.Cycles.standing c.args.run.now in
     let done = subst (λ (x : Ending). Saves x r s) c.in-Done.is saves in
     subst (λ (text : Bytes). Writes (names_of c.args.asked.now) (one_piece State text) (g.R.Room.outside c.args.room.now) (g.R.Room.outside c.write_state.new.room) c.write_state.result)
     (saved_done c.args.asked.now.end (tree_in s) r s done) c.write_state.ensures.texts
 
 pub returns-in-Stopped-clause-texts : goal.returns-in-Stopped-clause-texts
 returns-in-Stopped-clause-texts g c = λ r saves.
-    let s = c.args.run.now in
+    let s = g.C.Cycles.standing c.args.run.now in
     nothing_saved (names_of c.args.asked.now) c.args.asked.now.end (tree_in s) r s c.in-Stopped.field-0 (g.R.Room.outside c.args.room.now) (subst (λ (x : Ending). Saves x r s) c.in-Stopped.is saves)

@@ -14,18 +14,18 @@ use Rattle.run_loop.proofs.saved.write_state.Goals as goal
 
 pub returns-then-is_none-clause-texts : goal.returns-then-is_none-clause-texts
 returns-then-is_none-clause-texts g c =
-    let s = c.args.run.now in
+    let s = g.C.Cycles.standing c.args.run.now in
     none_added (names_of c.args.asked.now) State (text_of_state (tree_in s) c.args.asked.now.end s.state.leaf_states) (g.R.Room.outside c.args.room.now) (no_name c.args.asked.now.given.save c.if-is_none.ensures)
 
 pub returns-clause-texts : goal.returns-clause-texts
 returns-clause-texts g c =
-    let s = c.args.run.now in
+    let s = g.C.Cycles.standing c.args.run.now in
     let text = text_of_state (tree_in s) c.args.asked.now.end s.state.leaf_states in
-    c.write_piece.ensures.texts text (on_ok_weaker c.save_state-filled.result (λ ok. c.deref.ensures.value ∙ ok ∙ ap (λ xs. xs ++ text) c.clear.ensures.items) c.save_state-filled.ensures.ok)
+    c.write_piece.ensures.texts text (on_ok_weaker c.save-filled.result (λ ok. c.deref.ensures.value ∙ ok ∙ ap (λ xs. xs ++ text) c.clear.ensures.items) c.save-filled.ensures.text)
 
 pub returns-clause-visits : goal.returns-clause-visits
 returns-clause-visits g c =
-    let s = c.args.run.now in
-    let within : c.save_state-filled.new.steps ≤ c.args.steps.now + leaf_count (tree_in s) =
-    omega (arith, c.save_state-filled.ensures.steps, as_many s.model (settings_at s.settings) s.state.leaf_states c.requires.fits) in
-    visits_named c.args.asked.now.given.save (tree_in s) c.args.steps.now c.save_state-filled.new.steps c.if-is_none.ensures within
+    let s = g.C.Cycles.standing c.args.run.now in
+    let within : c.save-filled.new.steps ≤ c.args.steps.now + leaf_count (tree_in s) =
+    omega (arith, c.save-filled.ensures.visits, as_many s.model (settings_at s.settings) s.state.leaf_states c.requires.fits) in
+    visits_named c.args.asked.now.given.save (tree_in s) c.args.steps.now c.save-filled.new.steps c.if-is_none.ensures within

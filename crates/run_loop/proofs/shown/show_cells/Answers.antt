@@ -9,7 +9,7 @@ use Rattle.run_loop.proofs.Emitted.{preset_none, preset_next, preset_all, no_mor
 use Rattle.run_loop.proofs.shown.show_cells.Goals as goal
 
 pub loop-cell-init : goal.loop-cell-init
-loop-cell-init g c = record { shown = preset_none c.args.run.now.state.leaf_states c.args.drawn.now c.requires.unbegun; steps = omega arith }
+loop-cell-init g c = record { shown = preset_none (g.C.Cycles.standing c.args.run.now).state.leaf_states c.args.drawn.now c.requires.unbegun; steps = omega arith }
 
 pub overflow_add-leaf : goal.overflow_add-leaf
 overflow_add-leaf g c =
@@ -18,7 +18,7 @@ overflow_add-leaf g c =
 
 pub emitted-requires-clause-cell : goal.emitted-requires-clause-cell
 emitted-requires-clause-cell g c =
-    let states = c.args.run.now.state.leaf_states in
+    let states = (g.C.Cycles.standing c.args.run.now).state.leaf_states in
     let inside : c.loop-cell.cell < cell_count c.args.drawn.now.drawing.picture.space = omega (arith, c.loop-cell-test.true, c.cells-cell-end.ensures) in
     subst (λ (k : ℕ). IsTrue (is_cell (leaf_of states (k + c.loop-cell.cell)))) (sym (c.first.ensures ∙ c.loop-cell.invariant.shown.place)) (c.requires.cells c.loop-cell.cell inside).1
 
@@ -29,7 +29,7 @@ emitted-requires-clause-within g c =
 
 pub returns-in_err-value-clause-visits : goal.returns-in_err-value-clause-visits
 returns-in_err-value-clause-visits g c =
-    let states = c.args.run.now.state.leaf_states in
+    let states = (g.C.Cycles.standing c.args.run.now).state.leaf_states in
     let count = cell_count c.args.drawn.now.drawing.picture.space in
     let few : count ≤ length states = no_more_cells c.args.drawn.now.first count (length states) (λ cell lt. (c.requires.cells cell lt).0) in
     omega (arith, few, c.loop-cell-test.true, c.cells-cell-end.ensures, c.loop-cell.invariant.steps, c.emitted.ensures.visits)
@@ -44,7 +44,7 @@ preset-requires-clause-inside g c =
 
 pub loop-cell-preserved : goal.loop-cell-preserved
 loop-cell-preserved g c =
-    let states = c.args.run.now.state.leaf_states in
+    let states = (g.C.Cycles.standing c.args.run.now).state.leaf_states in
     let inside : c.loop-cell.cell < cell_count c.args.drawn.now.drawing.picture.space = omega (arith, c.loop-cell-test.true, c.cells-cell-end.ensures) in
     let first = ap (λ (k : ℕ). k + c.loop-cell.cell) c.first.ensures in
     record {
@@ -57,11 +57,11 @@ pub returns-clause-shown : goal.returns-clause-shown
 returns-clause-shown g c =
     let count = cell_count c.args.drawn.now.drawing.picture.space in
     let all : c.loop-cell.cell ≡ count = omega (arith, c.loop-cell-test.false, c.loop-cell.auto.cell-end, c.cells-cell-end.ensures) in
-    preset_all c.args.run.now.state.leaf_states c.args.drawn.now c.loop-cell.drawn c.loop-cell.cell c.loop-cell.invariant.shown all
+    preset_all (g.C.Cycles.standing c.args.run.now).state.leaf_states c.args.drawn.now c.loop-cell.drawn c.loop-cell.cell c.loop-cell.invariant.shown all
 
 pub returns-clause-visits : goal.returns-clause-visits
 returns-clause-visits g c =
-    let states = c.args.run.now.state.leaf_states in
+    let states = (g.C.Cycles.standing c.args.run.now).state.leaf_states in
     let count = cell_count c.args.drawn.now.drawing.picture.space in
     let few : count ≤ length states = no_more_cells c.args.drawn.now.first count (length states) (λ cell lt. (c.requires.cells cell lt).0) in
     omega (arith, few, c.loop-cell.auto.cell-end, c.cells-cell-end.ensures, c.loop-cell.invariant.steps)

@@ -1,4 +1,5 @@
-use Rattle.std.proofs.Common.{ℕ, ◌+◌, ◌≤◌, true, [], refl, subst, ◌∙◌, arith}
+use Rattle.std.proofs.Common.{ℕ, ◌+◌, ◌≤◌, [], refl, subst, ◌∙◌, arith}
+use Rattle.std.proofs.lemmas.Bool.{OnTrue_at, OnTrue_from}
 use Rattle.model_tree.specs.declared.table.Model.{Model}
 use Rattle.model_tree.specs.Models.{tree_of}
 use Rattle.run_model.specs.Visits.{visits}
@@ -27,6 +28,7 @@ use Rattle.run_loop.specs.Leaves.{spent, some_made}
 use Rattle.run_loop.proofs.Answered.{most, fit_to, answer_as}
 use Rattle.run_loop.proofs.Apart.{names_apart}
 use Rattle.run_loop.proofs.Sounds.{have_values, few_leaves}
+use Rattle.run_loop.proofs.Marks.{none_read, none_saved, marked_said}
 use Rattle.run_loop.proofs.Stands.{all_pieces, begun_whole}
 use Rattle.run_loop.proofs.Ended.{TellsAny, created_ends, created_known, created_rose, created_made, created_answers}
 use Rattle.run_loop.proofs.Leaving.{tells_made, all_written, some_written, created_leaves, unmade_leaves, leaves_as}
@@ -35,11 +37,14 @@ use Rattle.run_loop.proofs.stage.run_and_tell.Goals as goal
 -- ---- what a run begins with
 
 pub begin-requires-clause-few : goal.begin-requires-clause-few
-begin-requires-clause-few g c = few_leaves (tree_in c.args.run.now) c.requires.sound
+begin-requires-clause-few g c = few_leaves (tree_in (g.C.Cycles.standing c.args.run.now)) c.requires.may_run.sound
+
+pub begin-requires-clause-unserved : goal.begin-requires-clause-unserved
+begin-requires-clause-unserved g c = none_read c.args.asked.now (g.C.Cycles.marking c.args.run.now) c.requires.ordered
 
 pub returns-in_default-clause-ends : goal.returns-in_default-clause-ends
 returns-in_default-clause-ends g c = λ events from inputs begins.
-    let x = answer_to (asked_of c.args.asked.now) events from c.args.run.now inputs in
+    let x = answer_to (asked_of c.args.asked.now) events from (g.C.Cycles.standing c.args.run.now) inputs in
     endings_follow.memory x (looked_for inputs) (g.R.Room.outside c.args.room.now) (none_begun x (looked_for inputs) refl refl)
 
 pub returns-in_default-clause-known : goal.returns-in_default-clause-known
@@ -51,10 +56,10 @@ returns-in_default-clause-faults g c =
     clean_answers now now NoMemory (record { writes = refl; complaints = refl; reads = refl; quiet = refl })
 
 pub returns-in_default-clause-leaves : goal.returns-in_default-clause-leaves
-returns-in_default-clause-leaves g c = λ events from begins. some_made Log refl c.begin.ensures.visits
+returns-in_default-clause-leaves g c = λ events from begins. some_made Log refl (OnTrue_from g.C.Cycles.is_counted _ (λ on. c.begin.ensures.visits))
 
 pub returns-in_default-clause-visits : goal.returns-in_default-clause-visits
-returns-in_default-clause-visits g c = omega (arith, c.begin.ensures.visits)
+returns-in_default-clause-visits g c = OnTrue_from g.C.Cycles.is_counted _ (λ on. omega (arith, c.begin.ensures.visits))
 
 -- ---- files that are not made
 
@@ -63,14 +68,14 @@ tell_unwritten-requires g c = making_blames (names_of c.args.asked.now) c.in-Err
 
 pub returns-in-Err-clause-ends : goal.returns-in-Err-clause-ends
 returns-in-Err-clause-ends g c = λ events from inputs begins.
-    let s = c.args.run.now in
+    let s = g.C.Cycles.standing c.args.run.now in
     let a = c.args.asked.now in
     let old = g.R.Room.outside c.args.room.now in
     let mid = g.R.Room.outside c.create_files.new.room in
     let new = g.R.Room.outside c.tell_unwritten.new.room in
     let x = answer_to (asked_of a) events from s inputs in
-    let is = answer_as a c.args.drawn s events from inputs (most a) (showing_at_start (tree_in s) from (asked_of a).frames) c.requires c.runs_are_fit.ensures begins refl refl in
-    unmade_ends x (names_of a) _ c.in-Err.unmade inputs old mid new c.tell_unwritten.result is.made (names_apart a c.requires.names) c.in-Err.ensures c.tell_unwritten.ensures
+    let is = answer_as a c.args.drawn s events from inputs (most a) (showing_at_start (tree_in s) from (asked_of a).frames) c.requires.may_run c.runs_are_fit.ensures begins refl refl in
+    unmade_ends x (names_of a) _ c.in-Err.unmade inputs old mid new c.tell_unwritten.result is.made (names_apart a c.requires.may_run.names) c.in-Err.ensures c.tell_unwritten.ensures
 
 pub returns-in-Err-clause-known : goal.returns-in-Err-clause-known
 returns-in-Err-clause-known g c =
@@ -88,22 +93,22 @@ returns-in-Err-clause-faults g c =
 
 pub returns-in-Err-clause-leaves : goal.returns-in-Err-clause-leaves
 returns-in-Err-clause-leaves g c = λ events from begins.
-    let s = c.args.run.now in
+    let s = g.C.Cycles.standing c.args.run.now in
     let a = c.args.asked.now in
     let n = names_of a in
     let old = g.R.Room.outside c.args.room.now in
     let mid = g.R.Room.outside c.create_files.new.room in
     let new = g.R.Room.outside c.tell_unwritten.new.room in
     let same = tells_made n c.in-Err.unmade mid new c.tell_unwritten.result (making_blames n c.in-Err.unmade _ _ c.in-Err.ensures) c.tell_unwritten.ensures in
-    unmade_leaves (only_complains NoMemory [] []) (asking a s) (run_of (most a) s) (showing_at_start (tree_in s) from (asked_of a).frames) c.in-Err.unmade old mid new c.args.steps.now c.begin.new.steps c.begin.ensures.visits c.in-Err.ensures same
+    unmade_leaves (only_complains NoMemory [] []) (asking a s) (run_of (most a) s) (showing_at_start (tree_in s) from (asked_of a).frames) c.in-Err.unmade old mid new g.C.Cycles.is_counted c.args.steps.now c.begin.new.steps c.begin.ensures.visits c.in-Err.ensures same
 
 pub returns-in-Err-clause-visits : goal.returns-in-Err-clause-visits
-returns-in-Err-clause-visits g c = omega (arith, c.begin.ensures.visits)
+returns-in-Err-clause-visits g c = OnTrue_from g.C.Cycles.is_counted _ (λ on. omega (arith, c.begin.ensures.visits))
 
 -- ---- the run
 
 pub run_all-requires-clause-apart : goal.run_all-requires-clause-apart
-run_all-requires-clause-apart g c = names_apart c.args.asked.now c.requires.names
+run_all-requires-clause-apart g c = names_apart c.args.asked.now c.requires.may_run.names
 
 pub run_all-requires-clause-created : goal.run_all-requires-clause-created
 run_all-requires-clause-created g c = all_created (names_of c.args.asked.now) (g.R.Room.outside c.args.room.now) (g.R.Room.outside c.create_files.new.room) c.in-Ok-create_files.ensures
@@ -112,16 +117,19 @@ pub run_all-requires-clause-few : goal.run_all-requires-clause-few
 run_all-requires-clause-few g c = omega (arith, c.in-Ok.ensures.counted.cycles, c.most_cycles-most.ensures.bounded)
 
 pub run_all-requires-clause-values : goal.run_all-requires-clause-values
-run_all-requires-clause-values g c = have_values (tree_in c.args.run.now) c.requires.sound
+run_all-requires-clause-values g c = have_values (tree_in (g.C.Cycles.standing c.args.run.now)) c.requires.may_run.sound
 
 pub run_all-requires-clause-fit : goal.run_all-requires-clause-fit
-run_all-requires-clause-fit g c = fit_to c.args.asked.now c.args.drawn c.args.run.now c.most_cycles-most.result c.requires c.runs_are_fit.ensures c.most_cycles-most.ensures.value
+run_all-requires-clause-fit g c = fit_to c.args.asked.now c.args.drawn (g.C.Cycles.standing c.args.run.now) c.most_cycles-most.result c.requires.may_run c.runs_are_fit.ensures c.most_cycles-most.ensures.value
+
+pub run_all-requires-clause-unserved : goal.run_all-requires-clause-unserved
+run_all-requires-clause-unserved g c = none_saved c.args.asked.now (g.C.Cycles.marking c.args.run.now) c.requires.ordered
 
 -- ---- a run that ended
 
 pub returns-in-Ok-run_all-clause-ends : goal.returns-in-Ok-run_all-clause-ends
 returns-in-Ok-run_all-clause-ends g c = λ events from inputs begins.
-    let s = c.args.run.now in
+    let s = g.C.Cycles.standing c.args.run.now in
     let a = c.args.asked.now in
     let n = names_of a in
     let old = g.R.Room.outside c.args.room.now in
@@ -132,26 +140,28 @@ returns-in-Ok-run_all-clause-ends g c = λ events from inputs begins.
     let k = c.most_cycles-most.result in
     let r = run_of k s in
     let x = answer_to (asked_of a) events from s inputs in
-    let tells = subst (λ (m : Model). TellsAny (asked_of a) (tree_of m (settings_at s.settings)) c.run_all.new.going c.in-Ok-run_all.ending mid new c.tell_ending.result) (c.model.ensures ∙ c.in-Ok-run_all.ensures.keeps.model) (c.tell_ending.ensures (settings_at s.settings)) in
-    let is = answer_as a c.args.drawn s events from inputs k was.drawn c.requires c.runs_are_fit.ensures begins c.most_cycles-most.ensures.value (c.in-Ok.ensures.drawn events from begins) in
+    let tells = subst (λ (m : Model). TellsAny c.mark.result (asked_of a) (tree_of m (settings_at s.settings)) c.run_all.new.going c.in-Ok-run_all.ending mid new c.tell_ending.result) (c.model.ensures ∙ c.in-Ok-run_all.ensures.keeps.model) (c.tell_ending.ensures (settings_at s.settings)) in
+    let is = answer_as a c.args.drawn s events from inputs k was.drawn c.requires.may_run c.runs_are_fit.ensures begins c.most_cycles-most.ensures.value (c.in-Ok.ensures.drawn events from begins) in
+    let same = marked_said a c.args.drawn s events from k r.cycles r.verdict c.in-Ok-run_all.ending (g.C.Cycles.marking c.args.run.now) (g.C.Cycles.marking c.run_all.new.run) c.mark.result c.requires.may_run c.requires.ordered begins c.most_cycles-most.ensures.value
+    c.in-Ok-run_all.ensures.runs.0.verdict c.in-Ok-run_all.ensures.marked c.mark.ensures in
     then_ends x (looked_for inputs) (made_after inputs (files n no_texts)) old made new c.tell_ending.result (c.in-Ok-create_files.ensures.leads x inputs)
-    (created_ends n (all_pieces a s r was.drawn) (asked_of a) (tree_in s) r made mid new was c.run_all.new.going c.in-Ok-run_all.ending c.tell_ending.result c.in-Ok.ensures.counted c.in-Ok-run_all.ensures.runs.0 c.in-Ok-run_all.ensures.runs.1 tells x events inputs is)
+    (created_ends n (all_pieces a s r was.drawn) c.mark.result (asked_of a) (tree_in s) r made mid new was c.run_all.new.going c.in-Ok-run_all.ending c.tell_ending.result c.in-Ok.ensures.counted c.in-Ok-run_all.ensures.runs.0 c.in-Ok-run_all.ensures.runs.1 tells x events inputs same is)
 
 pub returns-in-Ok-run_all-clause-known : goal.returns-in-Ok-run_all-clause-known
 returns-in-Ok-run_all-clause-known g c =
-    let s = c.args.run.now in
+    let s = g.C.Cycles.standing c.args.run.now in
     let a = c.args.asked.now in
     let made = g.R.Room.outside c.create_files.new.room in
     let mid = g.R.Room.outside c.run_all.new.room in
     let new = g.R.Room.outside c.tell_ending.new.room in
     let was = c.in-Ok.going in
     let r = run_of c.most_cycles-most.result s in
-    let tells = subst (λ (m : Model). TellsAny (asked_of a) (tree_of m (settings_at s.settings)) c.run_all.new.going c.in-Ok-run_all.ending mid new c.tell_ending.result) (c.model.ensures ∙ c.in-Ok-run_all.ensures.keeps.model) (c.tell_ending.ensures (settings_at s.settings)) in
-    created_known (names_of a) (all_pieces a s r was.drawn) (asked_of a) (tree_in s) r made mid new was c.run_all.new.going c.in-Ok-run_all.ending c.tell_ending.result c.in-Ok.ensures.counted c.in-Ok-run_all.ensures.runs.0 c.in-Ok-run_all.ensures.runs.1 tells
+    let tells = subst (λ (m : Model). TellsAny c.mark.result (asked_of a) (tree_of m (settings_at s.settings)) c.run_all.new.going c.in-Ok-run_all.ending mid new c.tell_ending.result) (c.model.ensures ∙ c.in-Ok-run_all.ensures.keeps.model) (c.tell_ending.ensures (settings_at s.settings)) in
+    created_known (names_of a) (all_pieces a s r was.drawn) c.mark.result (asked_of a) (tree_in s) r made mid new was c.run_all.new.going c.in-Ok-run_all.ending c.tell_ending.result c.in-Ok.ensures.counted c.in-Ok-run_all.ensures.runs.0 c.in-Ok-run_all.ensures.runs.1 tells
 
 pub returns-in-Ok-run_all-clause-write_fault : goal.returns-in-Ok-run_all-clause-write_fault
 returns-in-Ok-run_all-clause-write_fault g c = λ five.
-    let s = c.args.run.now in
+    let s = g.C.Cycles.standing c.args.run.now in
     let a = c.args.asked.now in
     let old = g.R.Room.outside c.args.room.now in
     let made = g.R.Room.outside c.create_files.new.room in
@@ -159,13 +169,13 @@ returns-in-Ok-run_all-clause-write_fault g c = λ five.
     let new = g.R.Room.outside c.tell_ending.new.room in
     let was = c.in-Ok.going in
     let r = run_of c.most_cycles-most.result s in
-    let tells = subst (λ (m : Model). TellsAny (asked_of a) (tree_of m (settings_at s.settings)) c.run_all.new.going c.in-Ok-run_all.ending mid new c.tell_ending.result) (c.model.ensures ∙ c.in-Ok-run_all.ensures.keeps.model) (c.tell_ending.ensures (settings_at s.settings)) in
+    let tells = subst (λ (m : Model). TellsAny c.mark.result (asked_of a) (tree_of m (settings_at s.settings)) c.run_all.new.going c.in-Ok-run_all.ending mid new c.tell_ending.result) (c.model.ensures ∙ c.in-Ok-run_all.ensures.keeps.model) (c.tell_ending.ensures (settings_at s.settings)) in
     rose_later old.write_faults made.write_faults new.write_faults (no_fewer old made c.in-Ok-create_files.ensures.sure)
-    (created_rose (names_of a) (all_pieces a s r was.drawn) (asked_of a) (tree_in s) r made mid new was c.run_all.new.going c.in-Ok-run_all.ending c.tell_ending.result c.in-Ok.ensures.counted c.in-Ok-run_all.ensures.runs.0 c.in-Ok-run_all.ensures.runs.1 tells five)
+    (created_rose (names_of a) (all_pieces a s r was.drawn) c.mark.result (asked_of a) (tree_in s) r made mid new was c.run_all.new.going c.in-Ok-run_all.ending c.tell_ending.result c.in-Ok.ensures.counted c.in-Ok-run_all.ensures.runs.0 c.in-Ok-run_all.ensures.runs.1 tells five)
 
 pub returns-in-Ok-run_all-clause-faults : goal.returns-in-Ok-run_all-clause-faults
 returns-in-Ok-run_all-clause-faults g c =
-    let s = c.args.run.now in
+    let s = g.C.Cycles.standing c.args.run.now in
     let a = c.args.asked.now in
     let old = g.R.Room.outside c.args.room.now in
     let made = g.R.Room.outside c.create_files.new.room in
@@ -173,13 +183,13 @@ returns-in-Ok-run_all-clause-faults g c =
     let new = g.R.Room.outside c.tell_ending.new.room in
     let was = c.in-Ok.going in
     let r = run_of c.most_cycles-most.result s in
-    let tells = subst (λ (m : Model). TellsAny (asked_of a) (tree_of m (settings_at s.settings)) c.run_all.new.going c.in-Ok-run_all.ending mid new c.tell_ending.result) (c.model.ensures ∙ c.in-Ok-run_all.ensures.keeps.model) (c.tell_ending.ensures (settings_at s.settings)) in
+    let tells = subst (λ (m : Model). TellsAny c.mark.result (asked_of a) (tree_of m (settings_at s.settings)) c.run_all.new.going c.in-Ok-run_all.ending mid new c.tell_ending.result) (c.model.ensures ∙ c.in-Ok-run_all.ensures.keeps.model) (c.tell_ending.ensures (settings_at s.settings)) in
     then_answers old made new c.tell_ending.result (clean_makes (names_of a) old made c.in-Ok-create_files.ensures)
-    (created_answers (names_of a) (all_pieces a s r was.drawn) (asked_of a) (tree_in s) r made mid new was c.run_all.new.going c.in-Ok-run_all.ending c.tell_ending.result c.in-Ok.ensures.counted c.in-Ok-run_all.ensures.runs.0 c.in-Ok-run_all.ensures.runs.1 tells)
+    (created_answers (names_of a) (all_pieces a s r was.drawn) c.mark.result (asked_of a) (tree_in s) r made mid new was c.run_all.new.going c.in-Ok-run_all.ending c.tell_ending.result c.in-Ok.ensures.counted c.in-Ok-run_all.ensures.runs.0 c.in-Ok-run_all.ensures.runs.1 tells)
 
 pub returns-in-Ok-run_all-clause-leaves : goal.returns-in-Ok-run_all-clause-leaves
 returns-in-Ok-run_all-clause-leaves g c = λ events from begins.
-    let s = c.args.run.now in
+    let s = g.C.Cycles.standing c.args.run.now in
     let a = c.args.asked.now in
     let old = g.R.Room.outside c.args.room.now in
     let made = g.R.Room.outside c.create_files.new.room in
@@ -188,18 +198,19 @@ returns-in-Ok-run_all-clause-leaves g c = λ events from begins.
     let was = c.in-Ok.going in
     let k = c.most_cycles-most.result in
     let r = run_of k s in
-    let tells = subst (λ (m : Model). TellsAny (asked_of a) (tree_of m (settings_at s.settings)) c.run_all.new.going c.in-Ok-run_all.ending mid new c.tell_ending.result) (c.model.ensures ∙ c.in-Ok-run_all.ensures.keeps.model) (c.tell_ending.ensures (settings_at s.settings)) in
-    let same = created_made (asked_of a) (tree_in s) r mid new was c.run_all.new.going c.in-Ok-run_all.ending c.tell_ending.result c.in-Ok.ensures.counted c.in-Ok-run_all.ensures.runs.0 tells in
-    let written = all_written (asking a s) r was c.run_all.new.going made mid new (spent true c.begin.new.steps c.run_all.new.steps) c.in-Ok-run_all.ending c.in-Ok-run_all.ensures.runs same in
-    leaves_as (asking a s) s k (most a) was.drawn (showing_at_start (tree_in s) from (asked_of a).frames) old new (spent true c.args.steps.now c.run_all.new.steps) c.most_cycles-most.ensures.value (c.in-Ok.ensures.drawn events from begins)
-    (created_leaves (only_complains NoMemory [] []) (asking a s) r was.drawn old made new c.args.steps.now c.begin.new.steps c.run_all.new.steps c.begin.ensures.visits c.in-Ok-create_files.ensures written)
+    let tells = subst (λ (m : Model). TellsAny c.mark.result (asked_of a) (tree_of m (settings_at s.settings)) c.run_all.new.going c.in-Ok-run_all.ending mid new c.tell_ending.result) (c.model.ensures ∙ c.in-Ok-run_all.ensures.keeps.model) (c.tell_ending.ensures (settings_at s.settings)) in
+    let same = created_made c.mark.result (asked_of a) (tree_in s) r mid new was c.run_all.new.going c.in-Ok-run_all.ending c.tell_ending.result c.in-Ok.ensures.counted c.in-Ok-run_all.ensures.runs.0 tells in
+    let written = all_written (asking a s) r was c.run_all.new.going made mid new (spent g.C.Cycles.is_counted c.begin.new.steps c.run_all.new.steps) c.in-Ok-run_all.ending c.in-Ok-run_all.ensures.runs same in
+    leaves_as (asking a s) s k (most a) was.drawn (showing_at_start (tree_in s) from (asked_of a).frames) old new (spent g.C.Cycles.is_counted c.args.steps.now c.run_all.new.steps) c.most_cycles-most.ensures.value (c.in-Ok.ensures.drawn events from begins)
+    (created_leaves (only_complains NoMemory [] []) (asking a s) r was.drawn old made new g.C.Cycles.is_counted c.args.steps.now c.begin.new.steps c.run_all.new.steps c.begin.ensures.visits c.in-Ok-create_files.ensures written)
 
 pub returns-in-Ok-run_all-clause-visits : goal.returns-in-Ok-run_all-clause-visits
 returns-in-Ok-run_all-clause-visits g c =
-    let s = c.args.run.now in
+    let s = g.C.Cycles.standing c.args.run.now in
     let a = c.args.asked.now in
-    let ran = subst (λ (k : ℕ). c.run_all.new.steps ≤ c.begin.new.steps + visits (tree_in s) (run_of k s) + state_visits (names_of a).state (tree_in s)) c.most_cycles-most.ensures.value c.run_all.ensures.visits in
-    omega (arith, c.begin.ensures.visits, ran)
+    OnTrue_from g.C.Cycles.is_counted _ (λ on.
+    let ran = subst (λ (k : ℕ). c.run_all.new.steps ≤ c.begin.new.steps + visits (tree_in s) (run_of k s) + state_visits (names_of a).state (tree_in s)) c.most_cycles-most.ensures.value (OnTrue_at on c.run_all.ensures.visits) in
+    omega (arith, c.begin.ensures.visits, ran))
 
 -- ---- a run that broke off
 
@@ -208,7 +219,7 @@ tell_unwritten-requires-in-Err-run_all g c = falls_blames (names_of c.args.asked
 
 pub returns-clause-ends : goal.returns-clause-ends
 returns-clause-ends g c = λ events from inputs begins.
-    let s = c.args.run.now in
+    let s = g.C.Cycles.standing c.args.run.now in
     let a = c.args.asked.now in
     let n = names_of a in
     let old = g.R.Room.outside c.args.room.now in
@@ -220,10 +231,10 @@ returns-clause-ends g c = λ events from inputs begins.
     let k = c.most_cycles-most.result in
     let r = run_of k s in
     let x = answer_to (asked_of a) events from s inputs in
-    let is = answer_as a c.args.drawn s events from inputs k was.drawn c.requires c.runs_are_fit.ensures begins c.most_cycles-most.ensures.value (c.in-Ok.ensures.drawn events from begins) in
-    let falls = begun_whole a s c.in-Err-run_all.why r was.drawn made mid (spent true c.begin.new.steps c.run_all.new.steps) c.in-Err-run_all.ensures.runs in
+    let is = answer_as a c.args.drawn s events from inputs k was.drawn c.requires.may_run c.runs_are_fit.ensures begins c.most_cycles-most.ensures.value (c.in-Ok.ensures.drawn events from begins) in
+    let falls = begun_whole a s c.in-Err-run_all.why r was.drawn made mid (spent g.C.Cycles.is_counted c.begin.new.steps c.run_all.new.steps) c.in-Err-run_all.ensures.runs in
     then_ends x (looked_for inputs) (made_after inputs (files n no_texts)) old made new status (c.in-Ok-create_files.ensures.leads x inputs)
-    (fell_ends x n (all_pieces a s r was.drawn) c.in-Err-run_all.why inputs made mid new status is.made (names_apart a c.requires.names) falls c.tell_unwritten-in-Err-run_all.ensures)
+    (fell_ends x n (all_pieces a s r was.drawn) c.in-Err-run_all.why inputs made mid new status is.made (names_apart a c.requires.may_run.names) falls c.tell_unwritten-in-Err-run_all.ensures)
 
 pub returns-clause-known : goal.returns-clause-known
 returns-clause-known g c =
@@ -253,7 +264,7 @@ returns-clause-faults g c =
 
 pub returns-clause-leaves : goal.returns-clause-leaves
 returns-clause-leaves g c = λ events from begins.
-    let s = c.args.run.now in
+    let s = g.C.Cycles.standing c.args.run.now in
     let a = c.args.asked.now in
     let n = names_of a in
     let old = g.R.Room.outside c.args.room.now in
@@ -264,13 +275,14 @@ returns-clause-leaves g c = λ events from begins.
     let k = c.most_cycles-most.result in
     let r = run_of k s in
     let same = tells_made n c.in-Err-run_all.why mid new c.tell_unwritten-in-Err-run_all.result (falls_blames n c.in-Err-run_all.why _ _ _ c.in-Err-run_all.ensures.runs.falls) c.tell_unwritten-in-Err-run_all.ensures in
-    let written = some_written (asking a s) c.in-Err-run_all.why r was.drawn made mid new (spent true c.begin.new.steps c.run_all.new.steps) c.in-Err-run_all.ensures.runs same in
-    leaves_as (asking a s) s k (most a) was.drawn (showing_at_start (tree_in s) from (asked_of a).frames) old new (spent true c.args.steps.now c.run_all.new.steps) c.most_cycles-most.ensures.value (c.in-Ok.ensures.drawn events from begins)
-    (created_leaves (only_complains NoMemory [] []) (asking a s) r was.drawn old made new c.args.steps.now c.begin.new.steps c.run_all.new.steps c.begin.ensures.visits c.in-Ok-create_files.ensures written)
+    let written = some_written (asking a s) c.in-Err-run_all.why r was.drawn made mid new (spent g.C.Cycles.is_counted c.begin.new.steps c.run_all.new.steps) c.in-Err-run_all.ensures.runs same in
+    leaves_as (asking a s) s k (most a) was.drawn (showing_at_start (tree_in s) from (asked_of a).frames) old new (spent g.C.Cycles.is_counted c.args.steps.now c.run_all.new.steps) c.most_cycles-most.ensures.value (c.in-Ok.ensures.drawn events from begins)
+    (created_leaves (only_complains NoMemory [] []) (asking a s) r was.drawn old made new g.C.Cycles.is_counted c.args.steps.now c.begin.new.steps c.run_all.new.steps c.begin.ensures.visits c.in-Ok-create_files.ensures written)
 
 pub returns-clause-visits : goal.returns-clause-visits
 returns-clause-visits g c =
-    let s = c.args.run.now in
+    let s = g.C.Cycles.standing c.args.run.now in
     let a = c.args.asked.now in
-    let ran = subst (λ (k : ℕ). c.run_all.new.steps ≤ c.begin.new.steps + visits (tree_in s) (run_of k s) + state_visits (names_of a).state (tree_in s)) c.most_cycles-most.ensures.value c.run_all.ensures.visits in
-    omega (arith, c.begin.ensures.visits, ran)
+    OnTrue_from g.C.Cycles.is_counted _ (λ on.
+    let ran = subst (λ (k : ℕ). c.run_all.new.steps ≤ c.begin.new.steps + visits (tree_in s) (run_of k s) + state_visits (names_of a).state (tree_in s)) c.most_cycles-most.ensures.value (OnTrue_at on c.run_all.ensures.visits) in
+    omega (arith, c.begin.ensures.visits, ran))

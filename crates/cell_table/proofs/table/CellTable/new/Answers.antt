@@ -2,11 +2,8 @@ use Rattle.std.proofs.Common.{◌+◌, ◌∙◌, map, length, refl, ap, arith}
 use Rattle.std.proofs.lemmas.List.{length-map, length-replicate}
 use Rattle.quantity.specs.declared.value.Value.TheVariants.{Undefined}
 use Rattle.cell_table.specs.Table.{waits_at_0}
-use Rattle.cell_table.proofs.Starting.{starts_seen, few_ports, ports_long, flat_long}
+use Rattle.cell_table.proofs.Starting.{starts_seen, ports_long, flat_long}
 use Rattle.cell_table.proofs.table.CellTable.new.Goals as goal
-
-pub waiting-requires : goal.waiting-requires
-waiting-requires c = omega (arith, ap length (c.deref.ensures.value ∙ c.in_ok-computed.ensures), few_ports c.args.outs.now c.args.further.now c.requires.cells c.requires.ports)
 
 pub invariant_of-result : goal.invariant_of-result
 invariant_of-result c =

@@ -1,0 +1,13 @@
+use Rattle.std.proofs.Common.{rules, ◌≡◌, ◌++◌, [], ◌∷◌, ap, ◌∙◌, append-nil}
+use Rattle.piece_list.specs.Joined.{joined}
+use Rattle.piece_list.proofs.Joining.{joined-behind}
+use Rattle.piece_list.proofs.pieces.make_room.Goals as goal
+
+pub returns-clause-same : goal.returns-clause-same
+returns-clause-same g c =
+    let ps = c.args.pieces.now.items in
+    let pushed : c.push.new.self.items ≡ ps ++ c.in_ok-piece.piece ∷ [] = search rules in
+    ap joined pushed
+    ∙ joined-behind ps c.in_ok-piece.piece
+    ∙ ap (λ xs. joined ps ++ xs) c.in_ok-piece.ensures.items
+    ∙ append-nil (joined ps)

@@ -1,0 +1,151 @@
+-- Loops over lists: what stands behind the place of a loop is still to be done.
+use Rattle.std.proofs.Common.{◌≡◌, ℕ, ◌+◌, ◌<◌, ◌≤◌, Bool, true, false, cond, ◌||◌, Option, Some, None, List, [], ◌∷◌, ◌++◌, map, drop, length, get_or, refl, sym, ◌∙◌, ap, arith, append_assoc, append-nil, eq-eqb, ne_eqb}
+use Rattle.std.specs.Prelude.{◌==◌}
+use Rattle.std.specs.List.{filter, flat_map, enumerate_from, list_any}
+use Rattle.std.proofs.lemmas.List.{drop_more, drop_all, map-append}
+use Rattle.std.proofs.lemmas.List.Elements.{filter-append}
+use Rattle.quantity.specs.declared.value.Value.{Value}
+use Rattle.atomic_face.specs.declared.class.PortNo.{PortNo}
+use Rattle.atomic_face.specs.Classes.{Bag}
+use Rattle.run_model.specs.CellStep.{least}
+use Rattle.run_model.specs.Cycle.{at_port}
+use Rattle.served_tree.specs.Service.{Stopped, Kept, at_number, answer_of, least_of, first_of}
+use Rattle.served_tree.specs.Parts.{joined, or_else}
+
+-- ---- any list that is made item by item
+
+pub rest-at : {X : Type 0} (xs : List X) (i : ℕ) (d x : X) → i < length xs → x ≡ get_or xs i d
+    → drop i xs ≡ x ∷ drop (i + 1) xs
+rest-at xs i d x within is = drop_more xs i d within ∙ ap (λ y. y ∷ drop (i + 1) xs) (sym is)
+
+-- one item was made, and put behind the others
+pub further : {X Y : Type 0} (F G : List X → List Y) (xs : List X) (i : ℕ) (d x : X) → i < length xs
+    → x ≡ get_or xs i d → (gives : List Y)
+    → F (x ∷ drop (i + 1) xs) ≡ gives ++ G (drop (i + 1) xs)
+    → (old new whole : List Y) → new ≡ old ++ gives → old ++ F (drop i xs) ≡ whole
+    → new ++ G (drop (i + 1) xs) ≡ whole
+further F G xs i d x within is gives step old new whole more so =
+    ap (λ ys. ys ++ G (drop (i + 1) xs)) more
+    ∙ append_assoc old gives (G (drop (i + 1) xs))
+    ∙ ap (λ ys. old ++ ys) (sym step ∙ ap F (sym (rest-at xs i d x within is)))
+    ∙ so
+
+-- all items were made
+pub all-made : {X Y : Type 0} (F : List X → List Y) (xs : List X) (i : ℕ) → length xs ≤ i → F [] ≡ []
+    → (now whole : List Y) → now ++ F (drop i xs) ≡ whole → now ≡ whole
+all-made F xs i all none now whole so =
+    sym (append-nil now) ∙ ap (λ ys. now ++ ys) (sym (ap F (drop_all i xs all) ∙ none)) ∙ so
+
+-- the items that a test keeps
+pub kept-first : {X : Type 0} (p : X → Bool) (x : X) (xs : List X) → p x ≡ true
+    → filter p (x ∷ xs) ≡ x ∷ filter p xs
+kept-first p x xs e = ap (λ b. cond b (x ∷ filter p xs) (filter p xs)) e
+
+pub left-first : {X : Type 0} (p : X → Bool) (x : X) (xs : List X) → p x ≡ false
+    → filter p (x ∷ xs) ≡ filter p xs
+left-first p x xs e = ap (λ b. cond b (x ∷ filter p xs) (filter p xs)) e
+
+-- ---- values at a port, and at a number
+
+pub port-first : (p : ℕ) (a b : List Value) → at_port (p, a ++ b) ≡ at_port (p, a) ++ at_port (p, b)
+port-first p a b = map-append (λ (v : Value). (let o : PortNo = record { 0 = p } in o, v)) a b
+
+pub number-there : (p n : ℕ) (x : PortNo × Value) → x.0.0 ≡ n
+    → at_port (p, at_number (x ∷ []) n) ≡ (record { 0 = p }, x.1) ∷ []
+number-there p n x e =
+    ap (λ b. at_port (p, map (λ (o : PortNo × Value). o.1) b)) (kept-first (λ (o : PortNo × Value). o.0.0 == n) x [] (eq-eqb x.0.0 n e))
+
+pub number-past : (p n : ℕ) (x : PortNo × Value) → (x.0.0 ≡ n → ⊥)
+    → at_port (p, at_number (x ∷ []) n) ≡ []
+number-past p n x ne =
+    ap (λ b. at_port (p, map (λ (o : PortNo × Value). o.1) b)) (left-first (λ (o : PortNo × Value). o.0.0 == n) x [] (ne_eqb x.0.0 n ne))
+
+-- the first before the others
+pub number-first : (p n : ℕ) (x : PortNo × Value) (rest : Bag)
+    → at_port (p, at_number (x ∷ rest) n)
+    ≡ at_port (p, at_number (x ∷ []) n) ++ at_port (p, at_number rest n)
+number-first p n x rest =
+    ap (λ b. at_port (p, map (λ (o : PortNo × Value). o.1) b)) (filter-append (λ (o : PortNo × Value). o.0.0 == n) (x ∷ []) rest)
+    ∙ ap (λ vs. at_port (p, vs)) (map-append (λ (o : PortNo × Value). o.1) (filter (λ (o : PortNo × Value). o.0.0 == n) (x ∷ [])) (filter (λ (o : PortNo × Value). o.0.0 == n) rest))
+    ∙ port-first p (at_number (x ∷ []) n) (at_number rest n)
+
+-- the first port before the others
+pub rows-first : (i : ℕ) (vs : List Value) (rest : List (List Value))
+    → flat_map at_port (enumerate_from i (vs ∷ rest))
+    ≡ at_port (i, vs) ++ flat_map at_port (enumerate_from (i + 1) rest)
+rows-first i vs rest = refl
+
+-- the first of numbered items before the others
+pub numbered-first : {X Y : Type 0} (f : ℕ × X → Y) (i : ℕ) (x : X) (rest : List X)
+    → map f (enumerate_from i (x ∷ rest)) ≡ f (i, x) ∷ map f (enumerate_from (i + 1) rest)
+numbered-first f i x rest = refl
+
+-- ---- the first that a test finds
+
+pub any-here : {X : Type 0} (p : X → Bool) (xs : List X) (i : ℕ) (d x : X) → i < length xs
+    → x ≡ get_or xs i d → p x ≡ true → list_any p (drop i xs) ≡ true
+any-here p xs i d x within is holds =
+    ap (list_any p) (rest-at xs i d x within is) ∙ ap (λ b. b || list_any p (drop (i + 1) xs)) holds
+
+pub any-further : {X : Type 0} (p : X → Bool) (xs : List X) (i : ℕ) (d x : X) → i < length xs
+    → x ≡ get_or xs i d → p x ≡ false → list_any p (drop i xs) ≡ list_any p (drop (i + 1) xs)
+any-further p xs i d x within is fails =
+    ap (list_any p) (rest-at xs i d x within is) ∙ ap (λ b. b || list_any p (drop (i + 1) xs)) fails
+
+-- ---- answers joined from the first on
+
+least-assoc : (a b c : Option ℕ) → least (least a b) c ≡ least a (least b c)
+least-assoc None b c = refl
+least-assoc (Some a) None c = refl
+least-assoc (Some a) (Some b) None = refl
+least-assoc (Some a) (Some b) (Some c) = grind arith
+
+else-assoc : (a b c : Stopped) → or_else (or_else a b) c ≡ or_else a (or_else b c)
+else-assoc None b c = refl
+else-assoc (Some a) b c = refl
+
+pub least-further : (acc new x rest whole : Option ℕ) → new ≡ least acc x → least acc (least x rest) ≡ whole
+    → least new rest ≡ whole
+least-further acc new x rest whole is so =
+    ap (λ t. least t rest) is ∙ least-assoc acc x rest ∙ so
+
+-- the answer of these children
+abbrev pub answer_of_these : List Kept → List ℕ → Option ℕ × Stopped
+answer_of_these kept children = (least_of kept children, first_of kept children)
+
+first-of-more : (kept : List Kept) (n : ℕ) (ns : List ℕ)
+    → first_of kept (n ∷ ns) ≡ or_else (answer_of kept n).1 (first_of kept ns)
+first-of-more kept n ns = by (answer_of kept n).1
+  where
+    by : (s : Stopped) → elim s [ None ↦ first_of kept ns | Some s ↦ Some s ] ≡ or_else s (first_of kept ns)
+    by None = refl
+    by (Some s) = refl
+
+pub answers-further : (kept : List Kept) (children : List ℕ) (i : ℕ) (d n : ℕ) (acc new whole : Option ℕ × Stopped)
+    → i < length children → n ≡ get_or children i d → new ≡ joined acc (answer_of kept n)
+    → joined acc (answer_of_these kept (drop i children)) ≡ whole
+    → joined new (answer_of_these kept (drop (i + 1) children)) ≡ whole
+answers-further kept children i d n acc new whole within is more so =
+    let rest = drop (i + 1) children in
+    let a = answer_of kept n in
+    ap (λ x. joined x (answer_of_these kept rest)) more
+    ∙ (λ k. (least-assoc acc.0 a.0 (least_of kept rest) k, else-assoc acc.1 a.1 (first_of kept rest) k))
+    ∙ (λ k. joined acc (least a.0 (least_of kept rest), sym (first-of-more kept n rest) k))
+    ∙ ap (λ ns. joined acc (answer_of_these kept ns)) (sym (rest-at children i d n within is))
+    ∙ so
+
+pub answers-all : (kept : List Kept) (children : List ℕ) (i : ℕ) (acc whole : Option ℕ × Stopped)
+    → length children ≤ i → joined acc (answer_of_these kept (drop i children)) ≡ whole → acc ≡ whole
+answers-all kept children i acc whole all so =
+    sym (none acc) ∙ ap (λ ns. joined acc (answer_of_these kept ns)) (sym (drop_all i children all)) ∙ so
+  where
+    least-none : (a : Option ℕ) → least a None ≡ a
+    least-none None = refl
+    least-none (Some a) = refl
+
+    else-none : (a : Stopped) → or_else a None ≡ a
+    else-none None = refl
+    else-none (Some a) = refl
+
+    none : (x : Option ℕ × Stopped) → joined x (None, None) ≡ x
+    none x k = (least-none x.0 k, else-none x.1 k)

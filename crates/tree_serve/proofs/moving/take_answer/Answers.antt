@@ -1,0 +1,44 @@
+use Rattle.std.proofs.Common.{[], refl, sym, ◌∙◌, ap}
+use Rattle.std.proofs.lemmas.Result.{on_ok_weaker}
+use Rattle.tree_serve.specs.Notes.{notes_of, answer_in, answer_noted, one_less}
+use Rattle.tree_serve.specs.Puts.{component_answers}
+use Rattle.tree_serve.proofs.Becoming.{at-root, at-its-parent}
+use Rattle.tree_serve.proofs.Putting.{put-none, put-same}
+use Rattle.tree_serve.proofs.moving.take_answer.Goals as goal
+
+pub returns-in-None-clause-puts : goal.returns-in-None-clause-puts
+returns-in-None-clause-puts c =
+    let W = c.args.mail.now.waiting in
+    let notes = answer_noted c.args.from (answer_in c.args.answer) (notes_of c.args.mail.now.kept.items) in
+    put-same W W [] _ (sym (at-root c.args.entries.now c.args.from c.parent_in-parent.result c.parent_in-parent.ensures [] (λ n e. component_answers n e.children.items notes) c.in-None.ensures.lookup.3)) (put-none W W refl)
+
+pub returns-in-None-clause-notes : goal.returns-in-None-clause-notes
+returns-in-None-clause-notes c =
+    let notes = answer_noted c.args.from (answer_in c.args.answer) (notes_of c.args.mail.now.kept.items) in
+    c.has_answered.ensures
+    ∙ sym (at-root c.args.entries.now c.args.from c.parent_in-parent.result c.parent_in-parent.ensures notes (λ n e. one_less n notes) c.in-None.ensures.lookup.3)
+
+pub returns-in-Some-clause-puts : goal.returns-in-Some-clause-puts
+returns-in-Some-clause-puts c =
+    let W = c.args.mail.now.waiting in
+    let p = c.parent_in-parent.result in
+    let e = c.in-Some.entry.now in
+    let there = c.in-Some.ensures.lookup in
+    let notes = answer_noted c.args.from (answer_in c.args.answer) (notes_of c.args.mail.now.kept.items) in
+    on_ok_weaker c.count_answered.result
+    (λ h. put-same W c.count_answered.new.mail.waiting _ _
+    (ap (λ ns. component_answers p ns (notes_of c.has_answered.new.kept.items)) c.deref.ensures.value
+    ∙ ap (component_answers p e.children.items) c.has_answered.ensures
+    ∙ sym (at-its-parent c.args.entries.now c.args.from p c.parent_in-parent.ensures [] (λ n x. component_answers n x.children.items notes) e there.3.0 there.1)) h)
+    c.count_answered.ensures.puts
+
+pub returns-in-Some-clause-notes : goal.returns-in-Some-clause-notes
+returns-in-Some-clause-notes c =
+    let p = c.parent_in-parent.result in
+    let e = c.in-Some.entry.now in
+    let there = c.in-Some.ensures.lookup in
+    let notes = answer_noted c.args.from (answer_in c.args.answer) (notes_of c.args.mail.now.kept.items) in
+    on_ok_weaker c.count_answered.result
+    (λ h. h ∙ ap (one_less p) c.has_answered.ensures
+    ∙ sym (at-its-parent c.args.entries.now c.args.from p c.parent_in-parent.ensures notes (λ n x. one_less n notes) e there.3.0 there.1))
+    c.count_answered.ensures.notes

@@ -1,0 +1,39 @@
+use Rattle.std.proofs.Common.{◌+◌, ◌∙◌, Ok, Err, ap, sym}
+use Rattle.tree_serve.specs.Notes.{notes_of}
+use Rattle.tree_serve.specs.Recorded.{EndsBy, stop_in}
+use Rattle.tree_serve.proofs.FinishSteps.{cycle-finishes, cycle-holds, stop-finishes}
+use Rattle.tree_serve.proofs.run.TreeRun.finish.Goals as goal
+
+pub invariant_of-self : goal.invariant_of-self
+invariant_of-self g c =
+    let i = c.self.inside in
+    let ends : EndsBy {U = Unit {0}} c.in-Some-instant.t i.tables.entries.items (notes_of i.mail.kept.items) (stop_in (notes_of i.mail.kept.items)) (Ok c.in-Ok.field-0) c.end_of-ended.new.records =
+    rw (c.deref.ensures.value, c.in-Ok.is) at c.end_of-ended.ensures in
+    cycle-holds i.leaves i.tables i.events i.end i.limit i.last i.count i.stopped i.due.items i.instant i.inputs.items i.mail
+    c.self.invariant c.args.self.now c.self.view_is c.in_default.is c.in-Some-instant.t c.in-Some-instant.is
+    c.any_order_serves.ensures.each c.requires.nothing_waits (Unit {0}) c.in-Ok.field-0 c.end_of-ended.new.records ends
+    (c.cycles_had.result + 1) (ap (λ n. n + 1) c.cycles_had.ensures) c.clear-2.new.self
+    c.clear-2.ensures.waiting c.clear-2.ensures.kept c.records_name_what_there_is.ensures.cycles
+
+pub returns-in-Ok : goal.returns-in-Ok
+returns-in-Ok g c =
+    let i = c.self.inside in
+    let ends : EndsBy {U = Unit {0}} c.in-Some-instant.t i.tables.entries.items (notes_of i.mail.kept.items) (stop_in (notes_of i.mail.kept.items)) (Ok c.in-Ok.field-0) c.end_of-ended.new.records =
+    rw (c.deref.ensures.value, c.in-Ok.is) at c.end_of-ended.ensures in
+    cycle-finishes i.leaves i.tables i.events i.end i.limit i.last i.count i.stopped i.due.items i.instant i.inputs.items i.mail
+    c.self.invariant c.args.self.now c.self.view_is c.in_default.is c.in-Some-instant.t c.in-Some-instant.is
+    c.any_order_serves.ensures.each c.requires.nothing_waits (Unit {0}) c.in-Ok.field-0 c.end_of-ended.new.records ends
+    (c.cycles_had.result + 1) (ap (λ n. n + 1) c.cycles_had.ensures) c.clear-2.new.self
+    c.clear-2.ensures.waiting c.clear-2.ensures.kept
+
+pub returns-in-Err : goal.returns-in-Err
+returns-in-Err g c =
+    let i = c.self.inside in
+    let ends : EndsBy {U = Unit {0}} c.in-Some-instant.t i.tables.entries.items (notes_of i.mail.kept.items) (stop_in (notes_of i.mail.kept.items)) (Err c.in-Err.halt) c.end_of-ended.new.records =
+    rw (c.deref.ensures.value, c.in-Err.is) at c.end_of-ended.ensures in
+    rw (c.stop_of-in-Err.ensures ∙ sym c.stop_of.ensures)
+    (stop-finishes i.leaves i.tables i.events i.end i.limit i.last i.count i.stopped i.due.items i.instant i.inputs.items i.mail
+    c.self.invariant c.args.self.now c.self.view_is c.in_default.is c.in-Some-instant.t c.in-Some-instant.is
+    c.any_order_serves.ensures.each (Unit {0}) c.in-Err.halt c.end_of-ended.new.records ends
+    c.stop_of.result c.stop_of.ensures c.clear-2.new.self
+    c.clear-2.ensures.waiting c.clear-2.ensures.kept c.clear-in-Err.new.self c.clear-in-Err.ensures)

@@ -1,0 +1,66 @@
+use Rattle.std.proofs.Common.{◌≡◌, ◌∙◌, ◌<◌, ◌≤◌, map, ap, arith}
+use Rattle.run_model.specs.CellStep.{least}
+use Rattle.tree_serve.specs.Notes.{fresh_note}
+use Rattle.tree_serve.specs.Starting.{least_among}
+use Rattle.tree_serve.proofs.StartSteps.{none-due, past-end, limit-reached, cycle-starts, cycle-holds}
+use Rattle.tree_serve.proofs.run.TreeRun.start.Goals as goal
+
+pub returns-in_default-earlier : goal.returns-in_default-earlier
+returns-in_default-earlier g c =
+    let i = c.self.inside in
+    let is : c.earlier.result ≡ least (least_among i.due.items) c.next.result = cc in
+    none-due i.leaves i.tables i.events i.end i.limit i.last i.count i.stopped i.due.items i.instant i.inputs.items i.mail
+    c.self.invariant c.args.self.now c.self.view_is c.requires.between c.in_default.is
+    c.next.result c.earlier.result c.next.ensures.value c.next.ensures.least is c.in_default-earlier.is
+
+pub returns-then-ms : goal.returns-then-ms
+returns-then-ms g c =
+    let i = c.self.inside in
+    let t = c.in-Some-earlier.t in
+    let past : i.end < t = omega arith in
+    let is : c.earlier.result ≡ least (least_among i.due.items) c.next.result = cc in
+    past-end i.leaves i.tables i.events i.end i.limit i.last i.count i.stopped i.due.items i.instant i.inputs.items i.mail
+    c.self.invariant c.args.self.now c.self.view_is c.requires.between c.in_default.is
+    c.next.result c.earlier.result c.next.ensures.value c.next.ensures.least is t c.in-Some-earlier.is past
+
+pub returns-then-self-cycles_had : goal.returns-then-self-cycles_had
+returns-then-self-cycles_had g c =
+    let i = c.self.inside in
+    let t = c.in-Some-earlier.t in
+    let within : t ≤ i.end = omega arith in
+    let full : i.limit ≤ c.cycles_had.result = omega arith in
+    let is : c.earlier.result ≡ least (least_among i.due.items) c.next.result = cc in
+    limit-reached i.leaves i.tables i.events i.end i.limit i.last i.count i.stopped i.due.items i.instant i.inputs.items i.mail
+    c.self.invariant c.args.self.now c.self.view_is c.requires.between c.in_default.is
+    c.next.result c.earlier.result c.next.ensures.value c.next.ensures.least is t c.in-Some-earlier.is within
+    c.cycles_had.result c.cycles_had.ensures full
+
+pub invariant_of-self-in-Ok : goal.invariant_of-self-in-Ok
+invariant_of-self-in-Ok g c =
+    let i = c.self.inside in
+    let t = c.in-Some-earlier.t in
+    let within : t ≤ i.end = omega arith in
+    let few : c.cycles_had.result < i.limit = omega arith in
+    let is : c.earlier.result ≡ least (least_among i.due.items) c.next.result = cc in
+    cycle-holds i.leaves i.tables i.events i.end i.limit i.last i.count i.stopped i.due.items i.instant i.inputs.items i.mail
+    c.self.invariant c.args.self.now c.self.view_is c.requires.between c.in_default.is
+    c.next.result c.earlier.result c.next.ensures.value c.next.ensures.least is t c.in-Some-earlier.is within
+    c.cycles_had.result c.cycles_had.ensures
+    c.any_order_serves.ensures.sound c.events_stand_by_number.ensures.inputs c.events_stand_by_number.ensures.distinct few
+    c.begin.new.events c.begin.new.inputs.items c.begin.new.mail
+    c.in-Ok.ensures.inputs c.in-Ok.ensures.events c.in-Ok.ensures.waiting (c.in-Ok.ensures.kept ∙ ap (map fresh_note) c.deref-2.ensures.value)
+
+pub returns-in-Ok : goal.returns-in-Ok
+returns-in-Ok g c =
+    let i = c.self.inside in
+    let t = c.in-Some-earlier.t in
+    let within : t ≤ i.end = omega arith in
+    let few : c.cycles_had.result < i.limit = omega arith in
+    let is : c.earlier.result ≡ least (least_among i.due.items) c.next.result = cc in
+    cycle-starts i.leaves i.tables i.events i.end i.limit i.last i.count i.stopped i.due.items i.instant i.inputs.items i.mail
+    c.self.invariant c.args.self.now c.self.view_is c.requires.between c.in_default.is
+    c.next.result c.earlier.result c.next.ensures.value c.next.ensures.least is t c.in-Some-earlier.is within
+    c.cycles_had.result c.cycles_had.ensures
+    c.any_order_serves.ensures.sound c.events_stand_by_number.ensures.inputs c.events_stand_by_number.ensures.distinct few
+    c.begin.new.events c.begin.new.inputs.items c.begin.new.mail
+    c.in-Ok.ensures.inputs c.in-Ok.ensures.events c.in-Ok.ensures.waiting (c.in-Ok.ensures.kept ∙ ap (map fresh_note) c.deref-2.ensures.value)

@@ -1,0 +1,13 @@
+pub mod Processing
+pub mod InCycle
+pub mod Calls
+pub mod Ordered
+pub mod OrderedRun
+pub mod Notes
+pub mod Mail
+pub mod Puts
+pub mod Ready
+pub mod Tabled
+pub mod Recorded
+pub mod Starting
+pub mod Holds

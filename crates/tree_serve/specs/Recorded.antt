@@ -1,0 +1,85 @@
+-- Private: the records of a cycle, by the tables and what is kept.
+use Rattle.std.specs.Prelude.{◌≡◌, ℕ, Bool, true, false, Option, Some, None, List, [], ◌∷◌, ◌++◌, map, if◌then◌else◌, unwrap_or}
+use Rattle.std.specs.List.{filter}
+use Rattle.std.specs.declared.result.Result.{Result}
+use Rattle.std.specs.declared.result.Result.TheVariants.{Ok, Err}
+use Rattle.run_model.specs.Run.{PortRecord, StateRecord, Cycle, port_records, is_of_out}
+use Rattle.record_text.specs.declared.records.Records.{Records}
+use Rattle.record_text.specs.Held.{Holds, y_at, x_at, s_at}
+use Rattle.cycle_steps.specs.declared.halt.Halt.{Halt}
+use Rattle.cycle_steps.specs.declared.halt.Halt.TheVariants.{Stopped as stopped_leaf, Memory}
+use Rattle.tree_tables.specs.declared.entry.Entry.{Entry}
+use Rattle.served_tree.specs.Service.{Stopped, gave_of, answer_of, out_record}
+use Rattle.tree_serve.specs.declared.kept.Became.{Became}
+use Rattle.tree_serve.specs.declared.kept.Became.TheVariants as leaf
+use Rattle.tree_serve.specs.Notes.{Note, all_heard}
+
+-- what one leaf gave and took, as records
+abbrev pub given_records : ℕ → Note → List PortRecord
+given_records l k = port_records (l, unwrap_or k.gave [])
+
+abbrev pub taken_records : ℕ → Note → List PortRecord
+taken_records l k = port_records (l, k.took)
+
+-- the next time of an answer, if there is one
+abbrev pub next_answered : Option (Option ℕ × Stopped) → Option ℕ
+next_answered None = None
+next_answered (Some a) = a.0
+
+-- that it moved, if it did
+abbrev pub move_record : ℕ → Became → Option ℕ → List StateRecord
+move_record l leaf.Stayed next = []
+move_record l (leaf.Moved value) next = record { leaf = l; value = value; next = next } ∷ []
+move_record l (leaf.Stopped why) next = []
+
+abbrev pub move_records : ℕ → Note → List StateRecord
+move_records l k = move_record l k.became (next_answered k.answered)
+
+-- over a processor that is a leaf
+abbrev pub of_leaf_at : {A : Type 0} → (ℕ → Note → List A) → Option ℕ → Note → List A
+of_leaf_at of None k = []
+of_leaf_at of (Some l) k = of l k
+
+-- over all leaves
+abbrev pub by_leaf : {A : Type 0} → (ℕ → Note → List A) → List Entry → List Note → List A
+by_leaf of (e ∷ es) (k ∷ ks) = of_leaf_at of e.leaf k ++ by_leaf of es ks
+by_leaf of es ks = []
+
+-- a record of a further port
+abbrev pub is_further : PortRecord → Bool
+is_further r = if is_of_out r then false else true
+
+-- the records of the cycle at an instant
+abbrev pub cycle_by : ℕ → List Entry → List Note → Cycle
+cycle_by t entries notes =
+    record {
+      time = t;
+      y = filter is_of_out (by_leaf given_records entries notes);
+      n = filter is_further (by_leaf given_records entries notes);
+      x = by_leaf taken_records entries notes;
+      s = by_leaf move_records entries notes;
+      out = map out_record (gave_of (all_heard notes) 0);
+    }
+
+-- records of leaves are added behind the others
+pub record Adds (t : ℕ) (given taken : List PortRecord) (moved : List StateRecord)
+    (old new : Records) : Type 0 where
+  pub y : new.y.items ≡ old.y.items ++ map (y_at t) (filter is_of_out given)
+  pub n : new.n.items ≡ old.n.items ++ map (y_at t) (filter is_further given)
+  pub x : new.x.items ≡ old.x.items ++ map (x_at t) taken
+  pub s : new.s.items ≡ old.s.items ++ map (s_at t) moved
+  pub out : new.out.items ≡ old.out.items
+
+-- ---- the end of a cycle
+
+-- by the first leaf that stopped, if there is one: the records, or its stop
+abbrev pub EndsBy : {U : Type 0} → ℕ → List Entry → List Note → Stopped → Result U Halt → Records
+    → Type 0
+EndsBy t entries notes None (Ok u) records = Holds records (cycle_by t entries notes)
+EndsBy t entries notes None (Err why) records = why ≡ Memory
+EndsBy t entries notes (Some s) (Ok u) records = ⊥
+EndsBy t entries notes (Some s) (Err why) records = why ≡ stopped_leaf s.0 s.1
+
+-- the stop of a cycle, by what top answered
+abbrev pub stop_in : List Note → Stopped
+stop_in notes = (answer_of (all_heard notes) 0).1

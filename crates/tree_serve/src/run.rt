@@ -1,0 +1,246 @@
+// A run, cycle by cycle, each served message by message.
+ghost use Rattle.std.specs.Prelude.{◌≡◌, ℕ, ◌≤◌, None, [], length, IfOk, IsTrue};
+ghost use Rattle.quantity.specs.declared.bounds.TheConstants.{MAX_DELAY};
+ghost use Rattle.model_tree.specs.Tree.{ins_of};
+ghost use Rattle.model_tree.specs.Sound.{is_sound_model};
+ghost use Rattle.started_boxes.specs.Boxes.{BoxesStand};
+ghost use Rattle.run_model.specs.Run.{start};
+ghost use Rattle.sparse_cycle.specs.Feed.{AreAtInputs};
+ghost use Rattle.run_leaves.specs.Seated.{settings_in, tree_at};
+ghost use Rattle.flat_run.specs.Steps.{Keeps};
+ghost use Rattle.served_tree.specs.Processors.{size};
+ghost use Rattle.tree_serve.specs.Processing.{tree_on};
+ghost use Rattle.tree_serve.specs.Calls.{IsBetween, Starts, ServesBy, Finishes};
+
+use crate::mail::Mail;
+use crate::message::{Served, Started};
+use crate::moving::earlier;
+use crate::records::{end_of, stop_of};
+use crate::serving::{serve_message, served_by};
+use crate::start::{begin, cycles_had, least_time, start_times};
+use crate::tables::Tables;
+use atomic_face::{AtomicModel, PortNo, Stock};
+use cell_engine::Steps;
+use event_list::Events;
+use flat_run::Stop;
+use model_tree::Model as Tree;
+use quantity::{OutOfMemory, Time, Value};
+use record_text::Records;
+use run_leaves::FlatLeaves;
+use std::alloc::Global;
+use std::marker::Model;
+use std::sync::ledger::Ledger;
+
+/// A run of a model whose cycles are served. It is seen as the state of its leaves as they lie now,
+/// the instant of the cycle that is served, what its events put at the inputs of top, when each
+/// leaf is due, the messages that wait and what is kept of processors.
+#[derive(Drop)]
+pub struct TreeRun<M: AtomicModel> {
+    leaves: FlatLeaves<M>,
+    tables: Tables,
+    events: Events,
+    end: Time,
+    limit: u32,
+    last: Option<Time>,
+    count: u32,
+    stopped: Option<Stop>,
+    due: Vec<Option<Time>>,
+    instant: Option<Time>,
+    inputs: Vec<(PortNo, Value)>,
+    mail: Mail,
+}
+
+impl<M: AtomicModel> Model for TreeRun<M> {
+    ghost use Rattle.model_tree.specs.contracts.component.Component as component;
+    ghost use Rattle.std.specs.Coded.{codes};
+    ghost use Rattle.tree_serve.specs.Processing.{Processing};
+    ghost use Rattle.tree_serve.specs.Holds.{seen_as, HoldsServed};
+
+    ghost Value = { Processing };
+
+    ghost coded = { Prim.hlevel (codes, component.the_row.coded) };
+
+    ghost view = { λ r. seen_as r.leaves r.tables r.events r.end r.limit r.last r.count r.stopped
+        r.due.items r.instant r.inputs.items r.mail };
+
+    ghost invariant = { λ r. HoldsServed (seen_as r.leaves r.tables r.events r.end r.limit r.last
+        r.count r.stopped r.due.items r.instant r.inputs.items r.mail) r.tables r.mail };
+}
+
+impl<M: AtomicModel> TreeRun<M> {
+    /// A run of a model before its first cycle, up to `end` and with at most `limit` cycles at one
+    /// instant.
+    pub fn new(
+        alloc: Global,
+        model: Tree,
+        stock: Stock<M>,
+        events: Events,
+        end: Time,
+        limit: u32,
+    ) -> Result<TreeRun<M>, OutOfMemory>
+        requires sound { IsTrue (is_sound_model (tree_at model (settings_in stock))) }
+        requires boxes { BoxesStand stock model }
+        requires at_inputs { AreAtInputs (ins_of (tree_at model (settings_in stock))) events }
+        requires end { end ≤ MAX_DELAY }
+        requires limit { 1 ≤ limit }
+        ensures model { IfOk result (λ r. r.standing.model ≡ model) }
+        ensures settings { IfOk result (λ r. r.standing.settings ≡ settings_in stock) }
+        ensures state { IfOk result (λ r. r.standing.state ≡ start (tree_on r) events) }
+        ensures end { IfOk result (λ r. r.standing.end ≡ end) }
+        ensures limit { IfOk result (λ r. r.standing.limit ≡ limit) }
+        ensures goes { IfOk result (λ r. r.standing.stopped ≡ None) }
+        ensures between { IfOk result IsBetween }
+    {
+        run_model::laws::records_name_what_there_is();
+        let tables = Tables::new(alloc, &model)?;
+        let mail = Mail::new(alloc, tables.entries.len())?;
+        let leaves = FlatLeaves::new(alloc, model, stock)?;
+        let due = start_times(alloc, &leaves)?;
+        Ok(TreeRun {
+            leaves,
+            tables,
+            events,
+            end,
+            limit,
+            last: None,
+            count: 0,
+            stopped: None,
+            due,
+            instant: None,
+            inputs: Vec::new(alloc),
+            mail,
+        })
+    }
+
+    /// How many processors there are.
+    pub fn processors(&self) -> u32
+        ensures { result ≡ size (tree_on self.now) }
+    {
+        self.tables.count
+    }
+
+    /// How many messages wait.
+    pub fn waiting(&self) -> usize
+        ensures { result ≡ length self.now.service.waiting }
+    {
+        self.mail.waiting.len()
+    }
+
+    /// The model.
+    pub fn model(&self) -> &Tree
+        ensures { result.now ≡ self.now.standing.model }
+    {
+        self.leaves.model()
+    }
+
+    /// Starts the cycle that is due: the question to top waits. Or says how the run ended; after a
+    /// stop the same stop is answered for ever.
+    pub fn start(&mut self) -> Result<Started, Stop>
+        requires between { IsBetween self.old }
+        ensures { Starts self.old.standing.stopped self.old result self.new }
+    {
+        served_tree::laws::any_order_serves();
+        sparse_cycle::laws::events_stand_by_number();
+        if let Some(stop) = self.stopped {
+            return Err(stop);
+        }
+        let Some(t) = earlier(least_time(&self.due), self.events.next()) else {
+            return Ok(Started::Done);
+        };
+        if self.end.ms() < t.ms() {
+            return Ok(Started::Done);
+        }
+        if self.limit <= cycles_had(self.last, self.count, t) {
+            self.stopped = Some(Stop::TooManyCycles(t));
+            return Err(Stop::TooManyCycles(t));
+        }
+        match begin(
+            t,
+            &self.tables.entries,
+            &mut self.events,
+            &mut self.inputs,
+            &mut self.mail,
+        ) {
+            Ok(()) => {
+                self.instant = Some(t);
+                Ok(Started::Cycle(t))
+            }
+            Err(OutOfMemory) => {
+                self.mail.clear();
+                self.stopped = Some(Stop::Memory);
+                Err(Stop::Memory)
+            }
+        }
+    }
+
+    /// Serves the message at place `number` modulo the number of those that wait. Without memory the
+    /// run stops.
+    pub fn serve<L: Ledger>(
+        &mut self,
+        number: u32,
+        steps: &mut Steps<L>,
+    ) -> Result<Served, OutOfMemory>
+        requires waits { 1 ≤ length self.old.service.waiting }
+        ensures serves { ServesBy self.old number result self.new }
+        ensures keeps { Keeps self.old.standing self.new.standing }
+    {
+        served_tree::laws::rows_bring_what_links_bring();
+        sparse_cycle::laws::leaves_move_in_any_order();
+        let Some(t) = self.instant else {
+            unreachable!()
+        };
+        let place = number as usize % self.mail.waiting.len();
+        let message = self.mail.waiting.take(place);
+        let served = served_by(&self.tables.entries, &message);
+        match serve_message(
+            &self.tables,
+            t,
+            &self.inputs,
+            message,
+            &mut self.due,
+            &mut self.leaves,
+            &mut self.mail,
+            steps,
+        ) {
+            Ok(()) => Ok(served),
+            Err(OutOfMemory) => {
+                self.mail.clear();
+                self.instant = None;
+                self.stopped = Some(Stop::Memory);
+                Err(OutOfMemory)
+            }
+        }
+    }
+
+    /// Ends the cycle that was served: its records, or its stop, after which there are none.
+    pub fn finish(&mut self, records: &mut Records) -> Result<Time, Stop>
+        requires nothing_waits { self.old.service.waiting ≡ [] }
+        requires begun { (self.old.instant ≡ None → self.old.standing.stopped ≡ None → ⊥) }
+        ensures { Finishes self.old.standing.stopped self.old result self.new records.new }
+    {
+        served_tree::laws::any_order_serves();
+        run_model::laws::records_name_what_there_is();
+        records.clear();
+        if let Some(stop) = self.stopped {
+            return Err(stop);
+        }
+        let Some(t) = self.instant else {
+            unreachable!()
+        };
+        let ended = end_of(t, &self.tables.entries, &self.mail, records);
+        self.mail.clear();
+        self.instant = None;
+        match ended {
+            Ok(()) => {
+                self.count = cycles_had(self.last, self.count, t) + 1;
+                self.last = Some(t);
+                Ok(t)
+            }
+            Err(halt) => {
+                records.clear();
+                self.stopped = Some(stop_of(&halt, t));
+                Err(stop_of(&halt, t))
+            }
+        }
+    }
+}
