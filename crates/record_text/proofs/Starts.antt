@@ -119,6 +119,7 @@ cell_named m leaf c there is = record {
     within : (gs : List Group) (l : Leaf) → IsCell gs (Some c) l → c.group < length gs
     within gs (atomic_leaf name class settings) h = absurd h
     within gs (cell_leaf g first n) h = slice_get_within gs c.group g h.group
+
     name_of : (gs : List Group) (g : Group) → slice_get gs c.group ≡ Some g → (l : Leaf) → IsCell gs (Some c) l → c.name.now ≡ g.name
     name_of gs g e (atomic_leaf name class settings) h = absurd h
     name_of gs g e (cell_leaf k first n) h = let same : k ≡ g = some_group k g (sym h.group ∙ e) in h.name ∙ ap (λ (j : Group). j.name) same

@@ -2,7 +2,7 @@
 ghost use Rattle.std.specs.Prelude.{◌≡◌, ◌<◌, ◌++◌, codes, length, take, true, IfSome, OnOk};
 ghost use Rattle.cell_grid.specs.Space.{cell_count};
 ghost use Rattle.model_tree.specs.Tree.{Leaf};
-ghost use Rattle.model_tree.specs.Leaves.{Appends, AtLeaf, IsLeafOf};
+ghost use Rattle.model_tree.specs.Leaves.{Appends, IsLeafOf};
 ghost use Rattle.record_text.specs.declared.start.Begins.TheVariants.{Nothing, Boxes};
 ghost use Rattle.record_text.specs.declared.start.Begins.TheVariants.{Cells as cells};
 ghost use Rattle.model_tree.specs.declared.table.Model.{Model};
@@ -65,47 +65,6 @@ impl Start {
             OnOk result (Appends model.now leaf text into.old.items into.new.items) }
         ensures kept { take (length into.old.items) into.new.items ≡ into.old.items }
     {
-        match self.place_of(time, leaf, model) {
-            Some(place) => self.text.put_line(&place, tail, into),
-            None => self.put_parts(time, leaf, tail, model, into),
-        }
-    }
-
-    /// The place of a cell, where it is short and the text is what lines of the cell's group at
-    /// this instant begin with.
-    #[inline(always)]
-    fn place_of(&self, time: Time, leaf: u32, model: &Model) -> Option<Place>
-        requires leaf { IsLeafOf model.now leaf }
-        requires right { IsStart model.now self.now }
-        ensures short { IfSome result (λ place. IsShort place) }
-        ensures text { IfSome result (λ place. AtLeaf model.now leaf
-            (λ l. self.now.text ++ short_text place ≡ head_text self.now.letter time l)) }
-    {
-        let cell = model.cell_at(leaf)?;
-        if self.is_of_group(time.ms(), cell.group) {
-            short_place(cell.space, cell.cell)
-        } else {
-            None
-        }
-    }
-
-    /// Appends letter, time and leaf of a line, a stroke, and what stands behind it, part by part.
-    fn put_parts(
-        &mut self,
-        time: Time,
-        leaf: u32,
-        tail: &Tail,
-        model: &Model,
-        into: &mut Vec<u8>,
-    ) -> Result<(), OutOfMemory>
-        requires leaf { IsLeafOf model.now leaf }
-        requires right { IsStart model.now self.old }
-        ensures right { IsStart model.now self.new }
-        ensures letter { self.new.letter ≡ self.old.letter }
-        ensures ok { let text = λ (l : Leaf). head_text self.old.letter time l ++ tail.now in
-            OnOk result (Appends model.now leaf text into.old.items into.new.items) }
-        ensures kept { take (length into.old.items) into.new.items ≡ into.old.items }
-    {
         match model.cell_at(leaf) {
             Some(cell) => self.put_cell(time, &cell, tail, into),
             None => self.put_box(time, leaf, tail, model, into),
@@ -136,8 +95,49 @@ impl Start {
         put(tail.as_bytes(), into)
     }
 
-    /// Appends letter and time, the name of a cell, a stroke, and what stands behind it.
+    /// Appends letter and time, the name of a cell, a stroke, and what stands behind it: as one
+    /// where all but the coordinates is kept and these are short.
+    #[inline(always)]
     fn put_cell(
+        &mut self,
+        time: Time,
+        cell: &CellAt<'_>,
+        tail: &Tail,
+        into: &mut Vec<u8>,
+    ) -> Result<(), OutOfMemory>
+        requires inside { cell.now.cell < cell_count cell.now.space.now }
+        ensures right { (m : Model) → IsNamed m cell.now → IsStart m self.old → IsStart m self.new }
+        ensures letter { self.new.letter ≡ self.old.letter }
+        ensures ok { (m : Model) → IsNamed m cell.now → IsStart m self.old → OnOk result
+            (into.new.items ≡ into.old.items
+            ++ (named_text self.old.letter time cell.now ++ tail.now)) }
+        ensures kept { take (length into.old.items) into.new.items ≡ into.old.items }
+    {
+        match self.place_of(time, cell) {
+            Some(place) => self.text.put_line(&place, tail, into),
+            None => self.put_parts(time, cell, tail, into),
+        }
+    }
+
+    /// The place of a cell, where it is short and the text is what lines of the cell's group at
+    /// this instant begin with.
+    #[inline(always)]
+    fn place_of(&self, time: Time, cell: &CellAt<'_>) -> Option<Place>
+        requires inside { cell.now.cell < cell_count cell.now.space.now }
+        ensures short { IfSome result (λ place. IsShort place) }
+        ensures text { IfSome result (λ place. (m : Model) → IsNamed m cell.now → IsStart m self.now
+            → self.now.text ++ short_text place ≡ named_text self.now.letter time cell.now) }
+    {
+        if self.is_of_group(time.ms(), cell.group) {
+            short_place(cell.space, cell.cell)
+        } else {
+            None
+        }
+    }
+
+    /// The same, part by part.
+    #[inline(never)]
+    fn put_parts(
         &mut self,
         time: Time,
         cell: &CellAt<'_>,

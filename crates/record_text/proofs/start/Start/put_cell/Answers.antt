@@ -1,26 +1,15 @@
-use Rattle.std.proofs.Common.{◌++◌, ◌∙◌, ap, codes}
-use Rattle.quantity.specs.Bytes.{Bytes}
-use Rattle.record_text.specs.Begun.{begun, place_text}
-use Rattle.record_text.proofs.Appended.{kept_on, on_ok}
-use Rattle.record_text.proofs.Starts.{cell_appended}
+use Rattle.record_text.specs.Begun.{named_text}
+use Rattle.record_text.specs.Placed.{short_text}
+use Rattle.record_text.proofs.Appended.{on_ok}
+use Rattle.record_text.proofs.Starts.{line_appended, start_same}
 use Rattle.record_text.proofs.start.Start.put_cell.Goals as goal
 
-pub returns-in_err-put_place-clause-kept : goal.returns-in_err-put_place-clause-kept
-returns-in_err-put_place-clause-kept c =
-    kept_on c.args.into.now.items c.begin_cell.new.into.items c.put_place.new.into.items
-    c.begin_cell.ensures.kept c.put_place.ensures.kept
+pub returns-in-Some-clause-right : goal.returns-in-Some-clause-right
+returns-in-Some-clause-right c = λ m named right.
+    start_same m c.args.self.now c.put_line.new.self c.put_line.ensures.same right
 
-pub returns-clause-ok : goal.returns-clause-ok
-returns-clause-ok c = λ m named right.
-    on_ok c.put.result _ _ (λ last.
-    cell_appended c.args.into.now.items c.begin_cell.new.into.items c.put_place.new.into.items c.put.new.into.items
-    (begun c.args.self.now.letter c.args.time ++ c.args.cell.now.name.now ++ codes "(")
-    (place_text c.args.cell.now.space.now c.args.cell.now.cell) c.args.tail.now
-    (c.in_ok-begin_cell.ensures.ok m named right) c.in_ok-put_place.ensures.ok
-    (last ∙ ap (λ (x : Bytes). c.put_place.new.into.items ++ x) c.as_bytes.ensures)) c.put.ensures.ok
-
-pub returns-clause-kept : goal.returns-clause-kept
-returns-clause-kept c =
-    kept_on c.args.into.now.items c.put_place.new.into.items c.put.new.into.items
-    (kept_on c.args.into.now.items c.begin_cell.new.into.items c.put_place.new.into.items
-    c.begin_cell.ensures.kept c.in_ok-put_place.ensures.kept) c.put.ensures.kept
+pub returns-in-Some-clause-ok : goal.returns-in-Some-clause-ok
+returns-in-Some-clause-ok c = λ m named right.
+    on_ok c.put_line.result _ _ (λ last.
+    line_appended c.args.into.now.items c.put_line.new.into.items c.args.self.now.text (short_text c.in-Some.place) c.args.tail.now
+    (named_text c.args.self.now.letter c.args.time c.args.cell.now) last (c.in-Some.ensures.text m named right)) c.put_line.ensures.ok

@@ -1,11 +1,26 @@
-use Rattle.record_text.specs.Begun.{head_text}
-use Rattle.record_text.specs.Placed.{short_text}
-use Rattle.record_text.proofs.Appended.{on_ok}
-use Rattle.record_text.proofs.Starts.{line_appended}
+use Rattle.std.proofs.Common.{◌++◌, ◌∙◌, ap}
+use Rattle.quantity.specs.Bytes.{Bytes}
+use Rattle.model_tree.specs.Models.{tree_of}
+use Rattle.model_tree.specs.Tree.{groups}
+use Rattle.model_tree.specs.Leaves.{no_settings}
+use Rattle.record_text.proofs.Appended.{leaf_of, on_ok}
+use Rattle.record_text.proofs.Starts.{cell_inside, cell_named, named_head}
 use Rattle.record_text.proofs.start.Start.put_head.Goals as goal
+
+pub put_cell-requires : goal.put_cell-requires
+put_cell-requires c =
+    let m = c.args.model.now in
+    let l = leaf_of m c.args.leaf no_settings c.requires.leaf in
+    cell_inside (groups (tree_of m no_settings)) c.in-Some.cell l.0 (c.in-Some.ensures no_settings l.0 l.1)
+
+pub returns-in-Some-clause-right : goal.returns-in-Some-clause-right
+returns-in-Some-clause-right c =
+    c.put_cell.ensures.right c.args.model.now (cell_named c.args.model.now c.args.leaf c.in-Some.cell c.requires.leaf c.in-Some.ensures) c.requires.right
 
 pub returns-in-Some-clause-ok : goal.returns-in-Some-clause-ok
 returns-in-Some-clause-ok c =
-    on_ok c.put_line.result _ _ (λ last settings l e.
-    line_appended c.args.into.now.items c.put_line.new.into.items c.args.self.now.text (short_text c.in-Some.place) c.args.tail.now
-    (head_text c.args.self.now.letter c.args.time l) last (c.in-Some.ensures.text settings l e)) c.put_line.ensures.ok
+    let m = c.args.model.now in
+    on_ok c.put_cell.result _ _ (λ last settings l e.
+    last ∙ ap (λ (x : Bytes). c.args.into.now.items ++ (x ++ c.args.tail.now))
+    (named_head c.args.self.now.letter c.args.time (groups (tree_of m settings)) c.in-Some.cell l (c.in-Some.ensures settings l e)))
+    (c.put_cell.ensures.ok m (cell_named m c.args.leaf c.in-Some.cell c.requires.leaf c.in-Some.ensures) c.requires.right)

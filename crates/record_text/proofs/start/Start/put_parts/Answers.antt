@@ -1,26 +1,26 @@
-use Rattle.std.proofs.Common.{◌++◌, ◌∙◌, ap}
+use Rattle.std.proofs.Common.{◌++◌, ◌∙◌, ap, codes}
 use Rattle.quantity.specs.Bytes.{Bytes}
-use Rattle.model_tree.specs.Models.{tree_of}
-use Rattle.model_tree.specs.Tree.{groups}
-use Rattle.model_tree.specs.Leaves.{no_settings}
-use Rattle.record_text.proofs.Appended.{leaf_of, on_ok}
-use Rattle.record_text.proofs.Starts.{cell_inside, cell_named, named_head}
+use Rattle.record_text.specs.Begun.{begun, place_text}
+use Rattle.record_text.proofs.Appended.{kept_on, on_ok}
+use Rattle.record_text.proofs.Starts.{cell_appended}
 use Rattle.record_text.proofs.start.Start.put_parts.Goals as goal
 
-pub put_cell-requires : goal.put_cell-requires
-put_cell-requires c =
-    let m = c.args.model.now in
-    let l = leaf_of m c.args.leaf no_settings c.requires.leaf in
-    cell_inside (groups (tree_of m no_settings)) c.in-Some.cell l.0 (c.in-Some.ensures no_settings l.0 l.1)
+pub returns-in_err-put_place-clause-kept : goal.returns-in_err-put_place-clause-kept
+returns-in_err-put_place-clause-kept c =
+    kept_on c.args.into.now.items c.begin_cell.new.into.items c.put_place.new.into.items
+    c.begin_cell.ensures.kept c.put_place.ensures.kept
 
-pub returns-in-Some-clause-right : goal.returns-in-Some-clause-right
-returns-in-Some-clause-right c =
-    c.put_cell.ensures.right c.args.model.now (cell_named c.args.model.now c.args.leaf c.in-Some.cell c.requires.leaf c.in-Some.ensures) c.requires.right
+pub returns-clause-ok : goal.returns-clause-ok
+returns-clause-ok c = λ m named right.
+    on_ok c.put.result _ _ (λ last.
+    cell_appended c.args.into.now.items c.begin_cell.new.into.items c.put_place.new.into.items c.put.new.into.items
+    (begun c.args.self.now.letter c.args.time ++ c.args.cell.now.name.now ++ codes "(")
+    (place_text c.args.cell.now.space.now c.args.cell.now.cell) c.args.tail.now
+    (c.in_ok-begin_cell.ensures.ok m named right) c.in_ok-put_place.ensures.ok
+    (last ∙ ap (λ (x : Bytes). c.put_place.new.into.items ++ x) c.as_bytes.ensures)) c.put.ensures.ok
 
-pub returns-in-Some-clause-ok : goal.returns-in-Some-clause-ok
-returns-in-Some-clause-ok c =
-    let m = c.args.model.now in
-    on_ok c.put_cell.result _ _ (λ last settings l e.
-    last ∙ ap (λ (x : Bytes). c.args.into.now.items ++ (x ++ c.args.tail.now))
-    (named_head c.args.self.now.letter c.args.time (groups (tree_of m settings)) c.in-Some.cell l (c.in-Some.ensures settings l e)))
-    (c.put_cell.ensures.ok m (cell_named m c.args.leaf c.in-Some.cell c.requires.leaf c.in-Some.ensures) c.requires.right)
+pub returns-clause-kept : goal.returns-clause-kept
+returns-clause-kept c =
+    kept_on c.args.into.now.items c.put_place.new.into.items c.put.new.into.items
+    (kept_on c.args.into.now.items c.begin_cell.new.into.items c.put_place.new.into.items
+    c.begin_cell.ensures.kept c.in_ok-put_place.ensures.kept) c.put.ensures.kept
