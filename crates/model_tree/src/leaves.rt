@@ -5,6 +5,7 @@ ghost use Rattle.model_tree.specs.Models.{tree_of};
 ghost use Rattle.model_tree.specs.Stands.{group_of};
 ghost use Rattle.model_tree.specs.LeafTexts.{leaf_text, in_ports, out_ports, name_at};
 ghost use Rattle.model_tree.specs.Laid.{laid, Covers};
+ghost use Rattle.model_tree.specs.Grouped.{AreGroupsOf};
 ghost use Rattle.model_tree.specs.Table.{seat_at};
 ghost use Rattle.model_tree.specs.Told.{TellsOf};
 ghost use Rattle.model_tree.specs.Leaves.{AtLeaf, Appends, IsCellOf, IsLeafOf, IsModelOf, IsPlaceOf};
@@ -12,6 +13,7 @@ ghost use Rattle.model_tree.specs.Leaves.{OfTree, no_settings};
 
 use crate::component::Coupled;
 use crate::find::{Nth, nth_group_of_all};
+use crate::gathered::gather_all;
 use crate::group::CellGroup;
 use crate::growing::{Growing, counted};
 use crate::laying::lay_coupled;
@@ -188,8 +190,17 @@ impl Model {
         self.groups
     }
 
-    /// The group of this number, counted in declared order. It goes down the tree, so a run asks
-    /// for each group once, at its start.
+    /// The groups by their numbers, in declared order. It goes down the tree once.
+    pub fn all_groups(&self, alloc: Global) -> Result<Vec<&CellGroup>, OutOfMemory>
+        ensures { IfOk result (λ found. AreGroupsOf self.now found.items) }
+    {
+        let mut found = Vec::new(alloc);
+        gather_all(&self.top.children, &mut found)?;
+        Ok(found)
+    }
+
+    /// The group of this number, counted in declared order. It goes down the tree: what asks for
+    /// each group takes `all_groups`.
     pub fn group(&self, number: u32) -> &CellGroup
         requires { number < length (groups (tree_of self.now no_settings)) }
         ensures { OfTree self.now (λ t. slice_get (groups t) number ≡ Some (group_of result.now)) }
