@@ -104,11 +104,11 @@ impl Model {
         let found = self.found(leaf);
         match &found.part.at {
             PartAt::Atomic(_) => None,
-            PartAt::Cells(group, space, _ports) => Some(CellAt {
-                group: *group,
+            PartAt::Cells(number, grid, _ports) => Some(CellAt {
+                group: *number,
                 cell: found.cell,
                 name: &found.part.name,
-                space,
+                space: grid,
             }),
         }
     }

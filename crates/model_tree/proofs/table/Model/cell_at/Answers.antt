@@ -9,4 +9,4 @@ returns-in-Atomic c = λ settings l e.
 
 pub returns-in-Cells : goal.returns-in-Cells
 returns-in-Cells c = λ settings l e.
-    told-of-group settings (groups (tree_of c.args.self.now settings)) c.found-found.result.part.now.at c.found-found.result.part.now.name c.found-found.result.cell c.found-found.result.ins.now l c.in-Cells.group c.in-Cells.space c.in-Cells._ports c.in-Cells.is (c.found-found.ensures settings l e)
+    told-of-group settings (groups (tree_of c.args.self.now settings)) c.found-found.result.part.now.at c.found-found.result.part.now.name c.found-found.result.cell c.found-found.result.ins.now l c.in-Cells.number c.in-Cells.grid c.in-Cells._ports c.in-Cells.is (c.found-found.ensures settings l e)
