@@ -27,4 +27,4 @@ returns c = λ settings.
     let past = c.loop-group-test.false in
     let behind : length (map size_of gs) ≤ c.loop-group.group-index =
     omega (arith, many, past, length-map gs size_of) in
-    c.loop-group.invariant settings ∙ take_all (map size_of gs) c.loop-group.group-index behind
+    c.loop-group.invariant settings ∙ take_all c.loop-group.group-index (map size_of gs) behind

@@ -7,11 +7,11 @@ use Rattle.record_text.proofs.Appended.{leaf_of, on_ok}
 use Rattle.record_text.proofs.Starts.{cell_inside, cell_named, named_head}
 use Rattle.record_text.proofs.start.Start.put_head.Goals as goal
 
-pub put_cell-requires-clause-inside : goal.put_cell-requires-clause-inside
-put_cell-requires-clause-inside c =
+pub put_cell-requires : goal.put_cell-requires
+put_cell-requires c =
     let m = c.args.model.now in
     let l = leaf_of m c.args.leaf no_settings c.requires.leaf in
-    cell_inside (groups (tree_of m no_settings)) c.in-Some.cell l.0 (c.in-Some.ensures no_settings l.0 l.1)
+    record { inside = cell_inside (groups (tree_of m no_settings)) c.in-Some.cell l.0 (c.in-Some.ensures no_settings l.0 l.1) }
 
 pub returns-in-Some-clause-right : goal.returns-in-Some-clause-right
 returns-in-Some-clause-right c =
