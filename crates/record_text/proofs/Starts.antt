@@ -14,20 +14,12 @@ use Rattle.quantity.specs.Times.{time_text}
 use Rattle.quantity.specs.ValueTexts.{text5}
 use Rattle.rule_tree.specs.Meaning.{coordinates}
 use Rattle.cell_grid.specs.Space.{Space, cell_count, dims_of, place_of}
-use Rattle.model_tree.specs.declared.group.CellGroup.{CellGroup}
 use Rattle.model_tree.specs.declared.leaves.CellAt.{CellAt}
 use Rattle.model_tree.specs.declared.table.Model.{Model}
-use Rattle.model_tree.specs.declared.table.PartAt.{PartAt}
-use Rattle.model_tree.specs.declared.table.PartAt.TheVariants as part
-use Rattle.model_tree.specs.declared.table.Row.{Row}
-use Rattle.model_tree.specs.Tree.{Word, Group, Leaf, atomic_leaf, cell_leaf, groups}
+use Rattle.model_tree.specs.Tree.{Group, Leaf, atomic_leaf, cell_leaf, groups}
 use Rattle.model_tree.specs.LeafTexts.{at_text}
 use Rattle.model_tree.specs.Models.{tree_of}
-use Rattle.model_tree.specs.Stands.{group_of}
-use Rattle.model_tree.specs.Leaves.{Settings, IsCell, IsCellOf, IsLeafOf, no_settings}
-use Rattle.model_tree.specs.Table.{seat_at}
-use Rattle.model_tree.specs.Told.{Told}
-use Rattle.model_tree.proofs.Read.{rows-length, row-parts}
+use Rattle.model_tree.specs.Leaves.{IsCell, IsCellOf, IsLeafOf, no_settings}
 use Rattle.text_forms.specs.declared.letter.Letter.{Letter}
 use Rattle.text_forms.specs.Letters.{letter_byte}
 use Rattle.record_text.specs.Placed.{short_text}

@@ -1,4 +1,4 @@
-use Rattle.std.proofs.Common.{◌≡◌, ◌≤◌, ◌∙◌, ap, arith, length, map, rules}
+use Rattle.std.proofs.Common.{◌≤◌, ◌∙◌, ap, arith, length, map, rules}
 use Rattle.std.proofs.lemmas.List.{length-map, take_all}
 use Rattle.model_tree.specs.Grouped.{groups_shown}
 use Rattle.model_tree.specs.Tree.{groups}
