@@ -1,12 +1,14 @@
 -- What is answered of a model and of its leaves: the same for every settings of its boxes.
-use Rattle.std.specs.Prelude.{◌≡◌, ℕ, ◌<◌, ◌++◌, Option, Some, None, List, [], ℤ, slice_get}
+use Rattle.std.specs.Prelude.{◌≡◌, ℕ, ◌<◌, ◌++◌, ⊤, Option, Some, None, List, [], ℤ, slice_get}
 use Rattle.quantity.specs.Bytes.{Bytes}
+use Rattle.cell_grid.specs.Space.{Space, cell_count}
 use Rattle.model_tree.specs.declared.component.Coupled.{Coupled}
 use Rattle.model_tree.specs.declared.component.Component.TheVariants.{Coupled as in_tree}
 use Rattle.model_tree.specs.declared.table.Model.{Model}
 use Rattle.model_tree.specs.declared.leaves.LeafAt.{LeafAt}
+use Rattle.model_tree.specs.declared.leaves.CellAt.{CellAt}
 use Rattle.model_tree.specs.declared.leaves.LeafAt.TheVariants as at
-use Rattle.model_tree.specs.Tree.{Tree, Group, Leaf, atomic_leaf, cell_leaf, leaves, leaf_count, groups}
+use Rattle.model_tree.specs.Tree.{Word, Tree, Group, Leaf, atomic_leaf, cell_leaf, leaves, leaf_count, groups}
 use Rattle.model_tree.specs.Stands.{part_of}
 use Rattle.model_tree.specs.Models.{tree_of}
 
@@ -62,3 +64,31 @@ abbrev pub IsPlaceOf : Model → ℕ → LeafAt → Type 0
 IsPlaceOf m leaf a =
     (settings : Settings) → (l : Leaf) → slice_get (leaves (tree_of m settings)) leaf ≡ Some l
     → StandsAt (tree_of m settings) settings a l
+
+-- the leaf is an atomic component
+abbrev pub IsAtomic : Leaf → Type 0
+IsAtomic (atomic_leaf name class settings) = ⊤
+IsAtomic (cell_leaf g first n) = ⊥
+
+-- the leaf is this cell of the group of this number, which has this name and this space
+abbrev pub IsCellOfGroup : List Group → ℕ → Word → Space → ℕ → Leaf → Type 0
+IsCellOfGroup gs number name space cell (atomic_leaf w class settings) = ⊥
+IsCellOfGroup gs number name space cell (cell_leaf g first n) =
+    record {
+      group : slice_get gs number ≡ Some g;
+      name : name ≡ g.name;
+      space : space ≡ g.space;
+      cell : cell ≡ n;
+      inside : n < cell_count g.space;
+    }
+
+-- the leaf is that cell, or none
+abbrev pub IsCell : List Group → Option CellAt → Leaf → Type 0
+IsCell gs None l = IsAtomic l
+IsCell gs (Some c) l = IsCellOfGroup gs c.group c.name.now c.space.now c.cell l
+
+-- the leaf of this number is that cell
+abbrev pub IsCellOf : Model → ℕ → Option CellAt → Type 0
+IsCellOf m leaf c =
+    (settings : Settings) → (l : Leaf) → slice_get (leaves (tree_of m settings)) leaf ≡ Some l
+    → IsCell (groups (tree_of m settings)) c l

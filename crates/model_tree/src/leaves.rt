@@ -5,12 +5,15 @@ ghost use Rattle.model_tree.specs.Models.{tree_of};
 ghost use Rattle.model_tree.specs.Stands.{group_of};
 ghost use Rattle.model_tree.specs.LeafTexts.{leaf_text, in_ports, out_ports, name_at};
 ghost use Rattle.model_tree.specs.Laid.{laid, Covers};
+ghost use Rattle.model_tree.specs.Grouped.{AreGroupsOf};
 ghost use Rattle.model_tree.specs.Table.{seat_at};
 ghost use Rattle.model_tree.specs.Told.{TellsOf};
-ghost use Rattle.model_tree.specs.Leaves.{AtLeaf, Appends, IsLeafOf, IsModelOf, IsPlaceOf, OfTree, no_settings};
+ghost use Rattle.model_tree.specs.Leaves.{AtLeaf, Appends, IsCellOf, IsLeafOf, IsModelOf, IsPlaceOf};
+ghost use Rattle.model_tree.specs.Leaves.{OfTree, no_settings};
 
 use crate::component::Coupled;
 use crate::find::{Nth, nth_group_of_all};
+use crate::gathered::gather_all;
 use crate::group::CellGroup;
 use crate::growing::{Growing, counted};
 use crate::laying::lay_coupled;
@@ -18,7 +21,7 @@ use crate::leaf_texts::{out_name, put_leaf};
 use crate::table::{Model, Part, PartAt};
 use crate::walked::put_all;
 use atomic_face::{BoxNo, PortNo};
-use cell_grid::Initial;
+use cell_grid::{Grid, Initial};
 use quantity::{Name, OutOfMemory};
 use std::alloc::Global;
 use std::collections::VecDeque;
@@ -28,6 +31,15 @@ use std::collections::VecDeque;
 pub enum LeafAt {
     Atomic(BoxNo),
     Cell { group: u32, cell: u32 },
+}
+
+/// A cell: the number of its group, its number there, and the name and the space of the group.
+#[derive(Clone, Copy)]
+pub struct CellAt<'a> {
+    pub group: u32,
+    pub cell: u32,
+    pub name: &'a Name,
+    pub space: &'a Grid,
 }
 
 /// What the table has of a leaf: its part, its number there, and the names of its input ports.
@@ -81,6 +93,23 @@ impl Model {
                 group: *group,
                 cell: found.cell,
             },
+        }
+    }
+
+    /// The cell that a leaf is, with what the table has of its group; None of an atomic component.
+    pub fn cell_at(&self, leaf: u32) -> Option<CellAt<'_>>
+        requires { IsLeafOf self.now leaf }
+        ensures { IsCellOf self.now leaf result }
+    {
+        let found = self.found(leaf);
+        match &found.part.at {
+            PartAt::Atomic(_) => None,
+            PartAt::Cells(number, grid, _ports) => Some(CellAt {
+                group: *number,
+                cell: found.cell,
+                name: &found.part.name,
+                space: grid,
+            }),
         }
     }
 
@@ -161,8 +190,17 @@ impl Model {
         self.groups
     }
 
-    /// The group of this number, counted in declared order. It goes down the tree, so a run asks
-    /// for each group once, at its start.
+    /// The groups by their numbers, in declared order. It goes down the tree once.
+    pub fn all_groups(&self, alloc: Global) -> Result<Vec<&CellGroup>, OutOfMemory>
+        ensures { IfOk result (λ found. AreGroupsOf self.now found.items) }
+    {
+        let mut found = Vec::new(alloc);
+        gather_all(&self.top.children, &mut found)?;
+        Ok(found)
+    }
+
+    /// The group of this number, counted in declared order. It goes down the tree: what asks for
+    /// each group takes `all_groups`.
     pub fn group(&self, number: u32) -> &CellGroup
         requires { number < length (groups (tree_of self.now no_settings)) }
         ensures { OfTree self.now (λ t. slice_get (groups t) number ≡ Some (group_of result.now)) }

@@ -14,24 +14,16 @@ use Rattle.quantity.specs.Times.{time_text}
 use Rattle.quantity.specs.ValueTexts.{text5}
 use Rattle.rule_tree.specs.Meaning.{coordinates}
 use Rattle.cell_grid.specs.Space.{Space, cell_count, dims_of, place_of}
-use Rattle.model_tree.specs.declared.group.CellGroup.{CellGroup}
-use Rattle.model_tree.specs.declared.leaves.LeafAt.TheVariants as at
+use Rattle.model_tree.specs.declared.leaves.CellAt.{CellAt}
 use Rattle.model_tree.specs.declared.table.Model.{Model}
-use Rattle.model_tree.specs.declared.table.PartAt.{PartAt}
-use Rattle.model_tree.specs.declared.table.PartAt.TheVariants as part
-use Rattle.model_tree.specs.declared.table.Row.{Row}
-use Rattle.model_tree.specs.Tree.{Word, Group, Leaf, atomic_leaf, cell_leaf, groups}
+use Rattle.model_tree.specs.Tree.{Group, Leaf, atomic_leaf, cell_leaf, groups}
 use Rattle.model_tree.specs.LeafTexts.{at_text}
 use Rattle.model_tree.specs.Models.{tree_of}
-use Rattle.model_tree.specs.Stands.{group_of}
-use Rattle.model_tree.specs.Leaves.{Settings, IsCellIn, IsLeafOf, IsPlaceOf, no_settings}
-use Rattle.model_tree.specs.Table.{seat_at}
-use Rattle.model_tree.specs.Told.{Told}
-use Rattle.model_tree.proofs.Read.{rows-length, row-parts}
+use Rattle.model_tree.specs.Leaves.{IsCell, IsCellOf, IsLeafOf, no_settings}
 use Rattle.text_forms.specs.declared.letter.Letter.{Letter}
 use Rattle.text_forms.specs.Letters.{letter_byte}
 use Rattle.record_text.specs.Placed.{short_text}
-use Rattle.record_text.specs.Begun.{begun, cell_text, head_text, place_text, IsBeginning, IsOfGroup, IsStart, OfGroup}
+use Rattle.record_text.specs.Begun.{begun, head_text, named_text, place_text, IsBeginning, IsNamed, IsOfGroup, IsStart, OfGroup}
 use Rattle.record_text.specs.declared.start.Begins.{Begins}
 use Rattle.record_text.specs.declared.start.Begins.TheVariants.{Nothing, Boxes, Cells}
 use Rattle.record_text.specs.declared.start.Start.{Start}
@@ -81,53 +73,51 @@ group_head old letter time first cell g =
     parts_joined old (letter_byte letter ∷ codes " / ") (time_text time) (codes " / ") g.name (join_with_byte 44 (map decimal (take (dims_of g.space) (coordinates p))))
     ∙ ap (λ (x : Bytes). old ++ ((letter_byte letter ∷ codes " / ") ++ time_text time ++ codes " / " ++ (g.name ++ x) ++ codes " / ")) (sym (at_is g.space p))
 
--- letter, time and name of a cell, and what stands behind them
-pub cell_line : (old new tail : Bytes) (letter : Letter) (time number cell : ℕ) (gs : List Group) (l : Leaf) → IsCellIn (slice_get gs number) cell l → ((g : Group) → slice_get gs number ≡ Some g → new ≡ old ++ (cell_text letter time cell g ++ tail)) → new ≡ old ++ (head_text letter time l ++ tail)
-cell_line old new tail letter time number cell gs l here is = by (slice_get gs number) refl l here
+-- a cell as the table has it, where its group's name is kept
+pub kept_head : (letter : Letter) (time : ℕ) (text short : Bytes) (gs : List Group) (c : CellAt) (l : Leaf) → IsCell gs (Some c) l → ((g : Group) → slice_get gs c.group ≡ Some g → text ≡ begun letter time ++ g.name ++ codes "(") → place_text c.space.now c.cell ≡ short → text ++ short ≡ head_text letter time l
+kept_head letter time text short gs c (atomic_leaf name class settings) h is p = absurd h
+kept_head letter time text short gs c (cell_leaf g first n) h is p =
+    let start = begun letter time ++ g.name ++ codes "(" in
+    ap (λ (x : Bytes). x ++ short) (is g h.group) ∙ ap (λ (x : Bytes). start ++ x) (sym p)
+    ∙ ap (λ (s : Space). start ++ place_text s c.cell) h.space ∙ ap (λ (i : ℕ). start ++ place_text g.space i) h.cell
+    ∙ group_head [] letter time first n g
+
+-- the same, where it isn't
+pub named_head : (letter : Letter) (time : ℕ) (gs : List Group) (c : CellAt) (l : Leaf) → IsCell gs (Some c) l → named_text letter time c ≡ head_text letter time l
+named_head letter time gs c (atomic_leaf name class settings) h = absurd h
+named_head letter time gs c (cell_leaf g first n) h =
+    ap (λ (x : Bytes). (begun letter time ++ x ++ codes "(") ++ place_text c.space.now c.cell) h.name
+    ∙ kept_head letter time (begun letter time ++ g.name ++ codes "(") (place_text c.space.now c.cell) gs c (cell_leaf g first n) h (λ k e. let same : g ≡ k = cell_same g k (sym h.group ∙ e) in ap (λ (j : Group). begun letter time ++ j.name ++ codes "(") same) refl
   where
-    by : (o : Option Group) → slice_get gs number ≡ o → (l : Leaf) → IsCellIn o cell l → new ≡ old ++ (head_text letter time l ++ tail)
-    by o e (atomic_leaf n class settings) h = absurd h
-    by None e (cell_leaf g first n) h = absurd h
-    by (Some k) e (cell_leaf g first n) h =
-        is g (e ∙ ap (λ (x : Group). Some x) (sym h.0)) ∙ ap (λ (x : Bytes). old ++ (x ++ tail)) (group_head [] letter time first cell g)
-        ∙ ap (λ (i : ℕ). old ++ (head_text letter time (cell_leaf g first i) ++ tail)) (sym h.1)
+    cell_same : (g k : Group) → Some g ≡ Some k → g ≡ k
+    cell_same g k e = cc
 
 -- ---- a cell lies in the space of its group
 
-row_at : (rs : List Row) (k : ℕ) → k < length rs → (r : Row) × (slice_get rs k ≡ Some r)
-row_at [] k h = absurd (omega arith)
-row_at (r ∷ rs) zero h = (r, refl)
-row_at (r ∷ rs) (suc k) h = row_at rs k (omega arith)
+pub cell_inside : (gs : List Group) (c : CellAt) (l : Leaf) → IsCell gs (Some c) l → c.cell < cell_count c.space.now
+cell_inside gs c (atomic_leaf name class settings) h = absurd h
+cell_inside gs c (cell_leaf g first n) h = subst (λ (s : Space). c.cell < cell_count s) (sym h.space) (subst (λ (i : ℕ). i < cell_count g.space) (sym h.cell) h.inside)
 
-told_in : (settings : Settings) (gs : List Group) (a : PartAt) (name : Word) (cell n first : ℕ) (ins : List Word) (g : Group) → Told settings gs (seat_at a name cell ins) (cell_leaf g first n) → n < cell_count g.space
-told_in settings gs (part.Atomic box) name cell n first ins g t = absurd t
-told_in settings gs (part.Cells number space ports) name cell n first ins g t = t.inside
-
-pub cell_inside : (m : Model) (leaf number cell : ℕ) → IsLeafOf m leaf → IsPlaceOf m leaf (at.Cell number cell) → OfGroup m number (λ g. cell < cell_count g.space)
-cell_inside m leaf number cell there place settings g e =
-    let l = leaf_of m leaf settings there in
-    let r = row_at m.rows.items leaf (omega (arith, there, rows-length m no_settings)) in
-    let told = row-parts m leaf r.0 r.1 in
-    by (slice_get (groups (tree_of m settings)) number) e l.0 (place settings l.0 l.1) told.0.at told.0.name r.0.cell told.1 (told.4 settings l.0 l.1)
+pub cell_named : (m : Model) (leaf : ℕ) (c : CellAt) → IsLeafOf m leaf → IsCellOf m leaf (Some c) → IsNamed m c
+cell_named m leaf c there is = record {
+  there =
+      let l = leaf_of m leaf no_settings there in
+      within (groups (tree_of m no_settings)) l.0 (is no_settings l.0 l.1);
+  named = λ settings g e.
+      let l = leaf_of m leaf settings there in
+      name_of (groups (tree_of m settings)) g e l.0 (is settings l.0 l.1);
+}
   where
-    by : (o : Option Group) → o ≡ Some g → (l : Leaf) → IsCellIn o cell l → (a : PartAt) (name : Word) (n : ℕ) (ins : List Word) → Told settings (groups (tree_of m settings)) (seat_at a name n ins) l → cell < cell_count g.space
-    by o e (atomic_leaf w class words) h a name n ins t = absurd h
-    by None e (cell_leaf k first c) h a name n ins t = absurd h
-    by (Some j) e (cell_leaf k first c) h a name n ins t =
-        let in_k = told_in settings (groups (tree_of m settings)) a name n c first ins k t in
-        let same : j ≡ g = cc in
-        subst (λ (x : Group). cell < cell_count x.space) (h.0 ∙ same) (subst (λ (i : ℕ). i < cell_count k.space) h.1 in_k)
+    within : (gs : List Group) (l : Leaf) → IsCell gs (Some c) l → c.group < length gs
+    within gs (atomic_leaf name class settings) h = absurd h
+    within gs (cell_leaf g first n) h = slice_get_within gs c.group g h.group
 
-pub group_within : (m : Model) (leaf number cell : ℕ) → IsLeafOf m leaf → IsPlaceOf m leaf (at.Cell number cell) → number < length (groups (tree_of m no_settings))
-group_within m leaf number cell there place =
-    let l = leaf_of m leaf no_settings there in
-    let gs = groups (tree_of m no_settings) in
-    by gs (slice_get gs number) refl l.0 (place no_settings l.0 l.1)
-  where
-    by : (gs : List Group) (o : Option Group) → slice_get gs number ≡ o → (l : Leaf) → IsCellIn o cell l → number < length gs
-    by gs o e (atomic_leaf n class settings) h = absurd h
-    by gs None e (cell_leaf g f n) h = absurd h
-    by gs (Some k) e (cell_leaf g f n) h = slice_get_within gs number k e
+    name_of : (gs : List Group) (g : Group) → slice_get gs c.group ≡ Some g → (l : Leaf) → IsCell gs (Some c) l → c.name.now ≡ g.name
+    name_of gs g e (atomic_leaf name class settings) h = absurd h
+    name_of gs g e (cell_leaf k first n) h = let same : k ≡ g = some_group k g (sym h.group ∙ e) in h.name ∙ ap (λ (j : Group). j.name) same
+      where
+        some_group : (k g : Group) → Some k ≡ Some g → k ≡ g
+        some_group k g e = cc
 
 -- ---- what was appended is what such lines begin with
 
@@ -137,12 +127,6 @@ begun_named old a name new1 new2 new3 p q r = r ∙ ap (λ x. x ++ codes "(") (q
     again : (old a name : Bytes) → ((old ++ a) ++ name) ++ codes "(" ≡ old ++ (a ++ name ++ codes "(")
     again old a name = simp append_assoc
 
--- what holds of the group that is found holds of the group of this number
-pub of_group : (m : Model) (number : ℕ) (found : CellGroup) → ((settings : Settings) → slice_get (groups (tree_of m settings)) number ≡ Some (group_of found)) → (P : Group → Type 0) → P (group_of found) → OfGroup m number P
-of_group m number found is P p settings g e =
-    let same : group_of found ≡ g = cc (is settings) in
-    subst P same p
-
 -- what stands behind what was there is what was appended
 pub appended_part : (now old new more : Bytes) (n : ℕ) → now ≡ new → n ≡ length old → new ≡ old ++ more → take (length now - n) (drop n now) ≡ more
 appended_part now old new more n is e h =
@@ -150,10 +134,23 @@ appended_part now old new more n is e h =
 
 -- ---- what is kept of a beginning
 
+group_at : (gs : List Group) (k : ℕ) → k < length gs → (g : Group) × (slice_get gs k ≡ Some g)
+group_at [] k h = absurd (omega arith)
+group_at (g ∷ gs) zero h = (g, refl)
+group_at (g ∷ gs) (suc k) h = group_at gs k (omega arith)
+
 -- a beginning of a group's lines, as the start tells it
-pub is_of_group : (m : Model) (s : Start) (time number : ℕ) (grid : Space) → IsStart m s → s.of ≡ Cells time number grid → OfGroup m number (IsOfGroup s.letter time grid s.text)
+pub is_of_group : (m : Model) (s : Start) (time number : ℕ) → IsStart m s → s.of ≡ Cells time number → OfGroup m number (IsOfGroup s.letter time s.text)
 unfolding IsStart
-is_of_group m s time number grid right is = subst (λ (b : Begins). IsBeginning m s.letter b s.text) is right
+is_of_group m s time number right is = subst (λ (b : Begins). IsBeginning m s.letter b s.text) is right
+
+-- the same, of a cell as the table has it
+pub kept_named : (m : Model) (s : Start) (ms time : ℕ) (c : CellAt) → IsNamed m c → IsStart m s → s.of ≡ Cells ms c.group → ms ≡ time → s.text ≡ begun s.letter time ++ c.name.now ++ codes "("
+kept_named m s ms time c named right is e =
+    let g = group_at (groups (tree_of m no_settings)) c.group named.there in
+    is_of_group m s ms c.group right is no_settings g.0 g.1
+    ∙ ap (λ (t : ℕ). begun s.letter t ++ g.0.name ++ codes "(") e
+    ∙ ap (λ (n : Bytes). begun s.letter time ++ n ++ codes "(") (sym (named.named no_settings g.0 g.1))
 
 -- nothing that is kept is right
 pub nothing_begun : (m : Model) (s : Start) → s.of ≡ Nothing → IsStart m s
@@ -178,32 +175,17 @@ joined_twice a b c = append_assoc a b c
 pub two_appended : (old new1 new2 a b : Bytes) → new1 ≡ old ++ a → new2 ≡ new1 ++ b → new2 ≡ old ++ (a ++ b)
 two_appended old new1 new2 a b p q = q ∙ ap (λ x. x ++ b) p ∙ joined_twice old a b
 
-group_at : (gs : List Group) (k : ℕ) → k < length gs → (g : Group) × (slice_get gs k ≡ Some g)
-group_at [] k h = absurd (omega arith)
-group_at (g ∷ gs) zero h = (g, refl)
-group_at (g ∷ gs) (suc k) h = group_at gs k (omega arith)
-
--- what holds of a group's space holds of the space that is found
-pub group_inside : (m : Model) (number cell : ℕ) (grid : Space) → number < length (groups (tree_of m no_settings)) → OfGroup m number (λ g. cell < cell_count g.space) → OfGroup m number (λ g. grid ≡ g.space) → cell < cell_count grid
-group_inside m number cell grid there inside same =
-    let g = group_at (groups (tree_of m no_settings)) number there in
-    subst (λ (s : Space). cell < cell_count s) (sym (same no_settings g.0 g.1)) (inside no_settings g.0 g.1)
-
-pub cell_appended : (old new1 new2 new3 start tail : Bytes) (cell : ℕ) (grid space : Space) → new1 ≡ old ++ start → new2 ≡ new1 ++ place_text grid cell → new3 ≡ new2 ++ tail → grid ≡ space → new3 ≡ old ++ ((start ++ place_text space cell) ++ tail)
-cell_appended old new1 new2 new3 start tail cell grid space a b c s =
-    c ∙ ap (λ (x : Bytes). x ++ tail) (b ∙ ap (λ (x : Bytes). x ++ place_text grid cell) a) ∙ four_joined old start (place_text grid cell) tail
-    ∙ ap (λ (x : Space). old ++ ((start ++ place_text x cell) ++ tail)) s
+pub cell_appended : (old new1 new2 new3 start place tail : Bytes) → new1 ≡ old ++ start → new2 ≡ new1 ++ place → new3 ≡ new2 ++ tail → new3 ≡ old ++ ((start ++ place) ++ tail)
+cell_appended old new1 new2 new3 start place tail a b c =
+    c ∙ ap (λ (x : Bytes). x ++ tail) (b ∙ ap (λ (x : Bytes). x ++ place) a) ∙ four_joined old start place tail
   where
     four_joined : (old a b c : Bytes) → ((old ++ a) ++ b) ++ c ≡ old ++ ((a ++ b) ++ c)
     four_joined old a b c = simp append_assoc
 
 -- the same, where it was written as one
-pub line_appended : (old new kept start short tail : Bytes) (cell : ℕ) (grid space : Space) → new ≡ old ++ (kept ++ (short ++ tail)) → kept ≡ start → place_text grid cell ≡ short → grid ≡ space → new ≡ old ++ ((start ++ place_text space cell) ++ tail)
-line_appended old new kept start short tail cell grid space h k p s =
-    h ∙ ap (λ (x : Bytes). old ++ x) (sym (append_assoc kept short tail))
-    ∙ ap (λ (x : Bytes). old ++ ((x ++ short) ++ tail)) k
-    ∙ ap (λ (x : Bytes). old ++ ((start ++ x) ++ tail)) (sym p)
-    ∙ ap (λ (x : Space). old ++ ((start ++ place_text x cell) ++ tail)) s
+pub line_appended : (old new kept short tail head : Bytes) → new ≡ old ++ (kept ++ (short ++ tail)) → kept ++ short ≡ head → new ≡ old ++ (head ++ tail)
+line_appended old new kept short tail head h k =
+    h ∙ ap (λ (x : Bytes). old ++ x) (sym (append_assoc kept short tail)) ∙ ap (λ (x : Bytes). old ++ (x ++ tail)) k
 
 -- what is right stays so where the text stays
 pub start_same : (m : Model) (s : Start) (text : Bytes) → text ≡ s.text → IsStart m s → IsStart m (record { letter = s.letter; of = s.of; text = text })

@@ -1,30 +1,29 @@
 // How lines begin. A refusal may leave more behind what was there.
-ghost use Rattle.std.specs.Prelude.{◌≡◌, ◌<◌, ◌++◌, codes, length, take, true, IfSome, IfOk, OnOk};
+ghost use Rattle.std.specs.Prelude.{◌≡◌, ◌<◌, ◌++◌, codes, length, take, true, IfSome, OnOk};
 ghost use Rattle.cell_grid.specs.Space.{cell_count};
-ghost use Rattle.model_tree.specs.Tree.{Group, Leaf, groups};
-ghost use Rattle.model_tree.specs.Models.{tree_of};
-ghost use Rattle.model_tree.specs.Leaves.{no_settings, Appends, IsLeafOf};
+ghost use Rattle.model_tree.specs.Tree.{Leaf};
+ghost use Rattle.model_tree.specs.Leaves.{Appends, IsLeafOf};
 ghost use Rattle.record_text.specs.declared.start.Begins.TheVariants.{Nothing, Boxes};
 ghost use Rattle.record_text.specs.declared.start.Begins.TheVariants.{Cells as cells};
 ghost use Rattle.model_tree.specs.declared.table.Model.{Model};
-ghost use Rattle.record_text.specs.Begun.{begun, cell_text, head_text, IsBeginning, IsStart, OfGroup};
+ghost use Rattle.record_text.specs.Begun.{begun, head_text, named_text, IsBeginning, IsNamed, IsStart};
+ghost use Rattle.record_text.specs.Placed.{IsShort, short_text};
 
 use crate::kept::Kept;
 use crate::pieces::{put, put_begun, put_leaf};
 use crate::place_text::{put_place, short_place};
 use crate::tail::Tail;
-use cell_grid::Grid;
-use model_tree::{CellGroup, LeafAt, Model};
-use quantity::{OutOfMemory, Time};
+use model_tree::{CellAt, Model};
+use quantity::{Name, OutOfMemory, Place, Time};
 use text_forms::Letter;
 
 /// Which lines begin with a text: none, those of boxes at an instant, or those of the cells of a
-/// group.
+/// group at an instant.
 #[derive(Clone, Copy)]
 pub(crate) enum Begins {
     Nothing,
     Boxes(u32),
-    Cells(u32, u32, Grid),
+    Cells(u32, u32),
 }
 
 /// What lines of a letter begin with: letter and time, and of cells the name of their group. It is
@@ -66,9 +65,9 @@ impl Start {
             OnOk result (Appends model.now leaf text into.old.items into.new.items) }
         ensures kept { take (length into.old.items) into.new.items ≡ into.old.items }
     {
-        match model.leaf_at(leaf) {
-            LeafAt::Atomic(_) => self.put_box(time, leaf, tail, model, into),
-            LeafAt::Cell { group, cell } => self.put_cell(time, group, cell, tail, model, into),
+        match model.cell_at(leaf) {
+            Some(cell) => self.put_cell(time, &cell, tail, into),
+            None => self.put_box(time, leaf, tail, model, into),
         }
     }
 
@@ -102,27 +101,37 @@ impl Start {
     fn put_cell(
         &mut self,
         time: Time,
-        group: u32,
-        cell: u32,
+        cell: &CellAt<'_>,
         tail: &Tail,
-        model: &Model,
         into: &mut Vec<u8>,
     ) -> Result<(), OutOfMemory>
-        requires group { group < length (groups (tree_of model.now no_settings)) }
-        requires cell { OfGroup model.now group (λ g. cell < cell_count g.space) }
-        requires right { IsStart model.now self.old }
-        ensures right { IsStart model.now self.new }
+        requires inside { cell.now.cell < cell_count cell.now.space.now }
+        ensures right { (m : Model) → IsNamed m cell.now → IsStart m self.old → IsStart m self.new }
         ensures letter { self.new.letter ≡ self.old.letter }
-        ensures ok { OnOk result (OfGroup model.now group (λ g. into.new.items
-            ≡ into.old.items ++ (cell_text self.old.letter time cell g ++ tail.now))) }
+        ensures ok { (m : Model) → IsNamed m cell.now → IsStart m self.old → OnOk result
+            (into.new.items ≡ into.old.items
+            ++ (named_text self.old.letter time cell.now ++ tail.now)) }
         ensures kept { take (length into.old.items) into.new.items ≡ into.old.items }
     {
-        let Some(grid) = self.grid_of(time.ms(), group) else {
-            return self.put_parts(time, group, cell, tail, model, into);
-        };
-        match short_place(&grid, cell) {
+        match self.place_of(time, cell) {
             Some(place) => self.text.put_line(&place, tail, into),
-            None => self.put_parts(time, group, cell, tail, model, into),
+            None => self.put_parts(time, cell, tail, into),
+        }
+    }
+
+    /// The place of a cell, where it is short and the text is what lines of the cell's group at
+    /// this instant begin with.
+    #[inline(always)]
+    fn place_of(&self, time: Time, cell: &CellAt<'_>) -> Option<Place>
+        requires inside { cell.now.cell < cell_count cell.now.space.now }
+        ensures short { IfSome result (λ place. IsShort place) }
+        ensures text { IfSome result (λ place. (m : Model) → IsNamed m cell.now → IsStart m self.now
+            → self.now.text ++ short_text place ≡ named_text self.now.letter time cell.now) }
+    {
+        if self.is_of_group(time.ms(), cell.group) {
+            short_place(cell.space, cell.cell)
+        } else {
+            None
         }
     }
 
@@ -131,91 +140,55 @@ impl Start {
     fn put_parts(
         &mut self,
         time: Time,
-        group: u32,
-        cell: u32,
+        cell: &CellAt<'_>,
         tail: &Tail,
-        model: &Model,
         into: &mut Vec<u8>,
     ) -> Result<(), OutOfMemory>
-        requires group { group < length (groups (tree_of model.now no_settings)) }
-        requires cell { OfGroup model.now group (λ g. cell < cell_count g.space) }
-        requires right { IsStart model.now self.old }
-        ensures right { IsStart model.now self.new }
+        requires inside { cell.now.cell < cell_count cell.now.space.now }
+        ensures right { (m : Model) → IsNamed m cell.now → IsStart m self.old → IsStart m self.new }
         ensures letter { self.new.letter ≡ self.old.letter }
-        ensures ok { OnOk result (OfGroup model.now group (λ g. into.new.items
-            ≡ into.old.items ++ (cell_text self.old.letter time cell g ++ tail.now))) }
+        ensures ok { (m : Model) → IsNamed m cell.now → IsStart m self.old → OnOk result
+            (into.new.items ≡ into.old.items
+            ++ (named_text self.old.letter time cell.now ++ tail.now)) }
         ensures kept { take (length into.old.items) into.new.items ≡ into.old.items }
     {
-        let grid = self.begin_cell(time, group, model, into)?;
-        put_place(&grid, cell, into)?;
+        self.begin_cell(time, cell, into)?;
+        put_place(cell.space, cell.cell, into)?;
         put(tail.as_bytes(), into)
     }
 
-    /// Appends letter and time of a line of a cell, and its group's name. The answer is the group's
-    /// space.
+    /// Appends letter and time of a line of a cell, and its group's name.
     fn begin_cell(
         &mut self,
         time: Time,
-        group: u32,
-        model: &Model,
+        cell: &CellAt<'_>,
         into: &mut Vec<u8>,
-    ) -> Result<Grid, OutOfMemory>
-        requires group { group < length (groups (tree_of model.now no_settings)) }
-        requires right { IsStart model.now self.old }
-        ensures right { IsStart model.now self.new }
+    ) -> Result<(), OutOfMemory>
+        ensures right { (m : Model) → IsNamed m cell.now → IsStart m self.old → IsStart m self.new }
         ensures letter { self.new.letter ≡ self.old.letter }
-        ensures ok { OnOk result (OfGroup model.now group (λ g. into.new.items ≡ into.old.items
-            ++ (begun self.old.letter time ++ g.name ++ codes "("))) }
-        ensures space { IfOk result (λ grid. OfGroup model.now group (λ g. grid ≡ g.space)) }
+        ensures ok { (m : Model) → IsNamed m cell.now → IsStart m self.old → OnOk result
+            (into.new.items ≡ into.old.items
+            ++ (begun self.old.letter time ++ cell.now.name.now ++ codes "(")) }
         ensures kept { take (length into.old.items) into.new.items ≡ into.old.items }
     {
-        match self.grid_of(time.ms(), group) {
-            Some(grid) => {
-                put(self.text.as_bytes(), into)?;
-                Ok(grid)
-            }
-            None => self.make_cell(time, group, model, into),
+        if self.is_of_group(time.ms(), cell.group) {
+            return put(self.text.as_bytes(), into);
         }
-    }
-
-    /// The space of this group, where the text is what lines of its cells at this instant begin
-    /// with.
-    #[inline(always)]
-    fn grid_of(&self, time: u32, group: u32) -> Option<Grid>
-        ensures { IfSome result (λ grid. self.now.of ≡ cells time group grid) }
-    {
-        let Begins::Cells(of_time, of_group, grid) = self.of else {
-            return None;
-        };
-        if of_time == time && of_group == group {
-            Some(grid)
-        } else {
-            None
-        }
-    }
-
-    /// Appends and keeps what lines of the cells of a group begin with.
-    fn make_cell(
-        &mut self,
-        time: Time,
-        group: u32,
-        model: &Model,
-        into: &mut Vec<u8>,
-    ) -> Result<Grid, OutOfMemory>
-        requires group { group < length (groups (tree_of model.now no_settings)) }
-        requires right { IsStart model.now self.old }
-        ensures right { IsStart model.now self.new }
-        ensures letter { self.new.letter ≡ self.old.letter }
-        ensures ok { OnOk result (OfGroup model.now group (λ g. into.new.items ≡ into.old.items
-            ++ (begun self.old.letter time ++ g.name ++ codes "("))) }
-        ensures space { IfOk result (λ grid. OfGroup model.now group (λ g. grid ≡ g.space)) }
-        ensures kept { take (length into.old.items) into.new.items ≡ into.old.items }
-    {
-        let found = model.group(group);
         let before = into.len();
-        put_group_begun(self.letter, time, found, into)?;
-        self.keep(Begins::Cells(time.ms(), group, found.grid), &into[before..]);
-        Ok(found.grid)
+        put_group_begun(self.letter, time, cell.name, into)?;
+        self.keep(Begins::Cells(time.ms(), cell.group), &into[before..]);
+        Ok(())
+    }
+
+    /// Whether the text is what lines of the cells of this group at this instant begin with.
+    #[inline(always)]
+    fn is_of_group(&self, time: u32, group: u32) -> bool
+        ensures { result ≡ true → self.now.of ≡ cells time group }
+    {
+        match self.of {
+            Begins::Cells(of_time, of_group) => of_time == time && of_group == group,
+            _ => false,
+        }
     }
 
     /// Appends and keeps what lines of boxes begin with, where the text isn't that.
@@ -263,14 +236,14 @@ impl Start {
 fn put_group_begun(
     letter: Letter,
     time: Time,
-    group: &CellGroup,
+    name: &Name,
     into: &mut Vec<u8>,
 ) -> Result<(), OutOfMemory>
     ensures ok { OnOk result (into.new.items
-        ≡ into.old.items ++ (begun letter time ++ group.now.name ++ codes "(")) }
+        ≡ into.old.items ++ (begun letter time ++ name.now ++ codes "(")) }
     ensures kept { take (length into.old.items) into.new.items ≡ into.old.items }
 {
     put_begun(letter, time, into)?;
-    put(group.name.as_bytes(), into)?;
+    put(name.as_bytes(), into)?;
     put(b"(", into)
 }

@@ -3,5 +3,4 @@ pub mod Moving
 pub mod Watching
 pub mod Saved
 pub mod Placed
-pub mod Grouped
 pub mod Waiting

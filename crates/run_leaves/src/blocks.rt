@@ -5,7 +5,7 @@ ghost use Rattle.std.specs.List.{All};
 ghost use Rattle.model_tree.specs.Stands.{group_of};
 ghost use Rattle.model_tree.specs.Leaves.{AtLeaf, IsLeafOf, OfTree};
 ghost use Rattle.sparse_cycle.specs.Collect.{is_among};
-ghost use Rattle.run_leaves.specs.Grouped.{AreGroupsOf};
+ghost use Rattle.model_tree.specs.Grouped.{AreGroupsOf};
 ghost use Rattle.run_leaves.specs.Watching.{watches_in, end_of, block_of, IsSeatOf, AreSeated};
 
 use cell_reach::Reach;

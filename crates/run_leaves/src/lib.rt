@@ -13,7 +13,6 @@
 mod blocks;
 mod boxes;
 mod cells;
-mod gathered;
 pub mod leaves;
 mod names;
 mod start;

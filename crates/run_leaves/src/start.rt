@@ -2,7 +2,6 @@
 ghost use Rattle.std.specs.Prelude.{◌≡◌, ◌++◌, [], ◌∷◌, IfOk, OnOk};
 ghost use Rattle.run_leaves.specs.Placed.{ArePlacesOf, AreStoresOf, HasSoundGroups};
 
-use crate::gathered::groups_of;
 use cell_engine::CellStore;
 use model_tree::{LeafAt, Model as Tree};
 use quantity::OutOfMemory;
@@ -32,7 +31,7 @@ pub(crate) fn stores_of(alloc: Global, model: &Tree) -> Result<Vec<CellStore>, O
     requires { HasSoundGroups model.now }
     ensures { IfOk result (λ stores. AreStoresOf model.now stores.items) }
 {
-    let groups = groups_of(alloc, model)?;
+    let groups = model.all_groups(alloc)?;
     let mut stores = Vec::with_capacity(alloc, groups.len())?;
     for group in &groups {
         let store = CellStore::new(alloc, group)?;

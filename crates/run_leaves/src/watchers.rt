@@ -3,7 +3,6 @@ ghost use Rattle.std.specs.Prelude.{◌≡◌, ◌++◌, [], ◌∷◌, IfOk, On
 ghost use Rattle.model_tree.specs.Leaves.{OfTree};
 
 use crate::blocks::{Block, seat_at};
-use crate::gathered::groups_of;
 use cycle_steps::wake::Watched;
 use model_tree::Model as Tree;
 use quantity::OutOfMemory;
@@ -38,7 +37,7 @@ impl Watchers {
     pub fn new(alloc: Global, model: &Tree) -> Result<Watchers, OutOfMemory>
         ensures { IfOk result (λ w. OfTree model.now (λ tree. IsWatchingOf tree w)) }
     {
-        let groups = groups_of(alloc, model)?;
+        let groups = model.all_groups(alloc)?;
         let mut seats = Vec::new(alloc);
         let mut blocks = Vec::new(alloc);
         for leaf in 0..model.leaves() {

@@ -1,8 +1,9 @@
 // How many ports and variables the cells of a model have, group by group.
-ghost use Rattle.std.specs.Prelude.{IfOk};
-ghost use Rattle.state_lines.specs.Sizes.{AreSizesOf};
+ghost use Rattle.std.specs.Prelude.{◌≡◌, IfOk};
+ghost use Rattle.model_tree.specs.Stands.{group_of};
+ghost use Rattle.state_lines.specs.Sizes.{AreSizesOf, size_of};
 
-use model_tree::Model;
+use model_tree::{CellGroup, Model};
 use quantity::OutOfMemory;
 use std::alloc::{AllocError, Global};
 
@@ -13,19 +14,23 @@ pub struct CellSize {
     pub variables: usize,
 }
 
-/// The sizes of all groups, by their numbers. Each group is asked for once, as that goes down the
-/// model.
+/// The sizes of all groups, by their numbers.
 pub fn cell_sizes(alloc: Global, model: &Model) -> Result<Vec<CellSize>, OutOfMemory>
     ensures { IfOk result (λ sizes. AreSizesOf model.now sizes.items) }
 {
+    let groups = model.all_groups(alloc)?;
     let mut sizes = Vec::new(alloc);
-    for number in 0..model.groups() {
-        let group = model.group(number);
-        let size = CellSize {
-            ports: group.ports.len() + 1,
-            variables: group.variables.len(),
-        };
-        sizes.push(size).map_err(AllocError::from)?;
+    for group in &groups {
+        sizes.push(size_of(group)).map_err(AllocError::from)?;
     }
     Ok(sizes)
+}
+
+fn size_of(group: &CellGroup) -> CellSize
+    ensures { result ≡ size_of (group_of group.now) }
+{
+    CellSize {
+        ports: group.ports.len() + 1,
+        variables: group.variables.len(),
+    }
 }

@@ -12,10 +12,10 @@ returns-in_err-put-clause-kept c =
 pub returns-clause-ok : goal.returns-clause-ok
 returns-clause-ok c =
     on_ok c.put-2.result _ _ (λ last.
-    begun_named c.args.into.now.items (begun c.args.letter c.args.time) c.args.group.now.name
+    begun_named c.args.into.now.items (begun c.args.letter c.args.time) c.args.name.now
     c.put_begun.new.into.items c.put.new.into.items c.put-2.new.into.items
     c.in_ok-put_begun.ensures.ok
-    (then_more c.put_begun.new.into.items c.put.new.into.items c.args.group.now.name
+    (then_more c.put_begun.new.into.items c.put.new.into.items c.args.name.now
     c.as_bytes.result.now c.in_ok-put.ensures.ok (sym c.as_bytes.ensures.bytes))
     last) c.put-2.ensures.ok
 

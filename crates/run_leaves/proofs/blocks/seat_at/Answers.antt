@@ -7,7 +7,7 @@ use Rattle.model_tree.specs.Leaves.{no_settings}
 use Rattle.model_tree.proofs.Read.{leaf-there}
 use Rattle.run_leaves.specs.declared.blocks.Block.{Block}
 use Rattle.run_leaves.specs.Watching.{block_of, IsSeatOf, AreSeated}
-use Rattle.run_leaves.proofs.Grouping.{as-many, group-at}
+use Rattle.model_tree.proofs.Grouping.{as-many, group-at}
 use Rattle.run_leaves.proofs.Seats.{seated-begun, box-seat, group-within, some-before, first-seat, next-seat}
 use Rattle.run_leaves.proofs.blocks.seat_at.Goals as goal
 

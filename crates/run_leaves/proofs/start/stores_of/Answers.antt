@@ -4,10 +4,10 @@ use Rattle.model_tree.specs.Models.{tree_of}
 use Rattle.model_tree.specs.Stands.{group_of}
 use Rattle.model_tree.specs.Leaves.{no_settings}
 use Rattle.cell_engine.specs.Cells.{Cells}
-use Rattle.run_leaves.specs.Grouped.{groups_shown}
+use Rattle.model_tree.specs.Grouped.{groups_shown}
 use Rattle.run_leaves.specs.Placed.{IsStoreOf, StoreGroups}
 use Rattle.run_leaves.proofs.Joined.{each-more}
-use Rattle.run_leaves.proofs.Grouping.{as-many, group-at}
+use Rattle.model_tree.proofs.Grouping.{as-many, group-at}
 use Rattle.run_leaves.proofs.start.stores_of.Goals as goal
 
 pub new-requires : goal.new-requires

@@ -1,21 +1,30 @@
-use Rattle.std.proofs.Common.{rules, ◌≡◌, ◌+◌, ◌∙◌, suc, arith, length}
+use Rattle.std.proofs.Common.{◌≤◌, ◌∙◌, ap, arith, length, map, rules}
+use Rattle.std.proofs.lemmas.List.{length-map, take_all}
+use Rattle.model_tree.specs.Grouped.{groups_shown}
 use Rattle.model_tree.specs.Tree.{groups}
 use Rattle.model_tree.specs.Models.{tree_of}
 use Rattle.model_tree.specs.Stands.{group_of}
+use Rattle.model_tree.proofs.Grouping.{as-many, group-at}
+use Rattle.state_lines.specs.Sizes.{size_of}
 use Rattle.state_lines.proofs.GroupSizes.{one_more_size}
 use Rattle.state_lines.proofs.sizes.cell_sizes.Goals as goal
 
-pub loop-number-preserved : goal.loop-number-preserved
-loop-number-preserved c =
-    let g = c.group-group.result.now in
-    let ports : c.len.result + 1 ≡ suc (length g.ports.items) =
-    omega (arith, c.len.ensures, g.ports.ok.0) in
-    let variables : c.len-in-loop-number.result ≡ length g.variables.items =
-    c.len-in-loop-number.ensures ∙ g.variables.ok.0 in
-    λ settings.
-    one_more_size (groups (tree_of c.args.model.now settings)) c.loop-number.sizes.items
-    c.push.new.self.items c.loop-number.number (group_of g)
-    (record { ports = c.len.result + 1; variables = c.len-in-loop-number.result })
-    (c.loop-number.invariant settings) (c.group-group.ensures settings)
-    (λ i. record { ports = ports i; variables = variables i })
-    (search rules)
+pub loop-group-preserved : goal.loop-group-preserved
+loop-group-preserved c = λ settings.
+    let gs = groups (tree_of c.args.model.now settings) in
+    one_more_size gs c.loop-group.sizes.items c.push.new.self.items c.loop-group.group-index
+    (group_of c.group-item.result.now) c.size_of.result (c.loop-group.invariant settings)
+    (group-at c.deref-group-items.result.now gs c.loop-group.group-index c.group-item.result
+    (ap groups_shown c.deref-group-items.ensures.value ∙ c.in_ok-groups.ensures settings)
+    c.loop-group-test.true c.group-item.is)
+    c.size_of.ensures (search rules)
+
+pub returns : goal.returns
+returns c = λ settings.
+    let gs = groups (tree_of c.args.model.now settings) in
+    let many = as-many c.deref-group-items.result.now gs
+    (ap groups_shown c.deref-group-items.ensures.value ∙ c.in_ok-groups.ensures settings) in
+    let past = c.loop-group-test.false in
+    let behind : length (map size_of gs) ≤ c.loop-group.group-index =
+    omega (arith, many, past, length-map gs size_of) in
+    c.loop-group.invariant settings ∙ take_all c.loop-group.group-index (map size_of gs) behind

@@ -2,7 +2,7 @@ use Rattle.std.proofs.Common.{◌≡◌, ◌+◌, Option, List, [], ◌∷◌, l
 use Rattle.model_tree.specs.Tree.{leaf_count}
 use Rattle.model_tree.specs.Models.{tree_of}
 use Rattle.model_tree.specs.Leaves.{no_settings, OfTree}
-use Rattle.run_leaves.specs.Grouped.{groups_shown}
+use Rattle.model_tree.specs.Grouped.{groups_shown}
 use Rattle.run_leaves.specs.Watching.{AreSeated}
 use Rattle.run_leaves.proofs.Seats.{seated-more}
 use Rattle.run_leaves.proofs.WhoWatches.{is-watching, stand-in-blocks}

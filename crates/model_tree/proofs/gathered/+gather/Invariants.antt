@@ -1,7 +1,7 @@
 use Rattle.std.proofs.Common.{◌≡◌, ◌++◌, ℕ, List, ℤ, take}
 use Rattle.model_tree.specs.Nth.{groups_of_all}
-use Rattle.run_leaves.specs.Grouped.{groups_shown}
-use Rattle.run_leaves.proofs.gathered.+gather.Given as goal
+use Rattle.model_tree.specs.Grouped.{groups_shown}
+use Rattle.model_tree.proofs.gathered.+gather.Given as goal
 
 abbrev pub invariant-gather_all-loop-child : goal.invariant-gather_all-loop-child
 invariant-gather_all-loop-child l =

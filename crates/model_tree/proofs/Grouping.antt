@@ -8,7 +8,7 @@ use Rattle.model_tree.specs.declared.component.Component.{Component}
 use Rattle.model_tree.specs.declared.group.CellGroup.{CellGroup}
 use Rattle.model_tree.specs.Tree.{Group}
 use Rattle.model_tree.specs.Stands.{group_of}
-use Rattle.run_leaves.specs.Grouped.{groups_shown}
+use Rattle.model_tree.specs.Grouped.{groups_shown}
 
 -- the group of a number
 pub group-at : (rs : List (Bor CellGroup)) (gs : List Group) (k : ℕ) (r : Bor CellGroup) → groups_shown rs ≡ gs → k < length rs → r ≡ get_or rs k r → slice_get gs k ≡ Some (group_of r.now)

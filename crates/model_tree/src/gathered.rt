@@ -1,24 +1,15 @@
-// The groups of a model, found in one walk: `Model::group` looks for one alone.
-ghost use Rattle.std.specs.Prelude.{◌≡◌, ◌++◌, [], ◌∷◌, ℕ, ℤ, List, IfOk, OnOk};
+// The groups of components, found in one walk.
+ghost use Rattle.std.specs.Prelude.{◌≡◌, ◌++◌, [], ◌∷◌, ℕ, ℤ, List, OnOk};
 ghost use Rattle.model_tree.specs.Tree.{groups};
 ghost use Rattle.model_tree.specs.Stands.{group_of};
 ghost use Rattle.model_tree.specs.Causes.{OfComponent};
 ghost use Rattle.model_tree.specs.Nth.{groups_of_all};
-ghost use Rattle.run_leaves.specs.Grouped.{AreGroupsOf, groups_shown};
+ghost use Rattle.model_tree.specs.Grouped.{groups_shown};
 
-use model_tree::{CellGroup, Component, Model as Tree};
+use crate::component::Component;
+use crate::group::CellGroup;
 use quantity::OutOfMemory;
-use std::alloc::{AllocError, Global};
-
-/// The groups of a model, by their numbers. It goes through the components once.
-pub(crate) fn groups_of(alloc: Global, model: &Tree) -> Result<Vec<&CellGroup>, OutOfMemory>
-    ensures { IfOk result (λ found. AreGroupsOf model.now found.items) }
-{
-    let mut found = Vec::new(alloc);
-    let top = model.top();
-    gather_all(&top.children, &mut found)?;
-    Ok(found)
-}
+use std::alloc::AllocError;
 
 /// The groups of a component, behind the others.
 #[cycle(gather)]
@@ -33,9 +24,9 @@ fn gather<'a>(component: &'a Component, found: &mut Vec<&'a CellGroup>) -> Resul
     }
 }
 
-/// The groups of some components.
+/// The groups of some components, behind the others.
 #[cycle(gather)]
-fn gather_all<'a>(
+pub(crate) fn gather_all<'a>(
     children: &'a [Component],
     found: &mut Vec<&'a CellGroup>,
 ) -> Result<(), OutOfMemory>

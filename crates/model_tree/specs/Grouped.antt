@@ -1,4 +1,4 @@
--- The groups of a model, lent in a list. Only private clauses name this.
+-- The groups of a model, lent in a list.
 use Rattle.std.specs.Prelude.{◌≡◌, List, map}
 use Rattle.std.specs.Borrow.{Bor}
 use Rattle.model_tree.specs.declared.group.CellGroup.{CellGroup}

@@ -5,9 +5,9 @@ use Rattle.model_tree.specs.Tree.{Group, groups}
 use Rattle.model_tree.specs.Stands.{part_of}
 use Rattle.model_tree.specs.Nth.{groups_of_all}
 use Rattle.model_tree.proofs.Rows.{groups-Coupled}
-use Rattle.run_leaves.specs.Grouped.{groups_shown}
-use Rattle.run_leaves.proofs.Grouping.{all-groups, more-groups}
-use Rattle.run_leaves.proofs.gathered.+gather.Goals as goal
+use Rattle.model_tree.specs.Grouped.{groups_shown}
+use Rattle.model_tree.proofs.Grouping.{all-groups, more-groups}
+use Rattle.model_tree.proofs.gathered.+gather.Goals as goal
 
 pub gather-returns-in-Coupled : goal.gather-returns-in-Coupled
 gather-returns-in-Coupled t c =
