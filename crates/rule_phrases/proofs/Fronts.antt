@@ -9,8 +9,8 @@ use Rattle.quantity.specs.declared.value.Value.{Value}
 use Rattle.quantity.specs.declared.value.Value.TheVariants.{Undefined, Num}
 use Rattle.quantity.specs.Written.{for_some}
 use Rattle.rule_tree.specs.declared.node.Count.{Count}
-use Rattle.rule_terms.specs.declared.front.Front.{Front}
-use Rattle.rule_terms.specs.declared.term.Term.{Term}
+use Rattle.rule_phrases.specs.declared.front.Front.{Front}
+use Rattle.rule_phrases.specs.declared.term.Term.{Term}
 use Rattle.rule_tree.specs.Scope.{Names}
 use Rattle.rule_words.specs.Tokens.{Token, word, number, mark, is_word}
 use Rattle.rule_words.specs.declared.token.Token as T
@@ -21,7 +21,7 @@ use Rattle.rule_words.specs.Reading.{Part, question_before}
 use Rattle.rule_words.specs.Descent.{atom_before, port_value_before, word_before}
 use Rattle.rule_words.specs.AtomParts.{after_mark, after_word, behind_this_port}
 use Rattle.rule_words.specs.Shown.{tokens_of}
-use Rattle.rule_terms.specs.Terms.{IsTerm, IsFront, Stands}
+use Rattle.rule_phrases.specs.Terms.{IsTerm, IsFront, Stands}
 use Rattle.rule_words.proofs.Sound.{none_some, some_same, same_bytes, then_is}
 use Rattle.rule_words.proofs.CellPieces.{on_is, after_is}
 

@@ -1,3 +1,5 @@
+pub mod Terms
+pub mod Places
 mod Numbers
 pub mod Edges
 pub mod Apart

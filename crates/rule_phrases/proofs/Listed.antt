@@ -5,8 +5,8 @@ use Rattle.std.specs.Prelude.{codes, if◌then◌else◌, ◌==◌}
 use Rattle.std.specs.Option.{option_map}
 use Rattle.std.specs.Bool.{then_some}
 use Rattle.quantity.specs.Bytes.{Bytes}
-use Rattle.rule_terms.specs.declared.term.Term.{Term}
-use Rattle.rule_terms.specs.declared.front.Front.{Front}
+use Rattle.rule_phrases.specs.declared.term.Term.{Term}
+use Rattle.rule_phrases.specs.declared.front.Front.{Front}
 use Rattle.rule_phrases.specs.declared.between.Arguments.{Arguments}
 use Rattle.rule_tree.specs.declared.function.Function.{Function}
 use Rattle.rule_words.specs.Tokens.{Token, is_mark}
@@ -18,7 +18,7 @@ use Rattle.rule_words.specs.Descent.{Reader, then_on, closed, listed, list_befor
 use Rattle.rule_words.specs.AtomParts.{after_mark}
 use Rattle.rule_phrases.specs.Between.{AreArguments, called_before}
 use Rattle.rule_words.specs.Shown.{tokens_of}
-use Rattle.rule_terms.specs.Terms.{Stands, AllStand, IsFront}
+use Rattle.rule_phrases.specs.Terms.{Stands, AllStand, IsFront}
 
 -- terms are the phrases that were read so far
 pub record Listing (names : Names) (read : Reader) (all : Part (List Phrase)) (terms : List Term) (rest : List Token) : Type 0 where

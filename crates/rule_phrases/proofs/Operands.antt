@@ -2,8 +2,8 @@
 use Rattle.std.proofs.Common.{◌≡◌, ◌<◌, ◌≤◌, ◌+◌, ℕ, zero, suc, Option, Some, None, List, [], ◌∷◌, length, refl, sym, ap, subst, ◌∙◌, arith}
 use Rattle.std.specs.Option.{option_map}
 use Rattle.rule_tree.specs.declared.node.Binary.{Binary}
-use Rattle.rule_terms.specs.declared.term.Term.{Term}
-use Rattle.rule_terms.specs.declared.front.Front.{Front}
+use Rattle.rule_phrases.specs.declared.term.Term.{Term}
+use Rattle.rule_phrases.specs.declared.front.Front.{Front}
 use Rattle.rule_words.specs.Tokens.{Token}
 use Rattle.rule_tree.specs.Phrases as P
 use Rattle.rule_tree.specs.Phrases.{Phrase, Level}
@@ -14,7 +14,7 @@ use Rattle.rule_phrases.specs.Between.{operator_before, most_operators, operands
 use Rattle.rule_words.specs.Shown.{level_of, tokens_of}
 use Rattle.rule_words.specs.declared.level.Level as L
 use Rattle.rule_words.specs.declared.level.Level.TheVariants.{Expression, Disjunction, Conjunction, Negation, Comparison, Sum, Product, Signed, Primary}
-use Rattle.rule_terms.specs.Terms.{Stands, IsFront}
+use Rattle.rule_phrases.specs.Terms.{Stands, IsFront}
 
 -- how many operators join operands: a comparison is joined to no other
 pub one_operator : (l : L.Level) (n : ℕ) → l ≡ Comparison → 1 ≡ most_operators (level_of l) n

@@ -1,8 +1,8 @@
 -- An operand behind signs.
 use Rattle.std.proofs.Common.{◌≡◌, Option, Some, None, List, [], ◌∷◌, ◌++◌, refl, sym, ap, subst, ◌∙◌}
 use Rattle.rule_tree.specs.declared.node.Unary.{Unary}
-use Rattle.rule_terms.specs.declared.term.Term.{Term}
-use Rattle.rule_terms.specs.declared.front.Front.{Front}
+use Rattle.rule_phrases.specs.declared.term.Term.{Term}
+use Rattle.rule_phrases.specs.declared.front.Front.{Front}
 use Rattle.rule_words.specs.Tokens.{Token}
 use Rattle.rule_tree.specs.Phrases as P
 use Rattle.rule_tree.specs.Phrases.{Phrase}
@@ -10,7 +10,7 @@ use Rattle.rule_tree.specs.Scope.{Names}
 use Rattle.rule_words.specs.Reading.{Part}
 use Rattle.rule_words.specs.Descent.{Reader, mapped, prefixed}
 use Rattle.rule_phrases.specs.Between.{signs_before, behind_signs, with_signs}
-use Rattle.rule_terms.specs.Terms.{Stands, IsFront}
+use Rattle.rule_phrases.specs.Terms.{Stands, IsFront}
 use Rattle.rule_words.specs.Shown.{tokens_of}
 
 -- a term is a phrase but for these signs before it

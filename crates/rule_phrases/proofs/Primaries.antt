@@ -4,7 +4,7 @@ use Rattle.std.specs.Option.{option_or}
 use Rattle.rule_words.specs.declared.level.Level as L
 use Rattle.rule_words.specs.declared.level.Level.TheVariants.{Expression, Disjunction, Conjunction, Negation, Comparison, Sum, Product, Signed, Primary}
 use Rattle.rule_tree.specs.declared.function.Function.{Function}
-use Rattle.rule_terms.specs.declared.front.Front.{Front}
+use Rattle.rule_phrases.specs.declared.front.Front.{Front}
 use Rattle.rule_words.specs.Tokens.{Token}
 use Rattle.rule_tree.specs.Phrases.{Level, Phrase, expr, disj, conj, neg, comp, sum, prod, signed, primary, tighter}
 use Rattle.rule_tree.specs.Scope.{Names}
@@ -15,7 +15,7 @@ use Rattle.rule_words.specs.Shown.{level_of, token_of, tokens_of}
 use Rattle.rule_words.specs.declared.token.Token as T
 use Rattle.std.proofs.lemmas.List.{length-map}
 use Rattle.std.specs.Option.{IfSome}
-use Rattle.rule_terms.specs.Terms.{IsFront}
+use Rattle.rule_phrases.specs.Terms.{IsFront}
 
 -- how many levels are tighter
 abbrev pub tighter_than : Level → ℕ

@@ -4,15 +4,15 @@ use Rattle.std.specs.Prelude.{◌==◌}
 use Rattle.std.specs.Bool.{then_some}
 use Rattle.std.proofs.Math.Dec.{eqb-suc-zero}
 use Rattle.quantity.specs.Bytes.{is_empty}
-use Rattle.rule_terms.specs.declared.front.Front.{Front}
-use Rattle.rule_terms.specs.declared.term.Term.{Term}
+use Rattle.rule_phrases.specs.declared.front.Front.{Front}
+use Rattle.rule_phrases.specs.declared.term.Term.{Term}
 use Rattle.rule_words.specs.declared.token.Token as T
 use Rattle.rule_tree.specs.Phrases.{Phrase, expr}
 use Rattle.rule_tree.specs.Scope.{Names}
 use Rattle.rule_words.specs.Reading.{Part, phrase_of}
 use Rattle.rule_words.specs.Descent.{at_level, reading, whole}
 use Rattle.rule_words.specs.Shown.{tokens_of}
-use Rattle.rule_terms.specs.Terms.{IsFront, IsTerm}
+use Rattle.rule_phrases.specs.Terms.{IsFront, IsTerm}
 use Rattle.rule_phrases.proofs.Primaries.{tokens_length}
 use Rattle.rule_phrases.proofs.Descended.{reading_is_phrase}
 

@@ -15,7 +15,7 @@ use Rattle.rule_tree.specs.Scope.{Names}
 use Rattle.rule_words.specs.Reading.{Part, operator_in, called}
 use Rattle.rule_words.specs.Descent.{Reader, then_on, joined, closed, not_in, sign_in}
 use Rattle.rule_words.specs.Shown.{tokens_of}
-use Rattle.rule_terms.specs.Terms.{AllStand}
+use Rattle.rule_phrases.specs.Terms.{AllStand}
 
 -- a number without a sign, and the tokens behind it; only private clauses name this
 abbrev pub unsigned_before : List Token → Part Value

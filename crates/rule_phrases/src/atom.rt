@@ -12,13 +12,13 @@ ghost use Rattle.rule_tree.specs.Phrases.{looked_up};
 ghost use Rattle.rule_words.specs.Reading.{block, cell_before, cell_phrase_before, constants};
 ghost use Rattle.rule_words.specs.Reading.{number_before, question_before, word_phrase};
 ghost use Rattle.rule_words.specs.Shown.{cell_of, names_of, text_of, token_of, tokens_of};
-ghost use Rattle.rule_terms.specs.Terms.{IsFront, IsTerm};
+ghost use Rattle.rule_phrases.specs.Terms.{IsFront, IsTerm};
 ghost use Rattle.rule_words.specs.Tokens as T;
 ghost use Rattle.rule_words.specs.Tokens.{is_mark};
 
+use crate::front::Front;
+use crate::term::Term;
 use quantity::{Tri, Value};
-use rule_terms::front::Front;
-use rule_terms::term::Term;
 use rule_tree::Function;
 use rule_words::cell::{WrittenCell, after_mark, place_before, port_before};
 use rule_words::names::Names;

@@ -7,11 +7,11 @@ ghost use Rattle.rule_phrases.specs.Between.{signs_before, with_signs};
 ghost use Rattle.rule_tree.specs.Phrases.{tighter};
 ghost use Rattle.rule_words.specs.Descent.{closed, then_on};
 ghost use Rattle.rule_words.specs.Shown.{level_of, token_of, tokens_of};
-ghost use Rattle.rule_terms.specs.Terms.{IsFront, Stands};
+ghost use Rattle.rule_phrases.specs.Terms.{IsFront, Stands};
 
+use crate::front::Front;
+use crate::term::Term;
 use quantity::OutOfMemory;
-use rule_terms::front::Front;
-use rule_terms::term::Term;
 use rule_tree::{Binary, Function, Unary};
 use rule_words::cell::after_mark;
 use rule_words::level::Level;

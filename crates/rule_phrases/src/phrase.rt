@@ -7,16 +7,16 @@ ghost use Rattle.rule_words.specs.Descent.{prefixed, primary_before, reading};
 ghost use Rattle.rule_tree.specs.Phrases.{expr};
 ghost use Rattle.rule_words.specs.Reading.{phrase_of};
 ghost use Rattle.rule_words.specs.Shown.{level_of, names_of, tokens_of};
-ghost use Rattle.rule_terms.specs.Terms.{IsFront, IsTerm};
+ghost use Rattle.rule_phrases.specs.Terms.{IsFront, IsTerm};
 
 use crate::atom::{atom_before, opening_before};
 use crate::between::{
     Arguments, called, closed, most_operators, operand_level, operator_before, push, signs_before,
     with_signs,
 };
+use crate::front::Front;
+use crate::term::Term;
 use quantity::OutOfMemory;
-use rule_terms::front::Front;
-use rule_terms::term::Term;
 use rule_tree::Function;
 use rule_words::cell::after_mark;
 use rule_words::level::Level;

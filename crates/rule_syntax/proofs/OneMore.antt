@@ -10,11 +10,11 @@ use Rattle.rule_syntax.specs.RulesRead.{AreNamed, is_number, named_for, names_fo
 use Rattle.rule_tree.specs.Scope.{Names, Named, named_in}
 use Rattle.rule_tree.specs.declared.function.Sort.TheVariants.{Number}
 use Rattle.rule_tree.specs.Sound.{is_sort}
-use Rattle.rule_terms.specs.Terms.{Misses, Stands}
+use Rattle.rule_phrases.specs.Terms.{Misses, Stands}
 use Rattle.rule_syntax.specs.declared.named.Kind.{Kind}
 use Rattle.rule_syntax.specs.declared.named.NamedValue.{NamedValue}
 use Rattle.rule_syntax.specs.declared.named.NamedValues.{NamedValues}
-use Rattle.rule_terms.specs.declared.term.Term.{Term}
+use Rattle.rule_phrases.specs.declared.term.Term.{Term}
 
 -- ---- lists with one more at the end
 

@@ -18,17 +18,17 @@ use Rattle.rule_tree.specs.Scope.{Names, named_by, numbered}
 use Rattle.rule_words.specs.Shown.{token_of, tokens_of}
 use Rattle.rule_tree.specs.declared.function.Sort.TheVariants.{Number, Truth}
 use Rattle.rule_tree.specs.Sound.{is_sort, sort_of}
-use Rattle.rule_terms.specs.Terms.{IsFront, IsTerm, Misses, Stands}
+use Rattle.rule_phrases.specs.Terms.{IsFront, IsTerm, Misses, Stands}
 use Rattle.rule_words.specs.Tokens.{Token, is_mark}
 use Rattle.rule_syntax.specs.declared.assigned.NamedFront.{NamedFront}
-use Rattle.rule_terms.specs.declared.front.Front.{Front}
+use Rattle.rule_phrases.specs.declared.front.Front.{Front}
 use Rattle.rule_syntax.specs.declared.named.Kind.{Kind}
 use Rattle.rule_syntax.specs.declared.named.Kind.TheVariants.{Port, Variable}
 use Rattle.rule_syntax.specs.declared.named.NamedValue.{NamedValue}
 use Rattle.rule_syntax.specs.declared.named.NamedValues.{NamedValues}
 use Rattle.rule_tree.specs.declared.node.Give.{Give}
 use Rattle.rule_tree.specs.declared.node.SetVariable.{SetVariable}
-use Rattle.rule_terms.specs.declared.term.Term.{Term}
+use Rattle.rule_phrases.specs.declared.term.Term.{Term}
 use Rattle.rule_words.specs.declared.token.Token as T
 use Rattle.rule_syntax.specs.declared.written.ReadRule.{ReadRule}
 use Rattle.rule_syntax.proofs.TokenParts.{shown_empty}

@@ -24,7 +24,7 @@ use Rattle.rule_tree.specs.Scope.{port_number, rule_in, variable_number, has_rig
 use Rattle.rule_words.specs.Shown.{tokens_of}
 use Rattle.rule_tree.specs.declared.function.Sort.TheVariants.{Number}
 use Rattle.rule_tree.specs.Sound.{is_sort, sort_of}
-use Rattle.rule_terms.specs.Terms.{Misses}
+use Rattle.rule_phrases.specs.Terms.{Misses}
 use Rattle.rule_words.specs.Tokens.{Token, word, mark, is_mark}
 use Rattle.rule_syntax.specs.declared.named.Kind.{Kind}
 use Rattle.rule_syntax.specs.declared.named.Kind.TheVariants.{Port, Variable}

@@ -9,12 +9,12 @@ ghost use Rattle.rule_syntax.specs.RulesRead.{AreNamed, give_of, mark_for, named
 ghost use Rattle.rule_syntax.specs.RulesRead.{set_of, phrase_for, words_of};
 ghost use Rattle.rule_words.specs.Shown.{names_of, text_of};
 ghost use Rattle.rule_tree.specs.Sound.{is_sort};
-ghost use Rattle.rule_terms.specs.Terms.{Misses, Stands};
+ghost use Rattle.rule_phrases.specs.Terms.{Misses, Stands};
 ghost use Rattle.rule_syntax.specs.declared.named.NamedValue.{NamedValue as AnyValue};
 
 use quantity::OutOfMemory;
-use rule_terms::scope::{port_number, variable_number};
-use rule_terms::term::{Lacks, Term};
+use rule_phrases::scope::{port_number, variable_number};
+use rule_phrases::term::{Lacks, Term};
 use rule_tree::{Give, Node, SetVariable, Sort};
 use rule_words::names::Names;
 use rule_words::table::same_mark;

@@ -10,15 +10,15 @@ ghost use Rattle.rule_syntax.specs.RulesRead.{AreNamed, AreRead, AreValues, IsNa
 ghost use Rattle.rule_syntax.specs.RulesRead.{braced_value, plain_before, plain_value};
 ghost use Rattle.rule_syntax.specs.RulesRead.{question_or_cell};
 ghost use Rattle.rule_words.specs.Shown.{names_of, tokens_of};
-ghost use Rattle.rule_terms.specs.Terms.{IsFront, IsTerm, Stands};
+ghost use Rattle.rule_phrases.specs.Terms.{IsFront, IsTerm, Stands};
 
 use crate::assigned::{NamedFront, all_assigned, begins_with_tilde, holds_sets, is_question};
 use crate::named::{Kind, NamedValues, gives, has_repeat, is_number, is_truth, sets};
 use quantity::{OutOfMemory, Value};
 use rule_phrases::atom::{block, cell_before, number_before};
+use rule_phrases::front::Front;
 use rule_phrases::phrase::phrase;
-use rule_terms::front::Front;
-use rule_terms::term::{Lacks, Term};
+use rule_phrases::term::{Lacks, Term};
 use rule_tree::RuleTree;
 use rule_words::names::Names;
 use rule_words::token::{Mark, Token};

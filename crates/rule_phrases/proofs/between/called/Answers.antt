@@ -1,5 +1,5 @@
 use Rattle.std.proofs.Common.{sym, ◌∙◌}
-use Rattle.rule_terms.specs.declared.front.Front.{Front}
+use Rattle.rule_phrases.specs.declared.front.Front.{Front}
 use Rattle.rule_words.specs.Shown.{tokens_of}
 use Rattle.rule_phrases.proofs.Listed.{open_call, miscounted_call, whole_call}
 use Rattle.rule_phrases.proofs.between.called.Goals as goal

@@ -1,7 +1,7 @@
 use Rattle.std.proofs.Common.{vec_len}
 use Rattle.rule_tree.specs.Phrases.{Phrase}
 use Rattle.rule_tree.specs.Scope.{Names}
-use Rattle.rule_terms.specs.Terms.{Stands}
+use Rattle.rule_phrases.specs.Terms.{Stands}
 use Rattle.rule_phrases.specs.Between.{with_signs}
 use Rattle.rule_phrases.proofs.Prefixes.{StandsBehind}
 use Rattle.rule_phrases.proofs.between.with_signs.Given as goal

@@ -1,6 +1,6 @@
 use Rattle.std.proofs.Common.{◌<◌, ◌≤◌, ℕ, Option, Some, List, [], ◌∷◌, ◌++◌, length, refl, sym, ap, ◌∙◌, arith}
 use Rattle.std.proofs.lemmas.Result.{IfOk-weaker}
-use Rattle.rule_terms.specs.declared.front.Front.{Front}
+use Rattle.rule_phrases.specs.declared.front.Front.{Front}
 use Rattle.rule_phrases.specs.declared.between.Arguments.{Arguments}
 use Rattle.rule_tree.specs.Phrases.{Phrase, expr}
 use Rattle.rule_tree.specs.Scope.{Names}
@@ -8,7 +8,7 @@ use Rattle.rule_words.specs.Reading.{Part}
 use Rattle.rule_words.specs.Descent.{at_level, reading, prefixed, primary_before, list_before, enclosed_before, call_before}
 use Rattle.rule_phrases.specs.Between.{AreArguments, called_before, most_operators, operands_before, sign_at}
 use Rattle.rule_words.specs.Shown.{level_of, names_of, tokens_of}
-use Rattle.rule_terms.specs.Terms.{IsFront}
+use Rattle.rule_phrases.specs.Terms.{IsFront}
 use Rattle.rule_phrases.proofs.Prefixes.{nothing_behind_signs, operand_behind_signs}
 use Rattle.rule_phrases.proofs.Operands.{joining_begins, joining_goes_on, joining_lost, joining_ends, joining_done}
 use Rattle.rule_phrases.proofs.Listed.{listing_begins, listing_goes_on, listing_lost, listing_ends, arguments_at}

@@ -1,0 +1,5 @@
+use Rattle.std.proofs.Common.{refl}
+use Rattle.rule_phrases.proofs.term.Term.value.Goals as goal
+
+pub returns : goal.returns
+returns c names = record { tree = refl; sorted = refl; misses = c.nothing.ensures names }
