@@ -8,7 +8,7 @@ use Rattle.ma_lines.specs.Sections.{section_of}
 use Rattle.model_text.specs.declared.kind.Kind.TheVariants.{TooLarge}
 use Rattle.model_text.specs.Refusals.{Refusal, refusal}
 use Rattle.model_text.specs.Spaces.{space_of, first_large}
-use Rattle.model_groups.proofs.Kept.{drop_at}
+use Rattle.model_spaces.proofs.Kept.{drop_at}
 use Rattle.model_spaces.proofs.Whole.{sections}
 
 many : (n : ℕ) → 1048576 < n → nat_lt 1048576 n ≡ true

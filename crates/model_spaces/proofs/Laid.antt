@@ -8,7 +8,7 @@ use Rattle.cell_grid.specs.Initial.{with_row}
 use Rattle.ma_lines.specs.declared.section.Entry.{Entry}
 use Rattle.ma_lines.specs.Sections.{Section}
 use Rattle.model_text.specs.Spaces.{space_of, row_in}
-use Rattle.model_groups.proofs.Kept.{drop_at}
+use Rattle.model_spaces.proofs.Kept.{drop_at}
 
 abbrev pub laid : Section → List Value → List Entry → List Value
 laid s vs es = fold (with_row (space_of s)) vs (filter_map (row_in s) es)

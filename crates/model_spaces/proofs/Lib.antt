@@ -1,3 +1,7 @@
+pub mod Kept
+pub mod Parts
+pub mod Places
+pub mod Gathered
 pub mod Laid
 pub mod Whole
 pub mod Ported

@@ -21,7 +21,7 @@ use Rattle.model_walk.proofs.Orders.{least_step, merged_none}
 use Rattle.model_spaces.specs.Ported.{cell_port, in_space, place_in, item_in, port_entries, refused_after, with_port, seen_after, AddsPorts}
 use Rattle.model_spaces.specs.declared.placed.PlacedRule.{PlacedRule}
 use Rattle.model_spaces.specs.Placed.{place_shown, rule_shown}
-use Rattle.model_groups.proofs.Kept.{drop_at, filter-first}
+use Rattle.model_spaces.proofs.Kept.{drop_at, filter-first}
 
 -- ---- some port is the same
 

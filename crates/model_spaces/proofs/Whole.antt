@@ -13,7 +13,7 @@ use Rattle.model_text.specs.Walk.{is_group}
 use Rattle.model_text.specs.Spaces.{of_space}
 use Rattle.model_walk.specs.Least.{merged}
 use Rattle.model_walk.proofs.Orders.{least_step, least_of_both}
-use Rattle.model_groups.proofs.Kept.{drop_at, filter-first}
+use Rattle.model_spaces.proofs.Kept.{drop_at, filter-first}
 
 abbrev pub sections : List (Bor code.Section) → List Section
 sections rs = map (λ (r : Bor code.Section). section_of r.now) rs

@@ -5,8 +5,8 @@ ghost use Rattle.ma_lines.specs.Sections.{section_of};
 ghost use Rattle.model_text.specs.Spaces as S;
 ghost use Rattle.model_walk.specs.Shown.{refusal_of};
 
+use crate::sizes::cells;
 use ma_lines::Section;
-use model_groups::sizes::cells;
 use model_text::Kind;
 use model_walk::Refused;
 use quantity::MAX_CELLS;

@@ -7,11 +7,11 @@ ghost use Rattle.model_text.specs.Spaces as S;
 ghost use Rattle.model_walk.specs.Shown.{refusal_of};
 ghost use Rattle.model_walk.specs.Least.{merged};
 
+use crate::offsets::{MOST_OFFSETS, offsets};
 use crate::ports::ports_refused;
 use crate::tested::{Tested, entries_refused};
 use cell_grid::Grid;
 use ma_lines::Section;
-use model_groups::offsets::{MOST_OFFSETS, offsets};
 use model_text::Kind;
 use model_walk::Refused;
 use model_walk::least::least;

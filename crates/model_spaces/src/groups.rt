@@ -13,9 +13,9 @@ ghost use Rattle.model_spaces.specs.Right.{CanBeHeld, IsRight};
 
 use crate::group::space_refused;
 use crate::rows::values;
+use crate::sizes::space;
 use cell_grid::Initial;
 use ma_lines::Section;
-use model_groups::sizes::space;
 use model_walk::entries::is_group;
 use model_walk::least::least;
 use model_walk::{Refused, Walked};

@@ -8,14 +8,14 @@ ghost use Rattle.model_text.specs.Spaces as S;
 ghost use Rattle.model_spaces.specs.Placed.{shown, placed_of};
 ghost use Rattle.model_spaces.specs.Right.{IsRight};
 
+use crate::keyed::{names, values};
+use crate::offsets::offsets;
 use crate::placed::PlacedGroup;
 use crate::ports::port_rules;
+use crate::sizes::{default_delay, delay, space};
+use crate::zones::{NamedZones, zones};
 use cell_grid::Grid;
 use ma_lines::Section;
-use model_groups::keyed::{names, values};
-use model_groups::offsets::offsets;
-use model_groups::sizes::{default_delay, delay, space};
-use model_groups::zones::{NamedZones, zones};
 use quantity::OutOfMemory;
 use rule_syntax::Names;
 use std::alloc::{AllocError, Global};

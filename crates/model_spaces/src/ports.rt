@@ -11,12 +11,12 @@ ghost use Rattle.model_spaces.specs.Placed.{place_shown, rule_shown};
 ghost use Rattle.model_spaces.specs.Ported as spec;
 
 use crate::cell_ports::CellPorts;
+use crate::keyed::has_key;
 use crate::placed::PlacedRule;
 use cell_grid::Grid;
 use cell_grid::tuple_place::cell_in;
 use ma_lines::{Entry, Section};
 use model_forms::port_rule::port_rule_text;
-use model_groups::keyed::has_key;
 use model_text::Kind;
 use model_walk::Refused;
 use model_walk::least::least;

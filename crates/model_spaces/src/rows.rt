@@ -7,11 +7,11 @@ ghost use Rattle.ma_lines.specs.Sections.{section_of};
 ghost use Rattle.model_text.specs.Spaces as S;
 ghost use Rattle.model_spaces.specs.Placed.{values_before_files};
 
+use crate::keyed::has_key;
+use crate::sizes::initial_value;
 use cell_grid::rows::{is_row_digits, is_row_values};
 use cell_grid::{Grid, Initial};
 use ma_lines::{Entry, Section};
-use model_groups::keyed::has_key;
-use model_groups::sizes::initial_value;
 use quantity::OutOfMemory;
 use std::alloc::Global;
 

@@ -12,12 +12,12 @@ ghost use Rattle.model_text.specs.Spaces as S;
 ghost use Rattle.model_walk.specs.Shown.{refusal_of};
 ghost use Rattle.model_spaces.specs.Tested as spec;
 
+use crate::keyed::has_key;
 use cell_grid::rows::{is_row_digits, is_row_values};
 use cell_grid::tuple_place::offset_in;
 use cell_grid::{Grid, ZoneRefusal, Zones};
 use ma_lines::{Entry, Section};
 use model_forms::tuples::tuples_of;
-use model_groups::keyed::has_key;
 use model_text::Kind;
 use model_walk::Refused;
 use model_walk::least::least;

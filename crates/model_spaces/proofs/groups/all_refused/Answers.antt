@@ -7,7 +7,7 @@ use Rattle.model_text.specs.Spaces.{of_space}
 use Rattle.model_walk.specs.Shown.{refusal_of}
 use Rattle.model_walk.specs.Least.{merged}
 use Rattle.model_spaces.specs.Right.{CanBeHeld}
-use Rattle.model_groups.proofs.Kept.{all_at}
+use Rattle.model_spaces.proofs.Kept.{all_at}
 use Rattle.model_spaces.proofs.Whole.{all_of, section_step}
 use Rattle.model_spaces.proofs.groups.all_refused.Goals as goal
 

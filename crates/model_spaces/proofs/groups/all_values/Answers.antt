@@ -6,7 +6,7 @@ use Rattle.model_spaces.proofs.Read.{value_step}
 use Rattle.model_spaces.proofs.Whole.{sections}
 use Rattle.model_spaces.specs.Placed.{values_before_files}
 use Rattle.model_spaces.specs.Right.{CanBeHeld, IsRight}
-use Rattle.model_groups.proofs.Kept.{all_at}
+use Rattle.model_spaces.proofs.Kept.{all_at}
 use Rattle.model_spaces.proofs.groups.all_values.Goals as goal
 
 pub group_values-requires : goal.group_values-requires

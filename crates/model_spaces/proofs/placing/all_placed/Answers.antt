@@ -3,7 +3,7 @@ use Rattle.ma_lines.specs.declared.section.Section as code
 use Rattle.ma_lines.specs.Sections.{section_of}
 use Rattle.model_spaces.specs.Placed.{placed_of}
 use Rattle.model_spaces.specs.Right.{IsRight}
-use Rattle.model_groups.proofs.Kept.{all_at}
+use Rattle.model_spaces.proofs.Kept.{all_at}
 use Rattle.model_spaces.proofs.Read.{placed_step}
 use Rattle.model_spaces.proofs.placing.all_placed.Goals as goal
 

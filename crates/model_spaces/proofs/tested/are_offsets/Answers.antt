@@ -7,7 +7,7 @@ use Rattle.cell_grid.specs.Space.{Space}
 use Rattle.ma_lines.specs.Sections.{section_of}
 use Rattle.model_text.specs.Forms.{tuples_of}
 use Rattle.model_text.specs.Spaces.{places_of}
-use Rattle.model_groups.proofs.Places.{all-places, places_read}
+use Rattle.model_spaces.proofs.Places.{all-places, places_read}
 use Rattle.model_spaces.proofs.tested.are_offsets.Goals as goal
 
 pub returns-in-Some : goal.returns-in-Some

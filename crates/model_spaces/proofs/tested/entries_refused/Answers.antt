@@ -7,7 +7,7 @@ use Rattle.model_text.specs.Keyed.{least_refusal, at_entry}
 use Rattle.model_walk.specs.Shown.{refusal_of}
 use Rattle.model_walk.specs.Least.{merged}
 use Rattle.model_spaces.specs.Tested.{key_of, kind_of, is_right, refused_among}
-use Rattle.model_groups.proofs.Kept.{refused_step}
+use Rattle.model_spaces.proofs.Kept.{refused_step}
 use Rattle.model_spaces.proofs.tested.entries_refused.Goals as goal
 
 pub loop-entry-preserved : goal.loop-entry-preserved

@@ -1,4 +1,0 @@
-pub mod Kept
-pub mod Parts
-pub mod Places
-pub mod Gathered

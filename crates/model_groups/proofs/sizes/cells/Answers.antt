@@ -1,8 +1,0 @@
-use Rattle.std.proofs.Common.{ap, ◌∙◌}
-use Rattle.cell_grid.specs.Space.{cell_count}
-use Rattle.ma_lines.specs.Sections.{section_of}
-use Rattle.model_text.specs.Spaces.{border_of}
-use Rattle.model_groups.proofs.sizes.cells.Goals as goal
-
-pub returns-clause-value : goal.returns-clause-value
-returns-clause-value c = c.product.ensures.value (border_of (section_of c.args.section.now)) ∙ ap cell_count c.sizes_of.ensures

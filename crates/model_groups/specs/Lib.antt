@@ -1,2 +1,0 @@
-pub mod Zoned
-pub mod Gathered

@@ -1,0 +1,90 @@
+// The zones of groups, with the names of their rules.
+ghost use Rattle.std.specs.Prelude.{◌≡◌, ◌∷◌, ◌++◌, [], map, codes, IfOk, OnOk};
+ghost use Rattle.std.specs.List.{filter, filter_map};
+ghost use Rattle.std.specs.Str.{bytes_eq};
+ghost use Rattle.cell_grid.specs.ZoneTexts.{zone_name};
+ghost use Rattle.ma_lines.specs.Sections.{section_of};
+ghost use Rattle.model_text.specs.Keyed as K;
+ghost use Rattle.model_text.specs.Rules as R;
+ghost use Rattle.model_text.specs.Spaces as S;
+ghost use Rattle.model_walk.specs.Shown.{item_of};
+ghost use Rattle.model_spaces.specs.Zoned as spec;
+
+use crate::keyed::has_key;
+use cell_grid::{Grid, ZoneRefusal, Zones};
+use ma_lines::{Entry, Section};
+use model_walk::Item;
+use quantity::OutOfMemory;
+use quantity::digits::cut_at;
+use source_text::line::trimmed;
+use std::alloc::Global;
+
+/// Zones, and the names of their rules with the lines of their entries.
+#[derive(Drop)]
+pub struct NamedZones<'a> {
+    /// In the order of their entries.
+    pub zones: Zones,
+    /// The names of their rules.
+    pub rules: Vec<Item<'a>>,
+}
+
+/// The zones of a group.
+pub fn zones<'a>(
+    alloc: Global,
+    section: &'a Section,
+    grid: &Grid,
+) -> Result<NamedZones<'a>, OutOfMemory>
+    requires { grid.now ≡ S.space_of (section_of section.now) }
+    ensures zones { IfOk result (λ found. found.zones ≡ S.zones_of (section_of section.now)) }
+    ensures rules { IfOk result (λ found. map item_of found.rules.items
+        ≡ filter_map (R.zone_item (section_of section.now))
+        (K.entries_of (codes "zone") (section_of section.now))) }
+{
+    let mut found = NamedZones {
+        zones: Zones::new(alloc),
+        rules: Vec::new(alloc),
+    };
+    for entry in &section.entries {
+        add_zone(alloc, section, grid, entry, &mut found)?;
+    }
+    Ok(found)
+}
+
+/// Adds the zone of an entry, where it is one.
+fn add_zone<'a>(
+    alloc: Global,
+    section: &Section,
+    grid: &Grid,
+    entry: &'a Entry,
+    found: &mut NamedZones<'a>,
+) -> Result<(), OutOfMemory>
+    requires { grid.now ≡ S.space_of (section_of section.now) }
+    ensures { OnOk result (spec.AddsZones (section_of section.now) found.old found.new
+        (entry.now ∷ [])) }
+{
+    // Only the clauses speak of it.
+    let _section = section;
+    if !has_key(entry, b"zone") {
+        return Ok(());
+    }
+    match found.zones.add(alloc, entry.value.as_bytes(), grid) {
+        Ok(_name) => add_name(entry, &mut found.rules),
+        Err(ZoneRefusal::BadZone) => Ok(()),
+        Err(ZoneRefusal::Memory) => Err(OutOfMemory),
+    }
+}
+
+fn add_name<'a>(entry: &'a Entry, rules: &mut Vec<Item<'a>>) -> Result<(), OutOfMemory>
+    ensures { OnOk result (map item_of rules.new.items
+        ≡ map item_of rules.old.items ++ R.name_at entry.now (zone_name entry.now.value) ∷ []) }
+{
+    let (name, _items) = cut_at(b'{', entry.value.as_bytes());
+    let item = Item {
+        line: entry.line,
+        text: trimmed(name),
+    };
+    let Ok(()) = rules.push(item) else {
+        return Err(OutOfMemory);
+    };
+    Ok(())
+}
