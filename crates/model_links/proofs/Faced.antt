@@ -16,13 +16,13 @@ use Rattle.model_text.specs.Keyed.{Item, texts_of}
 use Rattle.model_text.specs.Walk.{item_name, children_of}
 use Rattle.model_text.specs.Links.{inputs_of, outputs_of, face_of}
 use Rattle.model_walk.proofs.Named.{any-map}
-use Rattle.link_ends.specs.declared.face.Face.{Face}
-use Rattle.link_ends.specs.Lent.{with_ends, with_links}
-use Rattle.link_ends.specs.PortEnds.{own_ends, child_ends, first_items, source_ends, target_ends, cells_of}
-use Rattle.link_ends.specs.Faces.{sources_of, targets_of}
+use Rattle.model_links.specs.declared.face.Face.{Face}
+use Rattle.model_links.specs.Lent.{with_ends, with_links}
+use Rattle.model_links.specs.PortEnds.{own_ends, child_ends, first_items, source_ends, target_ends, cells_of}
+use Rattle.model_links.specs.Faces.{sources_of, targets_of}
 use Rattle.model_links.specs.Judged.{is_source_of, is_target_of}
 use Rattle.model_text.proofs.Keys.{same_bytes}
-use Rattle.link_ends.proofs.Lists.{any-with_all, first_tested}
+use Rattle.model_links.proofs.Lists.{any-with_all, first_tested}
 
 -- ---- ends and links that are the same
 

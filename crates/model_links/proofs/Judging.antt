@@ -20,11 +20,11 @@ use Rattle.model_text.specs.Walk.{children_of}
 use Rattle.model_text.specs.Links.{face_of, link_of, link_entries, entry_refused, at_line, links_refused_after, of_links, links_of}
 use Rattle.model_walk.specs.Least.{merged}
 use Rattle.model_walk.proofs.Orders.{least_step, merged_none}
-use Rattle.link_ends.specs.declared.face.Face.{Face}
+use Rattle.model_links.specs.declared.face.Face.{Face}
 use Rattle.model_links.specs.declared.section.FoundLink.{FoundLink}
-use Rattle.link_ends.specs.Lent.{with_link, with_links}
-use Rattle.link_ends.specs.PortEnds.{first_items, source_ends, target_ends, cells_of}
-use Rattle.link_ends.specs.Faces.{sources_of, targets_of}
+use Rattle.model_links.specs.Lent.{with_link, with_links}
+use Rattle.model_links.specs.PortEnds.{first_items, source_ends, target_ends, cells_of}
+use Rattle.model_links.specs.Faces.{sources_of, targets_of}
 use Rattle.model_links.specs.Judged.{is_source_of, is_target_of, cause_of, kind_after, refusal_after, refused_after, found_at}
 use Rattle.model_links.proofs.Faced.{link_among, sources_are, targets_are}
 

@@ -17,9 +17,9 @@ use Rattle.model_text.specs.declared.kind.Kind.TheVariants.{UnknownPort, SelfLin
 use Rattle.model_text.specs.declared.kind.Kind.TheVariants.{DuplicateLink}
 use Rattle.model_text.specs.Refusals.{Refusal, refusal}
 use Rattle.model_text.specs.Links.{link_of}
-use Rattle.link_ends.specs.declared.face.Face.{Face}
+use Rattle.model_links.specs.declared.face.Face.{Face}
 use Rattle.model_links.specs.declared.section.FoundLink.{FoundLink}
-use Rattle.link_ends.specs.Faces.{sources_of, targets_of}
+use Rattle.model_links.specs.Faces.{sources_of, targets_of}
 
 -- ---- ends of a face as it is kept
 

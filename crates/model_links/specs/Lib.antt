@@ -1,1 +1,5 @@
+pub mod Around
+pub mod Lent
+pub mod PortEnds
+pub mod Faces
 pub mod Judged

@@ -4,14 +4,14 @@ ghost use Rattle.std.specs.Option.{option_map};
 ghost use Rattle.model_tree.specs.Faces as F;
 ghost use Rattle.model_text.specs.Keyed.{least_refusal};
 ghost use Rattle.model_walk.specs.Shown.{refusal_of};
-ghost use Rattle.link_ends.specs.Lent.{joined};
+ghost use Rattle.model_links.specs.Lent.{joined};
 ghost use Rattle.model_links.specs.Judged.{is_source_of, is_target_of, cause_of, kind_after};
 ghost use Rattle.model_links.specs.Judged.{refusal_after, refused_after};
 
+use crate::face::Face;
+use crate::lent::{LentLink, add_link, has_end, has_link};
 use crate::section::FoundLink;
 use indexmap::IndexSet;
-use link_ends::face::Face;
-use link_ends::lent::{LentLink, add_link, has_end, has_link};
 use model_text::Kind;
 use model_tree::{End, Link};
 use model_walk::Refused;

@@ -3,9 +3,14 @@
 //! - `links` takes the sections, the walk and the groups of `model_spaces`, and gives the links of
 //!   each section that the walk met; or the least refusal. `link_limit_refused` gives the refusal
 //!   of too many links, or of too many inputs or outputs of top.
-//! - Definitions: `model_text/specs/Links.antt` (`links_refused`, `links_of`), and
-//!   `link_limit_refused` of `ModelOf.antt` there; which links may stand:
-//!   `model_tree/specs/Faces.antt`. It rests on `link_ends`.
+//! - `link_of` (`ends`) takes an entry of a section, and gives its `Link`, or none where it hasn't
+//!   two ends of the right form. `face_of` (`face`) gives the `Face` of a section: which ends are
+//!   sources and which targets there, and which cells may be named.
+//! - `LentEnd`, `LentLink` and their calls (`lent`) look ends and links up by names that stay where
+//!   they stand.
+//! - Definitions: `model_text/specs/Links.antt` (`link_of`, `face_of`, `links_refused`,
+//!   `links_of`), and `link_limit_refused` of `ModelOf.antt` there; which links may stand:
+//!   `model_tree/specs/Faces.antt`.
 #![tactic(auto)]
 
 ghost use Rattle.std.specs.Prelude.{◌≡◌, None, Some, map, IfOk};
@@ -17,12 +22,17 @@ ghost use Rattle.model_walk.specs.Shown.{refusal_of};
 ghost use Rattle.model_walk.specs.Met.{IsWalk, met_of};
 ghost use Rattle.model_spaces.specs.Placed.{shown, placed_of};
 
+mod child;
+pub mod ends;
+pub mod face;
 mod judge;
+pub mod lent;
 mod limits;
 mod section;
 mod walked;
 
 use crate::walked::all_links;
+pub use face::Face;
 pub use limits::link_limit_refused;
 use ma_lines::Sections;
 use model_spaces::PlacedGroup;

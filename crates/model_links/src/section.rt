@@ -6,15 +6,15 @@ ghost use Rattle.ma_lines.specs.Sections.{section_of};
 ghost use Rattle.model_text.specs.Keyed.{least_refusal};
 ghost use Rattle.model_text.specs.Links as L;
 ghost use Rattle.model_walk.specs.Shown.{refusal_of};
-ghost use Rattle.link_ends.specs.Around.{IsSpaceOf};
+ghost use Rattle.model_links.specs.Around.{IsSpaceOf};
 ghost use Rattle.model_links.specs.Judged.{links_among, found_at};
 
+use crate::ends::link_of;
+use crate::face::face_of;
 use crate::judge::first_refused;
 use crate::limits::is_link;
 use cell_grid::Grid;
 use indexmap::IndexSet;
-use link_ends::ends::link_of;
-use link_ends::face::face_of;
 use ma_lines::{Entry, Section, Sections};
 use model_tree::Link;
 use model_walk::Refused;

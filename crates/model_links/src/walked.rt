@@ -9,7 +9,7 @@ ghost use Rattle.model_text.specs.Spaces.{space_of};
 ghost use Rattle.model_text.specs.Links as L;
 ghost use Rattle.model_walk.specs.Shown.{refusal_of};
 ghost use Rattle.model_walk.specs.Least.{merged};
-ghost use Rattle.link_ends.specs.Around.{IsSpaceOf};
+ghost use Rattle.model_links.specs.Around.{IsSpaceOf};
 
 use crate::section::section_links;
 use cell_grid::Grid;

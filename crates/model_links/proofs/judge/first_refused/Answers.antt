@@ -4,7 +4,7 @@ use Rattle.model_text.specs.Keyed.{least_refusal}
 use Rattle.model_walk.specs.Shown.{refusal_of}
 use Rattle.model_walk.specs.Least.{merged}
 use Rattle.model_links.specs.declared.section.FoundLink.{FoundLink}
-use Rattle.link_ends.specs.Lent.{joined, with_links}
+use Rattle.model_links.specs.Lent.{joined, with_links}
 use Rattle.model_links.specs.Judged.{refusal_after, refused_after}
 use Rattle.model_links.proofs.Judging.{links_in, seen_step, judged_step, judged_end}
 use Rattle.model_links.proofs.judge.first_refused.Goals as goal

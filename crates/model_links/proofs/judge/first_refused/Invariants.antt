@@ -3,7 +3,7 @@ use Rattle.std.specs.Option.{option_map}
 use Rattle.model_text.specs.Keyed.{least_refusal}
 use Rattle.model_walk.specs.Shown.{refusal_of}
 use Rattle.model_walk.specs.Least.{merged}
-use Rattle.link_ends.specs.Lent.{joined, with_links}
+use Rattle.model_links.specs.Lent.{joined, with_links}
 use Rattle.model_links.specs.Judged.{refused_after}
 use Rattle.model_links.proofs.Judging.{links_in}
 use Rattle.model_links.proofs.judge.first_refused.Given as goal

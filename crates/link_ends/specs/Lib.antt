@@ -1,4 +1,0 @@
-pub mod Around
-pub mod Lent
-pub mod PortEnds
-pub mod Faces

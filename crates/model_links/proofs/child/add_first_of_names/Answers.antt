@@ -1,0 +1,21 @@
+use Rattle.std.proofs.Common.{◌∙◌, List, [], map, ap, sym}
+use Rattle.std.proofs.lemmas.List.{take_all}
+use Rattle.model_text.specs.Walk.{item_name}
+use Rattle.model_walk.specs.declared.item.Item.{Item}
+use Rattle.model_walk.specs.Shown.{item_of}
+use Rattle.model_links.specs.PortEnds.{with_item, first_items}
+use Rattle.model_links.proofs.Steps.{fold_step}
+use Rattle.model_links.proofs.child.add_first_of_names.Goals as goal
+
+pub loop-item-init : goal.loop-item-init
+loop-item-init c = record { names = c.requires.names ∙ sym (ap (map item_name) c.requires.found); first = c.requires.found }
+
+pub loop-item-preserved : goal.loop-item-preserved
+loop-item-preserved c = record {
+  names = c.in_ok-add_item.ensures.names;
+  first = fold_step with_item [] item_of c.args.items.now c.loop-item.item-index _
+      (map item_of c.loop-item.found.items) (map item_of c.add_item.new.found.items) c.loop-item-test.true c.in_ok-add_item.ensures.added c.loop-item.invariant.first;
+}
+
+pub returns : goal.returns
+returns c = c.loop-item.invariant.first ∙ ap (λ (is : List Item). first_items (map item_of is)) (take_all c.loop-item.item-index c.args.items.now c.loop-item-test.false)

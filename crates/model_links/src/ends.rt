@@ -1,0 +1,191 @@
+// The ends of links, as they stand in a section.
+ghost use Rattle.std.specs.Prelude.{◌≡◌, ◌∷◌, ◌&&◌, [], IfOk, IsTrue};
+ghost use Rattle.std.specs.List.{list_any};
+ghost use Rattle.std.specs.Option.{option_map, option_and_then};
+ghost use Rattle.quantity.specs.Bytes.{is_byte, words};
+ghost use Rattle.quantity.specs.Names.{is_name};
+ghost use Rattle.source_text.specs.Shown.{named_of, texts};
+ghost use Rattle.source_text.specs.Tuples.{parts_of};
+ghost use Rattle.ma_lines.specs.Sections.{section_of};
+ghost use Rattle.model_text.specs.Links as L;
+ghost use Rattle.model_text.specs.Spaces.{space_of};
+ghost use Rattle.model_links.specs.Around.{IsSpaceOf};
+
+use cell_grid::Grid;
+use cell_grid::tuple_place::cell_in;
+use ma_lines::{Entry, Section};
+use model_forms::link::{link_text, two_ends};
+use model_tree::{End, Link};
+use quantity::digits::cut_at;
+use quantity::name::is_name;
+use quantity::{Name, NameRefusal, OutOfMemory};
+use source_text::NamedTuple;
+use source_text::tuples::{named_tuple, parts};
+use std::alloc::Global;
+
+/// The link of an entry; None where it hasn't two ends or one of them has no form of an end.
+pub fn link_of(
+    alloc: Global,
+    section: &Section,
+    grid: Option<&Grid>,
+    entry: &Entry,
+) -> Result<Option<Link>, OutOfMemory>
+    requires { IsSpaceOf (section_of section.now) grid }
+    ensures { IfOk result (λ link. link ≡ L.link_of (section_of section.now) entry.now) }
+{
+    let text = link_text(alloc, entry.value.as_bytes())?;
+    link_in(alloc, section, grid, &text)
+}
+
+/// The link between the two words of a text.
+fn link_in(
+    alloc: Global,
+    section: &Section,
+    grid: Option<&Grid>,
+    text: &[u8],
+) -> Result<Option<Link>, OutOfMemory>
+    requires { IsSpaceOf (section_of section.now) grid }
+    ensures { IfOk result (λ link. link
+        ≡ L.link_of_texts (section_of section.now) (words text.now)) }
+{
+    let Some((first, second)) = two_ends(text) else {
+        return Ok(None);
+    };
+    let from = end_in(alloc, section, grid, first)?;
+    let to = end_in(alloc, section, grid, second)?;
+    Ok(joined(from, to))
+}
+
+fn joined(from: Option<End>, to: Option<End>) -> Option<Link>
+    ensures { result ≡ L.joined from to }
+{
+    let from = from?;
+    let to = to?;
+    Some(Link { from, to })
+}
+
+/// An end that is written so; None where it has no form of an end.
+fn end_in(
+    alloc: Global,
+    section: &Section,
+    grid: Option<&Grid>,
+    text: &[u8],
+) -> Result<Option<End>, OutOfMemory>
+    requires { IsSpaceOf (section_of section.now) grid }
+    ensures { IfOk result (λ end. end ≡ L.end_in (section_of section.now) text.now) }
+{
+    if !has_at(text) {
+        return own_end(alloc, text);
+    }
+    match grid {
+        None => child_end(alloc, text),
+        Some(grid) => cell_end(alloc, section, grid, text),
+    }
+}
+
+fn has_at(text: &[u8]) -> bool
+    ensures { result ≡ list_any (is_byte 64) text.now }
+{
+    text.iter().any(|byte| b'@' == *byte)
+}
+
+/// A port of the section itself.
+fn own_end(alloc: Global, text: &[u8]) -> Result<Option<End>, OutOfMemory>
+    ensures { IfOk result (λ end. end ≡ L.own_end text.now) }
+{
+    if !is_name(text) {
+        return Ok(None);
+    }
+    let port = name(alloc, text)?;
+    Ok(Some(End::Own(port)))
+}
+
+/// A port of a child.
+fn child_end(alloc: Global, text: &[u8]) -> Result<Option<End>, OutOfMemory>
+    ensures { IfOk result (λ end. end ≡ L.child_end text.now) }
+{
+    let (port, child) = cut_at(b'@', text);
+    if !are_names(port, child) {
+        return Ok(None);
+    }
+    let port = name(alloc, port)?;
+    let child = name(alloc, child)?;
+    Ok(Some(End::Child(port, child)))
+}
+
+fn are_names(a: &[u8], b: &[u8]) -> bool
+    ensures { result ≡ (is_name a.now && is_name b.now) }
+{
+    is_name(a) && is_name(b)
+}
+
+/// A port of a cell of the group.
+fn cell_end(
+    alloc: Global,
+    section: &Section,
+    grid: &Grid,
+    text: &[u8],
+) -> Result<Option<End>, OutOfMemory>
+    requires { grid.now ≡ space_of (section_of section.now) }
+    ensures { IfOk result (λ end. end ≡ L.cell_end (section_of section.now) text.now) }
+{
+    let (port, behind) = cut_at(b'@', text);
+    let Some(named) = one_tuple(alloc, section, behind)? else {
+        return Ok(None);
+    };
+    if !is_name(port) {
+        return Ok(None);
+    }
+    let Some(cell) = cell_in(named.place, grid) else {
+        return Ok(None);
+    };
+    let port = name(alloc, port)?;
+    Ok(Some(End::Cell(port, cell)))
+}
+
+/// The one tuple that stands behind the name of the group; None for any other text.
+fn one_tuple<'a>(
+    alloc: Global,
+    section: &Section,
+    text: &'a [u8],
+) -> Result<Option<NamedTuple<'a>>, OutOfMemory>
+    ensures { IfOk result (λ found. option_map named_of found
+        ≡ option_and_then (L.one_tuple (section_of section.now)) (parts_of text.now)) }
+{
+    let Some(parts) = parts(alloc, text)? else {
+        return Ok(None);
+    };
+    Ok(tuple_of_parts(section, &parts))
+}
+
+/// The tuple of the one part; None where there are more or fewer parts.
+fn tuple_of_parts<'a>(section: &Section, parts: &[&'a [u8]]) -> Option<NamedTuple<'a>>
+    ensures { option_map named_of result ≡ L.one_tuple (section_of section.now) (texts parts.now) }
+{
+    match parts {
+        [part] => tuple_of_group(section, part),
+        _ => None,
+    }
+}
+
+fn tuple_of_group<'a>(section: &Section, part: &'a [u8]) -> Option<NamedTuple<'a>>
+    ensures { option_map named_of result ≡ L.one_tuple (section_of section.now) (part.now ∷ []) }
+{
+    let named = named_tuple(part)?;
+    if named.name == section.name.as_bytes() {
+        return Some(named);
+    }
+    None
+}
+
+/// The name that a text is known to be.
+fn name(alloc: Global, text: &[u8]) -> Result<Name, OutOfMemory>
+    requires { IsTrue (is_name text.now) }
+    ensures { IfOk result (λ name. name ≡ text.now) }
+{
+    match Name::parse(alloc, text) {
+        Ok(name) => Ok(name),
+        Err(NameRefusal::Memory) => Err(OutOfMemory),
+        Err(NameRefusal::Bad) => unreachable!(),
+    }
+}
