@@ -12,8 +12,8 @@ use Rattle.model_text.specs.Drawings.{Drawing}
 use Rattle.model_text.specs.Accepted.{first_of, FirstPhaseDecides}
 use Rattle.model_text.specs.BuildLaws.{PassedLinks}
 use Rattle.model_text.specs.ModelOf.{refuses, unless, routes_refused, with_files, model_in, after_lines, model_of}
-use Rattle.model_judged.specs.Order.{up_to_limit}
-use Rattle.model_judged.proofs.First.{none_first, some_first}
+use Rattle.model_read.specs.Order.{up_to_limit}
+use Rattle.model_read.proofs.First.{none_first, some_first}
 use Rattle.model_read.specs.Whole.{behind_limit}
 
 alone : (o : Option Refusal) → option_or o None ≡ o

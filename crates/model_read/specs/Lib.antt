@@ -1,3 +1,4 @@
+pub mod Order
 pub mod Ends
 pub mod Group
 pub mod Read

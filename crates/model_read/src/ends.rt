@@ -20,11 +20,11 @@ ghost use Rattle.model_read.specs.Ends.{can_draw, has_plane, IsBlank, RoutesGive
 
 use crate::found::ReadModel;
 use crate::group::drawn_in;
+use crate::phases::Judged;
 use asked_words::FramesFile;
 use cell_grid::Initial;
 use ma_lines::Sections;
 use model_files::{GroupSpace, ModelRefusal, initial_values};
-use model_judged::Judged;
 use model_laid::laws::{
     blanks_are_laid, boxes_are_standing, groups_are_alike, groups_are_met, laid_models_are_sound,
     links_stay,

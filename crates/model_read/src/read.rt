@@ -15,12 +15,12 @@ ghost use Rattle.model_read.specs.Whole.{found_of, looked_of, of_name, refusal_o
 
 use crate::ends::finish;
 use crate::found::ReadModel;
+use crate::phases::judge;
 use asked_words::FramesFile;
 use atomic_face::{AtomicModel, Stock};
 use ma_lines::laws::texts_are_plain;
 use ma_lines::{LineRefusal, Lines, Sections};
 use model_files::{ModelRefusal, read_file};
-use model_judged::judge;
 use model_text::Kind;
 use model_text::accepted::first_phase_decides;
 use room_edge::Room;

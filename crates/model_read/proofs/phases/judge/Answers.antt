@@ -5,9 +5,9 @@ use Rattle.model_walk.specs.declared.refused.Stop.TheVariants as Stops
 use Rattle.model_walk.specs.Shown.{refusal_of}
 use Rattle.model_stock.specs.Settled.{classes_of}
 use Rattle.model_laid.specs.Boxes.{settings_in}
-use Rattle.model_judged.proofs.Joined.{stops_first, stops_second, stops_third}
-use Rattle.model_judged.proofs.Started.{has_settings, has_boxes}
-use Rattle.model_judged.proofs.phases.judge.Goals as goal
+use Rattle.model_read.proofs.Joined.{stops_first, stops_second, stops_third}
+use Rattle.model_read.proofs.Started.{has_settings, has_boxes}
+use Rattle.model_read.proofs.phases.judge.Goals as goal
 
 pub returns-in_err-walked-clause-refused : goal.returns-in_err-walked-clause-refused
 returns-in_err-walked-clause-refused g c = λ why e.

@@ -6,7 +6,7 @@ use Rattle.cell_grid.specs.Space.{Space}
 use Rattle.model_spaces.specs.Placed.{Placed, shown, placed_of}
 use Rattle.model_spaces.specs.declared.placed.PlacedGroup.{PlacedGroup}
 use Rattle.model_files.specs.Spaces as spaces
-use Rattle.model_judged.proofs.phases.built.Goals as goal
+use Rattle.model_read.proofs.phases.built.Goals as goal
 
 -- the section and the space of a group
 abbrev with_space : Placed → Section × Space

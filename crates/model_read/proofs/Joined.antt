@@ -12,8 +12,8 @@ use Rattle.model_text.specs.Stock.{stock_refused}
 use Rattle.model_text.specs.Rules.{rules_refused}
 use Rattle.model_text.specs.Links.{links_refused}
 use Rattle.model_text.specs.ModelOf.{link_limit_refused}
-use Rattle.model_judged.specs.Order.{up_to_limit}
-use Rattle.model_judged.proofs.First.{none_first, some_first}
+use Rattle.model_read.specs.Order.{up_to_limit}
+use Rattle.model_read.proofs.First.{none_first, some_first}
 
 -- ---- the stages
 
