@@ -4,12 +4,13 @@ ghost use Rattle.std.specs.Option.{option_map};
 ghost use Rattle.rule_tree.specs.Meaning.{coordinates};
 ghost use Rattle.cell_grid.specs.Space.{cell_count};
 ghost use Rattle.text_forms.specs.Frames as frames;
-ghost use Rattle.line_read.specs.LeafRead.{named_leaf, HasWholePlace};
-ghost use Rattle.line_read.specs.LineRead.{leaf_in, line_of};
+ghost use Rattle.draw_log.specs.LeafRead.{named_leaf, HasWholePlace};
+ghost use Rattle.draw_log.specs.LineRead.{leaf_in, line_of};
 ghost use Rattle.draw_log.specs.Seen.{listed, seen, seen_as, seen_line, shows};
 
+use crate::leaf_name::LeafName;
+use crate::log_line::{LogLine, read_line};
 use cell_grid::Grid;
-use line_read::{LeafName, LogLine, read_line};
 use quantity::{Name, Place, Time, Value};
 
 /// A cell of the group, and the value that it gave.
