@@ -1,1 +1,10 @@
+pub mod StrictLemmas
+pub mod StrictLeaves
+pub mod StrictLines
+pub mod UsualForms
+pub mod TwelveBytes
+pub mod FrontPieces
+pub mod UsualLines
+pub mod SeenLines
+pub mod DrawnLines
 pub mod DrawnAnswers

@@ -1,1 +1,11 @@
+pub mod LeafRead
+pub mod LineRead
+pub mod PartsRead
+pub mod Strict
+pub mod UsualTimes
+pub mod Fronts
+pub mod LineExamples
+pub mod Seen
+pub mod SoFar
+pub mod Answered
 pub mod Ends

@@ -8,9 +8,10 @@ ghost use Rattle.answer_model.specs.Status.{of_drawing};
 ghost use Rattle.answer_model.specs.Endings.{looked_for, EndsWith};
 ghost use Rattle.asked_words.specs.Shown.{drawing_of};
 
+use crate::refusal::DrawRefusal;
 use crate::refuse::refuse;
+use crate::whole_log::draw_log;
 use asked_words::AskedDrawing;
-use draw_log::{DrawRefusal, draw_log};
 use room_edge::Room;
 use std::alloc::Global;
 use told_lines::{Status, show};

@@ -1,9 +1,0 @@
-pub mod StrictLemmas
-pub mod StrictLeaves
-pub mod StrictLines
-pub mod UsualForms
-pub mod TwelveBytes
-pub mod FrontPieces
-pub mod UsualLines
-pub mod SeenLines
-pub mod DrawnLines

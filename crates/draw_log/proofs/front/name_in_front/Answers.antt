@@ -1,8 +1,0 @@
-use Rattle.std.proofs.Common.{arith, sym}
-use Rattle.draw_log.proofs.FrontPieces.{name_before, rest_after}
-use Rattle.draw_log.proofs.front.name_in_front.Goals as goal
-
-pub returns : goal.returns
-returns c =
-    let end = c.in_ok-end.end in
-    (name_before c.args.text.now end (sym c.in_ok-end.ensures) (omega arith) (omega arith), rest_after c.args.text.now end)

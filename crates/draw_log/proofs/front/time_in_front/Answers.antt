@@ -1,8 +1,0 @@
-use Rattle.draw_log.proofs.FrontPieces.{time_before}
-use Rattle.draw_log.proofs.front.time_in_front.Goals as goal
-
-pub returns : goal.returns
-returns c = (
-  c.in_ok-time.ensures.0,
-  time_before c.args.text.now c.in_ok-rest.rest.now c.in_ok-time.time c.in_ok-time.ensures.1 c.in_ok-rest.ensures,
-)

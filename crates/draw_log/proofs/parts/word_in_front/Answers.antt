@@ -1,5 +1,0 @@
-use Rattle.draw_log.proofs.StrictLemmas.{word_before}
-use Rattle.draw_log.proofs.parts.word_in_front.Goals as goal
-
-pub returns : goal.returns
-returns c = word_before c.args.text.now c.cut_at.result.0.now c.cut_at.result.1.now c.in_ok-behind.behind.now c.cut_at.ensures.before c.cut_at.ensures.after c.in_ok-behind.ensures

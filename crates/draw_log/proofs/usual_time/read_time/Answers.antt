@@ -1,5 +1,0 @@
-use Rattle.draw_log.proofs.TwelveBytes.{time_as_read}
-use Rattle.draw_log.proofs.usual_time.read_time.Goals as goal
-
-pub returns-in-Some : goal.returns-in-Some
-returns-in-Some c = time_as_read c.args.text.now c.in-Some.time c.in-Some.ensures.0 c.in-Some.ensures.1
