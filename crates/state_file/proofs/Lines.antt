@@ -25,7 +25,7 @@ use Rattle.sparse_cycle.specs.Sparse.{leaf_of}
 use Rattle.run_leaves.specs.Seated.{is_box}
 use Rattle.run_leaves.specs.Saved.{is_cell}
 use Rattle.state_file.specs.Lines.{line_ended, lines_of}
-use Rattle.state_lines.proofs.Appended as appended
+use Rattle.state_file.proofs.Appended as appended
 
 -- ---- a leaf and its state
 

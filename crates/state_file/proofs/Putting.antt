@@ -39,13 +39,13 @@ use Rattle.run_leaves.specs.Seated.{is_box, settings_at}
 use Rattle.run_leaves.proofs.SoundParts.{group-sound, sound-parts}
 use Rattle.flat_run.specs.Standing.{Standing, tree_in}
 use Rattle.flat_run.specs.Changes.{CanPut, with_leaf_state}
-use Rattle.state_lines.specs.LeafLines.{box_in, has_numbers, IsCellWith}
-use Rattle.state_lines.proofs.Compared.{box_of, read_box}
-use Rattle.state_lines.specs.declared.sizes.CellSize.{CellSize}
-use Rattle.state_lines.specs.Sizes.{AreSizesOf, size_of}
-use Rattle.state_lines.proofs.GroupSizes.{get_mapped}
-use Rattle.state_lines.specs.Parts.{line_in, parts_of}
-use Rattle.state_lines.proofs.Heads.{here}
+use Rattle.state_file.specs.LeafLines.{box_in, has_numbers, IsCellWith}
+use Rattle.state_file.proofs.Compared.{box_of, read_box}
+use Rattle.state_file.specs.declared.sizes.CellSize.{CellSize}
+use Rattle.state_file.specs.Sizes.{AreSizesOf, size_of}
+use Rattle.state_file.proofs.GroupSizes.{get_mapped}
+use Rattle.state_file.specs.Parts.{line_in, parts_of}
+use Rattle.state_file.proofs.Heads.{here}
 use Rattle.state_file.specs.Taken.{is_box_after, IsBoxPut, IsCellOf, IsNext, IsTaken}
 
 -- ---- a leaf that is there

@@ -21,11 +21,11 @@ use Rattle.sparse_cycle.specs.Sparse.{leaf_of}
 use Rattle.run_leaves.specs.Seated.{settings_at}
 use Rattle.flat_run.specs.Standing.{Standing, tree_in}
 use Rattle.flat_run.specs.Changes.{with_leaf_state}
-use Rattle.state_lines.specs.declared.sizes.CellSize.{CellSize}
-use Rattle.state_lines.specs.Parts.{ended_at, line_in, parts_of, refused_at}
-use Rattle.state_lines.specs.Sizes.{AreSizesOf}
+use Rattle.state_file.specs.declared.sizes.CellSize.{CellSize}
+use Rattle.state_file.specs.Parts.{ended_at, line_in, parts_of, refused_at}
+use Rattle.state_file.specs.Sizes.{AreSizesOf}
 use Rattle.state_file.specs.Taken.{AreTaken, CanTake, HasThese, IsNext, with_states}
-use Rattle.state_lines.proofs.Heads.{line_none, line_some}
+use Rattle.state_file.proofs.Heads.{line_none, line_some}
 use Rattle.state_file.proofs.Lines.{as_many, counted, sits}
 
 abbrev Read : Type 0

@@ -1,3 +1,8 @@
+pub mod Words
+pub mod Left
+pub mod LeafLines
+pub mod Parts
+pub mod Sizes
 pub mod Lines
 pub mod Loads
 pub mod Taken

@@ -20,9 +20,9 @@ use Rattle.text_forms.specs.StateOf.{read_leaf}
 use Rattle.sparse_cycle.specs.Sparse.{leaf_of}
 use Rattle.flat_run.specs.Standing.{Standing, tree_in}
 use Rattle.flat_run.specs.Changes.{with_leaf_state}
-use Rattle.state_lines.specs.declared.sizes.CellSize.{CellSize}
-use Rattle.state_lines.specs.Parts.{line_in}
-use Rattle.state_lines.specs.Sizes.{AreSizesOf, size_of}
+use Rattle.state_file.specs.declared.sizes.CellSize.{CellSize}
+use Rattle.state_file.specs.Parts.{line_in}
+use Rattle.state_file.specs.Sizes.{AreSizesOf, size_of}
 
 -- ---- one leaf
 

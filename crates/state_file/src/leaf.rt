@@ -9,15 +9,16 @@ ghost use Rattle.text_forms.specs.LeafStates.{is_later};
 ghost use Rattle.sparse_cycle.specs.Sparse.{leaf_of};
 ghost use Rattle.run_leaves.specs.Seated.{is_box};
 ghost use Rattle.flat_run.specs.Standing.{tree_in};
-ghost use Rattle.state_lines.specs.Parts.{parts_of};
+ghost use Rattle.state_file.specs.Parts.{parts_of};
 ghost use Rattle.state_file.specs.Taken.{CanTake, IsBoxPut, IsCellOf, IsNext, IsTaken};
 
+use crate::compare::{cell_in_line, numbers_in_line};
+use crate::sizes::CellSize;
 use atomic_face::{AtomicModel, RestoreRefusal};
 use flat_run::FlatRun;
 use model_tree::LeafAt;
 use quantity::{OutOfMemory, Time};
 use source_text::cut::part_before;
-use state_lines::{CellSize, cell_in_line, numbers_in_line};
 use std::alloc::Global;
 use time_queue::TimeQueue;
 

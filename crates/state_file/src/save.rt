@@ -12,11 +12,11 @@ ghost use Rattle.run_leaves.specs.Saved.{is_cell};
 ghost use Rattle.flat_run.specs.Standing.{tree_in};
 ghost use Rattle.state_file.specs.Lines.{line_ended, lines_of};
 
+use crate::leaf_line::{put_box, put_cell};
 use atomic_face::AtomicModel;
 use flat_run::{FlatRun, Steps};
 use model_tree::LeafAt;
 use quantity::{OutOfMemory, Time};
-use state_lines::{put_box, put_cell};
 use std::sync::ledger::Ledger;
 use time_queue::TimeQueue;
 

@@ -3,7 +3,7 @@ use Rattle.model_tree.specs.Tree.{leaf_count}
 use Rattle.model_tree.specs.Models.{tree_of}
 use Rattle.model_tree.specs.Leaves.{no_settings}
 use Rattle.run_leaves.specs.Seated.{settings_at}
-use Rattle.state_lines.proofs.Appended.{kept_on}
+use Rattle.state_file.proofs.Appended.{kept_on}
 use Rattle.state_file.proofs.Lines.{one_more, all_lines, as_many, counted}
 use Rattle.state_file.proofs.save.put_lines.Goals as goal
 

@@ -1,5 +1,0 @@
-pub mod Appended
-pub mod Compared
-pub mod GroupSizes
-pub mod Heads
-mod Taken
