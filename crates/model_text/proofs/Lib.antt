@@ -23,3 +23,4 @@ mod Held
 mod Once
 mod Made
 mod LaidOn
+pub mod Limits

@@ -20,3 +20,9 @@ pub mod Examples
 pub mod RefusalExamples
 pub mod FileExamples
 pub mod LinkExamples
+pub mod Kinds
+pub mod Phases
+pub mod Steps
+pub mod Long
+pub mod Limits
+pub mod LineBytes

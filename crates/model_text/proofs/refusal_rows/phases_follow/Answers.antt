@@ -4,22 +4,20 @@ use Rattle.rule_syntax.specs.Tokens.{tokens}
 use Rattle.rule_syntax.specs.Reading.{written_rule}
 use Rattle.rule_syntax.specs.RuleOf.{rule_of}
 use Rattle.model_text.specs.ModelOf.{model_of}
-use Rattle.model_rows.proofs.laws.kinds_are_shown.Goals as goal
+use Rattle.model_text.proofs.refusal_rows.phases_follow.Goals as goal
 
 pub returns : goal.returns
 unfolding sections_of tokens written_rule rule_of model_of
 returns c =
     record {
-      no_width = refl;
-      no_size = refl;
-      width_beside_dim = refl;
-      output_again = refl;
-      one_end = refl;
-      other_group = refl;
-      outside = refl;
-      three_coordinates = refl;
-      top_again = refl;
-      around = refl;
-      no_box = refl;
-      row_of_values = refl;
+      lines_before_top = refl;
+      top_before_keys = refl;
+      tree_before_keys = refl;
+      keys_before_cells = refl;
+      cells_before_spaces = refl;
+      spaces_before_stock = refl;
+      stock_before_rules = refl;
+      rules_before_links = refl;
+      links_before_files = refl;
+      groups_in_order = refl;
     }

@@ -2,8 +2,8 @@ use Rattle.std.proofs.Common.{ap, ◌∙◌, Some, None, cond}
 use Rattle.model_text.specs.declared.kind.Kind.TheVariants.{TooManyRoutes}
 use Rattle.model_text.specs.Refusals.{refusal}
 use Rattle.model_text.specs.ModelOf.{unless, routes_refused, with_files}
-use Rattle.model_rows.proofs.Limits.{limits_decide, many_inputs, many_outputs}
-use Rattle.model_rows.proofs.laws.limits_are_refused.Goals as goal
+use Rattle.model_text.proofs.Limits.{limits_decide, many_inputs, many_outputs}
+use Rattle.model_text.proofs.refusal_rows.limits_are_refused.Goals as goal
 
 pub returns : goal.returns
 returns c =

@@ -1,10 +1,10 @@
 // Rows of refused models: each kind at its line, and which counts where several refuse.
-ghost use Rattle.model_rows.specs.Kinds.{KindsAreShown};
-ghost use Rattle.model_rows.specs.Phases.{PhasesFollow};
-ghost use Rattle.model_rows.specs.Steps.{StepsFollow};
-ghost use Rattle.model_rows.specs.Long.{LongFilesAreRefused};
-ghost use Rattle.model_rows.specs.Limits.{LimitsAreRefused};
-ghost use Rattle.model_rows.specs.LineBytes.{BytesAreLimited};
+ghost use Rattle.model_text.specs.Kinds.{KindsAreShown};
+ghost use Rattle.model_text.specs.Phases.{PhasesFollow};
+ghost use Rattle.model_text.specs.Steps.{StepsFollow};
+ghost use Rattle.model_text.specs.Long.{LongFilesAreRefused};
+ghost use Rattle.model_text.specs.Limits.{LimitsAreRefused};
+ghost use Rattle.model_text.specs.LineBytes.{BytesAreLimited};
 
 /// Kinds of refusals, each at its line.
 pub fn kinds_are_shown()

@@ -4,7 +4,7 @@ use Rattle.rule_syntax.specs.Tokens.{tokens}
 use Rattle.rule_syntax.specs.Reading.{written_rule}
 use Rattle.rule_syntax.specs.RuleOf.{rule_of}
 use Rattle.model_text.specs.ModelOf.{model_of}
-use Rattle.model_rows.proofs.laws.bytes_are_limited.Goals as goal
+use Rattle.model_text.proofs.refusal_rows.bytes_are_limited.Goals as goal
 
 pub returns : goal.returns
 unfolding sections_of tokens written_rule rule_of model_of

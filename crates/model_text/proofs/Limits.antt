@@ -14,7 +14,7 @@ use Rattle.model_text.specs.Links.{link_count, links_of}
 use Rattle.model_text.specs.Drawings.{Drawing}
 use Rattle.model_text.specs.Trees.{group_of, tree_at, tree_of, no_files}
 use Rattle.model_text.specs.ModelOf.{unless, link_limit_refused, routes_refused, with_files, model_of}
-use Rattle.model_rows.specs.Limits.{HasRightLinks, HasMany}
+use Rattle.model_text.specs.Limits.{HasRightLinks, HasMany}
 
 -- only the limits decide
 pub limits_decide : (bytes : Bytes) (files : Files) (classes : List Class) (drawing : Option Drawing) (ss : List Section) → HasRightLinks bytes classes ss
