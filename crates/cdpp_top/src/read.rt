@@ -22,8 +22,8 @@ use crate::state::read_state;
 use crate::unread::Unread;
 use asked_words::{Asked, FramesFile, Source, read_words};
 use atomic_face::{AtomicModel, Stock};
-use made_model::made_text;
 use model_read::{ModelRefusal, ReadModel, read_model, read_model_bytes};
+use model_text::made_text;
 use room_edge::Room;
 use std::alloc::Global;
 

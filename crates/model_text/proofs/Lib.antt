@@ -24,3 +24,5 @@ mod Once
 mod Made
 mod LaidOn
 pub mod Limits
+mod Appended
+mod LifeText

@@ -26,3 +26,4 @@ pub mod Steps
 pub mod Long
 pub mod Limits
 pub mod LineBytes
+pub mod Texts

@@ -1,5 +1,5 @@
 // The text of the made model of five rows and columns.
-use made_model::made_text;
+use model_text::made_text;
 use std::test::Fail;
 
 const OF_FIVE: &[u8] =

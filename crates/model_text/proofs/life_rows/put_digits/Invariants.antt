@@ -1,7 +1,7 @@
 use Rattle.std.proofs.Common.{◌≡◌, ◌++◌, length, map, take}
 use Rattle.std.specs.List.{range_with_len}
 use Rattle.model_text.specs.Models.{made_digit}
-use Rattle.made_model.proofs.rows.put_digits.Given as goal
+use Rattle.model_text.proofs.life_rows.put_digits.Given as goal
 
 abbrev pub invariant-loop-column : goal.invariant-loop-column
 invariant-loop-column l = record {

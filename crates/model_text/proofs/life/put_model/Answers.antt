@@ -1,5 +1,5 @@
-use Rattle.made_model.proofs.Whole.{whole}
-use Rattle.made_model.proofs.made.put_model.Goals as goal
+use Rattle.model_text.proofs.LifeText.{whole}
+use Rattle.model_text.proofs.life.put_model.Goals as goal
 
 pub returns-clause-ok : goal.returns-clause-ok
 returns-clause-ok c =

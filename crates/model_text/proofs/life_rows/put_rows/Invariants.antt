@@ -2,7 +2,7 @@ use Rattle.std.proofs.Common.{◌≡◌, ◌++◌, length, map, take}
 use Rattle.std.specs.List.{range_with_len}
 use Rattle.source_text.specs.Examples.{file}
 use Rattle.model_text.specs.Models.{made_row}
-use Rattle.made_model.proofs.rows.put_rows.Given as goal
+use Rattle.model_text.proofs.life_rows.put_rows.Given as goal
 
 abbrev pub invariant-loop-row : goal.invariant-loop-row
 invariant-loop-row l = record {

@@ -6,8 +6,8 @@ use Rattle.std.proofs.lemmas.List.{append_assoc}
 use Rattle.quantity.specs.Bytes.{Bytes}
 use Rattle.source_text.specs.Examples.{file}
 use Rattle.model_text.specs.Models.{life_model, made_row, made_text}
-use Rattle.made_model.specs.declared.made.TheConstants.{BEFORE_SIZES, BEFORE_ROWS, BEHIND_ROWS}
-use Rattle.made_model.proofs.Appended.{file_join}
+use Rattle.model_text.specs.declared.life.TheConstants.{BEFORE_SIZES, BEFORE_ROWS, BEHIND_ROWS}
+use Rattle.model_text.proofs.Appended.{file_join}
 
 -- the lines before the sizes, between them and the rows, and behind the rows
 abbrev top_lines : List Bytes

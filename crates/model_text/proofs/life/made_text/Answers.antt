@@ -1,6 +1,6 @@
 use Rattle.std.proofs.Common.{◌≡◌, ap, ◌∙◌, length, take, rules}
-use Rattle.made_model.proofs.Appended.{on_err}
-use Rattle.made_model.proofs.made.made_text.Goals as goal
+use Rattle.model_text.proofs.Appended.{on_err}
+use Rattle.model_text.proofs.life.made_text.Goals as goal
 
 pub returns-then-is_err-clause-err : goal.returns-then-is_err-clause-err
 returns-then-is_err-clause-err c =

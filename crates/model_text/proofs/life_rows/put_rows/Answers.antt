@@ -1,6 +1,6 @@
 use Rattle.model_text.specs.Models.{made_row}
-use Rattle.made_model.proofs.Appended.{kept_on, lines_more}
-use Rattle.made_model.proofs.rows.put_rows.Goals as goal
+use Rattle.model_text.proofs.Appended.{kept_on, lines_more}
+use Rattle.model_text.proofs.life_rows.put_rows.Goals as goal
 
 pub loop-row-preserved : goal.loop-row-preserved
 loop-row-preserved c = record {

@@ -1,7 +1,7 @@
 use Rattle.std.proofs.Common.{◌≡◌, ◌++◌, drop, length, take}
 use Rattle.source_text.specs.Examples.{file}
-use Rattle.made_model.specs.Texts.{texts}
-use Rattle.made_model.proofs.lines.put_lines.Given as goal
+use Rattle.model_text.specs.Texts.{texts}
+use Rattle.model_text.proofs.life_lines.put_lines.Given as goal
 
 -- the text so far, and the lines that are left
 abbrev pub invariant-loop-line : goal.invariant-loop-line

@@ -2,8 +2,8 @@
 ghost use Rattle.std.specs.Prelude.{◌≡◌, ◌≤◌, ◌++◌, OnOk, OnErr, length, take};
 ghost use Rattle.model_text.specs.Models.{made_text};
 
-use crate::lines::{put_lines, put_numbered};
-use crate::rows::put_rows;
+use crate::life_lines::{put_lines, put_numbered};
+use crate::life_rows::put_rows;
 use quantity::OutOfMemory;
 
 /// The lines before the sizes of the space.

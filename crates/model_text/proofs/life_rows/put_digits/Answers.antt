@@ -1,7 +1,7 @@
 use Rattle.std.proofs.Common.{◌++◌, ◌∷◌, [], ap, ◌∙◌}
 use Rattle.model_text.specs.Models.{made_digit}
-use Rattle.made_model.proofs.Appended.{kept_on, bytes_more}
-use Rattle.made_model.proofs.rows.put_digits.Goals as goal
+use Rattle.model_text.proofs.Appended.{kept_on, bytes_more}
+use Rattle.model_text.proofs.life_rows.put_digits.Goals as goal
 
 pub loop-column-preserved : goal.loop-column-preserved
 loop-column-preserved c = record {

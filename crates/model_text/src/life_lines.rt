@@ -1,7 +1,7 @@
 // Lines that are appended to a text. A refusal may leave more behind what was there.
 ghost use Rattle.std.specs.Prelude.{◌≡◌, [], ◌∷◌, ◌++◌, OnOk, length, take, decimal};
 ghost use Rattle.source_text.specs.Examples.{file};
-ghost use Rattle.made_model.specs.Texts.{texts};
+ghost use Rattle.model_text.specs.Texts.{texts};
 
 use itoa::Buffer;
 use quantity::OutOfMemory;

@@ -4,7 +4,7 @@ ghost use Rattle.std.specs.List.{range_with_len};
 ghost use Rattle.source_text.specs.Examples.{file};
 ghost use Rattle.model_text.specs.Models.{made_digit, made_row};
 
-use crate::lines::{put, put_number};
+use crate::life_lines::{put, put_number};
 use quantity::OutOfMemory;
 
 /// Appends the lines of all rows.

@@ -1,5 +1,5 @@
-use Rattle.made_model.proofs.Appended.{row_of_parts}
-use Rattle.made_model.proofs.rows.put_row.Goals as goal
+use Rattle.model_text.proofs.Appended.{row_of_parts}
+use Rattle.model_text.proofs.life_rows.put_row.Goals as goal
 
 pub returns-clause-ok : goal.returns-clause-ok
 returns-clause-ok c =
