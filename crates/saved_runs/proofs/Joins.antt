@@ -27,8 +27,8 @@ use Rattle.text_forms.specs.LeafStates.{has_names}
 use Rattle.text_forms.specs.ReadBack.{ReadsWhatIsWritten, ReadsNothingElse}
 use Rattle.text_forms.specs.StateOf.{Saved}
 use Rattle.text_forms.specs.Frames.{value_at, shown_in}
-use Rattle.kept_states.specs.Settled.{IsInState}
-use Rattle.kept_states.specs.Kept.{StartIsInState, RunsKeepStates, StatesAreSmall, StatesAreBounded}
+use Rattle.saved_runs.specs.Settled.{IsInState}
+use Rattle.saved_runs.specs.Kept.{StartIsInState, RunsKeepStates, StatesAreSmall, StatesAreBounded}
 use Rattle.answer_model.specs.AcceptedRuns.{ModelsAreBounded, ModelsAreNamed}
 use Rattle.answer_model.specs.RunFiles.{emitted_of, emitted_before}
 use Rattle.answer_model.specs.Cdpp.{begins, run_on}

@@ -23,8 +23,8 @@ use Rattle.run_model.proofs.BoxLaws.{box-from, settings_bounded}
 use Rattle.text_forms.specs.LogLine.{is_value}
 use Rattle.text_forms.specs.LeafStates.{rises, is_port_state, is_later, has_values_in_range}
 use Rattle.text_forms.specs.LeafStates.{is_word, IsStateOf}
-use Rattle.kept_states.specs.Settled.{AreSettled, IsSettled, IsInState}
-use Rattle.kept_states.specs.Kept.{IsSmall, StatesAreSmall, StatesAreBounded}
+use Rattle.saved_runs.specs.Settled.{AreSettled, IsSettled, IsInState}
+use Rattle.saved_runs.specs.Kept.{IsSmall, StatesAreSmall, StatesAreBounded}
 use Rattle.saved_runs.specs.Accepted.{HasValues}
 use Rattle.saved_runs.specs.TextOnce.{IsStateAfter}
 

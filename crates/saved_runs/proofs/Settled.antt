@@ -27,7 +27,7 @@ use Rattle.model_text.specs.Accepted.{PassesEachPhase}
 use Rattle.model_text.specs.BuildLaws.{PassedLinks, component_at, ItemsAreMade, WalkIsMet}
 use Rattle.model_text.proofs.Parts.{item_steps, split_all, is_below, class_there}
 use Rattle.run_model.proofs.Basics.{true_false, some_none, both_none, both_hold}
-use Rattle.kept_states.specs.Settled.{AreSettled, IsSettled}
+use Rattle.saved_runs.specs.Settled.{AreSettled, IsSettled}
 use Rattle.saved_runs.specs.Accepted.{ModelsAreSettled}
 
 -- ---- what the stock says of the items of the walk

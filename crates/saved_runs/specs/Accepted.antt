@@ -11,7 +11,7 @@ use Rattle.model_text.specs.Drawings.{Drawing}
 use Rattle.model_text.specs.ModelOf.{model, model_of}
 use Rattle.run_model.specs.Emitted.{IsCell}
 use Rattle.text_forms.specs.StateOf.{Saved, state_of}
-use Rattle.kept_states.specs.Settled.{HasSettledBoxes}
+use Rattle.saved_runs.specs.Settled.{HasSettledBoxes}
 use Rattle.answer_model.specs.RunFiles.{group_at}
 
 -- the model of some file, with some files, boxes and drawing

@@ -1,5 +1,5 @@
-use Rattle.kept_states.proofs.Runs.{runs-keep, start-is}
-use Rattle.kept_states.proofs.laws.runs_keep_states.Goals as goal
+use Rattle.saved_runs.proofs.Runs.{runs-keep, start-is}
+use Rattle.saved_runs.proofs.box_laws.runs_keep_states.Goals as goal
 
 pub returns : goal.returns
 returns c = record {

@@ -11,7 +11,7 @@ use Rattle.quantity.specs.declared.value.Value.TheVariants.{Undefined, Num}
 use Rattle.quantity.specs.Arithmetic.{IsBounded, bounded, sum_of}
 use Rattle.atomic_face.specs.Words.{word_of, is_number, is_time_word, is_none_word, is_due}
 use Rattle.atomic_face.specs.Words.{is_value_word, are_values}
-use Rattle.kept_states.specs.Kept.{IsSmall}
+use Rattle.saved_runs.specs.Kept.{IsSmall}
 
 pub and-both : (a b : Bool) → (a && b) ≡ true → (a ≡ true) × (b ≡ true)
 and-both true b e = (refl, e)

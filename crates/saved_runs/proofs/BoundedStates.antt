@@ -23,8 +23,8 @@ use Rattle.run_model.specs.GeneratorBounds.{IsBoundedGenerator}
 use Rattle.run_model.specs.CpuBounds.{AreBoundedWords}
 use Rattle.run_model.specs.CounterBounds.{IsBoundedCounter}
 use Rattle.run_model.specs.TableBounds.{IsBoundedTable}
-use Rattle.kept_states.specs.Kept.{StatesAreBounded}
-use Rattle.kept_states.proofs.Words.{and-both}
+use Rattle.saved_runs.specs.Kept.{StatesAreBounded}
+use Rattle.saved_runs.proofs.Words.{and-both}
 
 value-is : (w : ℤ) → is_value_word w ≡ true → IsValueWord w
 value-is (pos n) h = by_word (n == 10 ^ 16) refl

@@ -21,8 +21,8 @@ use Rattle.run_model.specs.Run.{Cycle, RunState, Verdict, port_records, at_top}
 use Rattle.run_model.specs.Runs.{Runs, ends, goes}
 use Rattle.run_model.specs.Bounds.{IsBoundedPortRecord, IsBoundedCycle, RunsAreBounded}
 use Rattle.run_model.proofs.Steps.{moves_at, is_cycled}
-use Rattle.kept_states.specs.Settled.{AreSettled, IsSettled, IsInState}
-use Rattle.kept_states.specs.Kept.{StartsAreStates, MovesKeepStates, StartIsInState, RunsKeepStates}
+use Rattle.saved_runs.specs.Settled.{AreSettled, IsSettled, IsInState}
+use Rattle.saved_runs.specs.Kept.{StartsAreStates, MovesKeepStates, StartIsInState, RunsKeepStates}
 
 -- ---- what every leaf that moves keeps, all leaves keep
 

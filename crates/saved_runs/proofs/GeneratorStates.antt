@@ -19,12 +19,12 @@ use Rattle.atomic_face.specs.Generator.{generator_words, generator_internal, gen
 use Rattle.atomic_face.specs.Generator.{generator_rules, is_left, is_generator, is_none_left}
 use Rattle.atomic_face.specs.Generator.{one_less}
 use Rattle.atomic_face.specs.Settings.{settings_of}
-use Rattle.kept_states.specs.Settled.{AreSettled}
-use Rattle.kept_states.specs.Kept.{IsSmall, KeepsStates}
-use Rattle.kept_states.proofs.Words.{and-both, both-and, value-word, time-word, number-word, sum-is}
-use Rattle.kept_states.proofs.Words.{due-small, value-small, number-small, none-small}
-use Rattle.kept_states.proofs.Parameters.{IsTimeWord, IsCountWord, time_of, period_of, value_of}
-use Rattle.kept_states.proofs.Parameters.{count_of}
+use Rattle.saved_runs.specs.Settled.{AreSettled}
+use Rattle.saved_runs.specs.Kept.{IsSmall, KeepsStates}
+use Rattle.saved_runs.proofs.Words.{and-both, both-and, value-word, time-word, number-word, sum-is}
+use Rattle.saved_runs.proofs.Words.{due-small, value-small, number-small, none-small}
+use Rattle.saved_runs.proofs.Parameters.{IsTimeWord, IsCountWord, time_of, period_of, value_of}
+use Rattle.saved_runs.proofs.Parameters.{count_of}
 
 -- what is known of the settings of a generator
 pub record IsGenerator (s : GeneratorSettings) : Type 0 where

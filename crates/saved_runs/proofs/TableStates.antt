@@ -19,11 +19,11 @@ use Rattle.atomic_face.specs.StateTable.{table_start, word_at, size_in, has_hold
 use Rattle.atomic_face.specs.StateTable.{is_table, no_hold, hold_of, due_after, entered, takes}
 use Rattle.atomic_face.specs.StateTable.{taken}
 use Rattle.run_model.proofs.Basics.{some_same, none_some}
-use Rattle.kept_states.specs.Settled.{AreSettled}
-use Rattle.kept_states.specs.Kept.{IsSmall, KeepsStates}
-use Rattle.kept_states.proofs.Words.{and-both, both-and, value-word, time-word, due-small}
-use Rattle.kept_states.proofs.Words.{value-small}
-use Rattle.kept_states.proofs.TableParts.{IsHoldTime, LeadsBelow, IsTable, known}
+use Rattle.saved_runs.specs.Settled.{AreSettled}
+use Rattle.saved_runs.specs.Kept.{IsSmall, KeepsStates}
+use Rattle.saved_runs.proofs.Words.{and-both, both-and, value-word, time-word, due-small}
+use Rattle.saved_runs.proofs.Words.{value-small}
+use Rattle.saved_runs.proofs.TableParts.{IsHoldTime, LeadsBelow, IsTable, known}
 
 abbrev IsInput : PortNo × Value → Type 0
 IsInput i = IsBounded i.1

@@ -16,13 +16,13 @@ use Rattle.atomic_face.specs.Counter.{is_counter}
 use Rattle.run_model.specs.Bounds.{AreBoundedSettings}
 use Rattle.run_model.specs.BoxesStay.{StaysAState}
 use Rattle.run_model.proofs.BoxLaws.{settings_bounded}
-use Rattle.kept_states.specs.Settled.{AreSettled}
-use Rattle.kept_states.specs.Kept.{IsSmall, StartsAreStates, MovesKeepStates, StatesAreSmall}
-use Rattle.kept_states.proofs.Words.{and-both, both-and, number-small, time-small, due-small}
-use Rattle.kept_states.proofs.Words.{either-small, value-small, values-small}
-use Rattle.kept_states.proofs.Parameters.{value_of}
-use Rattle.kept_states.proofs.GeneratorStates.{generators-start, generators-stay, generators-small}
-use Rattle.kept_states.proofs.TableStates.{tables-start, tables-stay, tables-small}
+use Rattle.saved_runs.specs.Settled.{AreSettled}
+use Rattle.saved_runs.specs.Kept.{IsSmall, StartsAreStates, MovesKeepStates, StatesAreSmall}
+use Rattle.saved_runs.proofs.Words.{and-both, both-and, number-small, time-small, due-small}
+use Rattle.saved_runs.proofs.Words.{either-small, value-small, values-small}
+use Rattle.saved_runs.proofs.Parameters.{value_of}
+use Rattle.saved_runs.proofs.GeneratorStates.{generators-start, generators-stay, generators-small}
+use Rattle.saved_runs.proofs.TableStates.{tables-start, tables-stay, tables-small}
 
 -- ---- starts
 

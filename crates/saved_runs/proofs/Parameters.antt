@@ -16,7 +16,7 @@ use Rattle.atomic_face.specs.Parameters.{Parameter, parameter, time_word, period
 use Rattle.atomic_face.specs.Parameters.{value_word, count_word, setting_of}
 use Rattle.run_model.proofs.Basics.{none_some, then_there, map_there, on_there}
 use Rattle.run_model.proofs.BoundedTexts.{value_bounded, time_early, whole_below}
-use Rattle.kept_states.proofs.Words.{value-word}
+use Rattle.saved_runs.proofs.Words.{value-word}
 
 -- a word that is a time of at most 99:59:59:999
 pub record IsTimeWord (w : ℤ) : Type 0 where

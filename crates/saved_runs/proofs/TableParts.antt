@@ -27,9 +27,9 @@ use Rattle.atomic_face.specs.Settings.{least_line, first_line_off}
 use Rattle.run_model.proofs.Basics.{none_some, some_none, some_same, map_there, then_there}
 use Rattle.run_model.proofs.Basics.{cons_nil}
 use Rattle.run_model.proofs.BoundedTexts.{time_early}
-use Rattle.kept_states.specs.Settled.{AreSettled}
-use Rattle.kept_states.proofs.Words.{and-both}
-use Rattle.kept_states.proofs.Parameters.{IsTimeWord}
+use Rattle.saved_runs.specs.Settled.{AreSettled}
+use Rattle.saved_runs.proofs.Words.{and-both}
+use Rattle.saved_runs.proofs.Parameters.{IsTimeWord}
 
 -- ---- numbers of states
 
