@@ -13,12 +13,12 @@ use asked_words::{Asked, GroupAt};
 use atomic_face::{AtomicModel, Stock};
 use event_list::Events;
 use flat_run::FlatRun;
-use linked_queue::LinkedQueue;
 use model_read::ReadModel;
 use quantity::OutOfMemory;
 use run_model::laws::{nothing_waits_in_the_past, records_name_what_there_is};
 use state_file::laws::read_states_fit;
 use std::alloc::Global;
+use time_queue::LinkedQueue;
 use tree_serve::{ServedRun, TreeRun};
 
 /// What is asked for, the group that is drawn, and the run of the model that was read, before its

@@ -10,12 +10,12 @@ use crate::unread::Unread;
 use crate::way::Way;
 use atomic_face::AtomicModel;
 use flat_run::FlatRun;
-use linked_queue::LinkedQueue;
 use quantity::{MAX_LOG_BYTES, Text, Time};
 use room_edge::{ReadWhole, Room, read_whole};
 use state_file::load_state;
 use std::alloc::Global;
 use text_forms::StateRefusal;
+use time_queue::LinkedQueue;
 use tree_serve::ServedRun;
 
 // The most bytes that a file of a state may have.

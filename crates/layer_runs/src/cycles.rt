@@ -10,7 +10,6 @@ use atomic_kinds::CounterModel;
 use cell_engine::Steps;
 use event_list::Events;
 use flat_run::{FlatRun, Progress};
-use linked_queue::LinkedQueue;
 use model_read::{ReadModel, read_model_bytes};
 use model_tree::Model;
 use quantity::{OutOfMemory, Time, Value};
@@ -22,6 +21,7 @@ use std::marker::Brand;
 use std::process::Abort;
 use std::sync::ledger::{Blank, Ledger};
 use std::test::Fail;
+use time_queue::LinkedQueue;
 
 type Run = FlatRun<LinkedQueue, CounterModel>;
 

@@ -2,7 +2,7 @@
 //!
 //! - The routes of a model in which two generators feed a queue (`routes`); the run of a ring of
 //!   three cells, cycle by cycle, with what each call answers and records (`cycles`).
-//! - Crates that are tried: `route_flat`, `flat_run` over `linked_queue`.
+//! - Crates that are tried: `route_flat`, `flat_run` over `time_queue`.
 #![tactic(auto)]
 
 #[cfg(test)]

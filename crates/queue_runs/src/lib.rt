@@ -3,7 +3,7 @@
 //! - Delay lists take pairs by transport and by inertia (`delay_lists`); both sets of leaves give
 //!   up their members (`leaf_sets`); three queues of next times are led through the same moves
 //!   (`queues`, over `moves`).
-//! - Crates that are tried: `delay_lines`, `leaf_set`, `time_queue`, `linked_queue`.
+//! - Crates that are tried: `delay_lines`, `leaf_set`, `time_queue`.
 #![tactic(auto)]
 
 #[cfg(test)]

@@ -2,10 +2,9 @@
 ghost use Rattle.std.specs.Prelude.{◌≡◌, length};
 
 use crate::moves::moves_carried_out;
-use linked_queue::LinkedQueue;
 use std::process::Abort;
 use std::test::Fail;
-use time_queue::{HeapQueue, Reply, SortedQueue, TimeQueue};
+use time_queue::{HeapQueue, LinkedQueue, Reply, SortedQueue, TimeQueue};
 
 /// How many leaves each reply has, and which time is the least then.
 const WANTED: [(usize, Option<u32>); 11] = [

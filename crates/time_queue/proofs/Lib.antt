@@ -8,3 +8,5 @@ pub mod Moved
 pub mod Replayed
 pub mod Fronts
 pub mod Steps
+pub mod Links
+pub mod Lines

@@ -3,3 +3,4 @@ pub mod Replay
 pub mod Sorted
 pub mod Taking
 pub mod Waiting
+pub mod Lists
