@@ -19,9 +19,9 @@ use Rattle.answer_model.specs.Visits.{is_counted}
 use Rattle.answer_model.specs.declared.status.Status.{Status}
 use Rattle.answer_model.specs.Status.{IsOf, of_run}
 use Rattle.flat_run.specs.Standing.{Standing, tree_in}
-use Rattle.run_files.specs.Texts.{files, made_before}
-use Rattle.run_files.specs.Groups.{showing_at_start}
-use Rattle.run_files.specs.Showing.{Showing}
+use Rattle.run_loop.specs.Texts.{files, made_before}
+use Rattle.run_loop.specs.Groups.{showing_at_start}
+use Rattle.run_loop.specs.Showing.{Showing}
 use Rattle.run_loop.specs.Answers.{MayRun}
 use Rattle.run_loop.specs.Left.{run_of}
 use Rattle.run_loop.specs.Ran.{asking}

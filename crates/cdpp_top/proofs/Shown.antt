@@ -10,7 +10,7 @@ use Rattle.answer_model.specs.Started.{drawing_of}
 use Rattle.asked_words.specs.declared.asked.FramesFile as code
 use Rattle.answer_model.specs.RunFiles.{group_at}
 use Rattle.asked_words.specs.Shown.{frames_of, CanBeShown}
-use Rattle.run_files.specs.Groups.{CanDrawOf, CanShow}
+use Rattle.run_loop.specs.Groups.{CanDrawOf, CanShow}
 use Rattle.cdpp_top.proofs.Groups.{plane_inside, group_there}
 
 -- ---- what can be shown

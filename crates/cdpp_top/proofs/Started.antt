@@ -33,7 +33,7 @@ use Rattle.answer_model.specs.Resume.{StatesMayBegin}
 use Rattle.answer_model.specs.Started.{Started}
 use Rattle.answer_model.specs.Visits.{is_counted, state_visits, start_visits}
 use Rattle.run_model.specs.Visits.{visits}
-use Rattle.run_files.specs.Groups.{IsFoundIn, CanShow}
+use Rattle.run_loop.specs.Groups.{IsFoundIn, CanShow}
 use Rattle.run_loop.specs.Answers.{MayRun, BeginsFrom, answer_to}
 use Rattle.run_loop.specs.Left.{run_of}
 use Rattle.cdpp_top.specs.Starting.{tree_on, MayStart, IsMadeOf, MayGoOn, going_from, IsResumed, RunsMayRun}

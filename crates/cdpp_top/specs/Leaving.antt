@@ -10,8 +10,8 @@ use Rattle.answer_model.specs.Cdpp.{run_of}
 use Rattle.answer_model.specs.Visits.{is_counted}
 use Rattle.answer_model.specs.declared.status.Status.{Status}
 use Rattle.answer_model.specs.Status.{IsOf, of_run}
-use Rattle.run_files.specs.AskedFiles.{names_asked}
-use Rattle.run_files.specs.Groups.{showing_at_start}
+use Rattle.run_loop.specs.AskedFiles.{names_asked}
+use Rattle.run_loop.specs.Groups.{showing_at_start}
 use Rattle.run_loop.specs.Leaves.{Asking, spent, Leaves}
 
 -- no file was made, and no leaf was visited

@@ -23,7 +23,7 @@ use Rattle.answer_model.specs.Started.{drawing_of}
 use Rattle.asked_words.specs.declared.asked.Asked.{Asked}
 use Rattle.asked_words.specs.declared.group.GroupAt.{GroupAt}
 use Rattle.asked_words.specs.Shown.{text_of_name, asked_of, IsInBounds}
-use Rattle.run_files.specs.Groups.{IsFoundIn}
+use Rattle.run_loop.specs.Groups.{IsFoundIn}
 use Rattle.run_loop.specs.Answers.{MayRun}
 
 -- the classes of boxes, by what each of them means

@@ -17,14 +17,14 @@ use Rattle.flat_run.specs.Standing.{Standing, tree_in}
 use Rattle.asked_words.specs.declared.asked.Asked as code
 use Rattle.asked_words.specs.declared.group.GroupAt.{GroupAt}
 use Rattle.asked_words.specs.Shown.{asked_of}
-use Rattle.run_files.specs.AskedFiles.{frames_name, names_asked, names_of}
-use Rattle.run_files.specs.Texts.{Texts, files}
-use Rattle.run_files.specs.Order.{texts_of}
-use Rattle.run_files.specs.Pieces.{run_pieces}
-use Rattle.run_files.specs.Showing.{Showing, frames_left, left_texts}
-use Rattle.run_files.specs.Groups.{picture_of, begun_at, showing_at_start, CanDrawOf, CanShow}
-use Rattle.run_files.proofs.Groups.{none_begun, begun_frames}
-use Rattle.run_files.proofs.Turns.{texts_all}
+use Rattle.run_loop.specs.AskedFiles.{frames_name, names_asked, names_of}
+use Rattle.run_loop.specs.Texts.{Texts, files}
+use Rattle.run_loop.specs.Order.{texts_of}
+use Rattle.run_loop.specs.Pieces.{run_pieces}
+use Rattle.run_loop.specs.Showing.{Showing, frames_left, left_texts}
+use Rattle.run_loop.specs.Groups.{picture_of, begun_at, showing_at_start, CanDrawOf, CanShow}
+use Rattle.run_loop.proofs.Groups.{none_begun, begun_frames}
+use Rattle.run_loop.proofs.Turns.{texts_all}
 use Rattle.run_loop.specs.Answers.{MayRun, BeginsFrom, answer_to}
 use Rattle.run_loop.specs.Known.{IsFit, RunsAreFit}
 use Rattle.run_loop.specs.Left.{run_of, IsFitTo}

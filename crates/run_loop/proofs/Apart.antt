@@ -10,8 +10,8 @@ use Rattle.answer_model.specs.Options.{differ_all}
 use Rattle.asked_words.specs.declared.asked.Asked as code
 use Rattle.asked_words.specs.declared.asked.FramesFile as frames
 use Rattle.asked_words.specs.Shown.{text_of_name, given_names, frames_of, made_names}
-use Rattle.run_files.specs.AskedFiles.{frames_name, names_of}
-use Rattle.run_files.specs.Texts.{Names, AreApart, Differ}
+use Rattle.run_loop.specs.AskedFiles.{frames_name, names_of}
+use Rattle.run_loop.specs.Texts.{Names, AreApart, Differ}
 
 -- those that are given
 abbrev given : List (Option Word) → List Word

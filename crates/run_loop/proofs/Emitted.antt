@@ -28,8 +28,8 @@ use Rattle.answer_model.specs.RunFiles.{group_at, emitted_of, emitted_before}
 use Rattle.answer_model.specs.Cdpp.{begins}
 use Rattle.saved_runs.specs.Accepted.{GroupsStand}
 use Rattle.asked_words.specs.Shown.{text_of_name}
-use Rattle.run_files.specs.Groups.{picture_of, begun_at, showing_at_start}
-use Rattle.run_files.specs.Showing.{Showing, with_drawing}
+use Rattle.run_loop.specs.Groups.{picture_of, begun_at, showing_at_start}
+use Rattle.run_loop.specs.Showing.{Showing, with_drawing}
 use Rattle.run_loop.specs.Emitted.{given_by, with_emitted, AreCells, IsUnbegun, AreUnbegun}
 
 -- ---- a cell

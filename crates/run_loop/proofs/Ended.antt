@@ -8,7 +8,7 @@ use Rattle.model_tree.specs.LeafTexts.{leaf_text}
 use Rattle.model_tree.proofs.Read.{leaves-length}
 use Rattle.text_forms.specs.LogLine as log
 use Rattle.text_forms.specs.Lines.{leaf_name}
-use Rattle.run_files.proofs.Groups.{leaf_in}
+use Rattle.run_loop.proofs.Groups.{leaf_in}
 use Rattle.quantity.specs.Bytes.{Bytes}
 use Rattle.rule_tree.specs.declared.outcome.RuleStop.{RuleStop}
 use Rattle.rule_tree.specs.declared.outcome.RuleStop.TheVariants.{NoTrueRule, Overflow, BadDelay}
@@ -27,14 +27,14 @@ use Rattle.answer_model.specs.RunEnd.{Said, said, done_line, made_line, many_lin
 use Rattle.answer_model.proofs.Endings.{endings_follow}
 use Rattle.answer_model.proofs.Said.{said_among, shown_among}
 use Rattle.answer_model.proofs.Stages.{then_ends, rose_by_said, rose_by_shown}
-use Rattle.run_files.specs.Texts.{Names, Texts, no_texts, files}
+use Rattle.run_loop.specs.Texts.{Names, Texts, no_texts, files}
 use Rattle.answer_model.specs.FaultsAnswered.{AnswersFaults}
 use Rattle.answer_model.proofs.FaultLemmas.{then_answers, said_answers, shown_answers}
-use Rattle.run_files.proofs.Making.{clean_adds}
-use Rattle.run_files.specs.Order.{Piece, texts_of}
-use Rattle.run_files.specs.Written.{Adds, AddsAll}
-use Rattle.run_files.specs.Counts.{Counts, no_counts, counts_of}
-use Rattle.run_files.proofs.Counting.{counts_y, counts_s, ones_counted}
+use Rattle.run_loop.proofs.Making.{clean_adds}
+use Rattle.run_loop.specs.Order.{Piece, texts_of}
+use Rattle.run_loop.specs.Written.{Adds, AddsAll}
+use Rattle.run_loop.specs.Counts.{Counts, no_counts, counts_of}
+use Rattle.run_loop.proofs.Counting.{counts_y, counts_s, ones_counted}
 use Rattle.run_loop.specs.declared.going.Going.{Going}
 use Rattle.run_loop.specs.declared.ending.Ending.{Ending}
 use Rattle.run_loop.specs.Begins.{CountsNone, counts_at_start}

@@ -17,14 +17,14 @@ use Rattle.answer_model.specs.RunFiles.{saved_text}
 use Rattle.answer_model.proofs.Endings.{steps_lead}
 use Rattle.answer_model.proofs.Said.{said_only}
 use Rattle.flat_run.specs.Standing.{Standing}
-use Rattle.run_files.specs.declared.outputs.Unwritten.{Unwritten}
-use Rattle.run_files.specs.declared.outputs.Unwritten.TheVariants.{Fault, Memory}
-use Rattle.run_files.specs.Texts.{Names, no_texts, files, name_at, made_before}
-use Rattle.run_files.specs.Order.{texts_of}
-use Rattle.run_files.specs.Pieces.{run_pieces}
-use Rattle.run_files.specs.Written.{MakesAll, FallsMaking, Tells, Blames}
-use Rattle.run_files.specs.Showing.{Showing}
-use Rattle.run_files.proofs.Making.{some_of, if_some}
+use Rattle.run_loop.specs.declared.outputs.Unwritten.{Unwritten}
+use Rattle.run_loop.specs.declared.outputs.Unwritten.TheVariants.{Fault, Memory}
+use Rattle.run_loop.specs.Texts.{Names, no_texts, files, name_at, made_before}
+use Rattle.run_loop.specs.Order.{texts_of}
+use Rattle.run_loop.specs.Pieces.{run_pieces}
+use Rattle.run_loop.specs.Written.{MakesAll, FallsMaking, Tells, Blames}
+use Rattle.run_loop.specs.Showing.{Showing}
+use Rattle.run_loop.proofs.Making.{some_of, if_some}
 use Rattle.run_loop.specs.declared.ending.Ending.{Ending}
 use Rattle.run_loop.specs.declared.going.Going.{Going}
 use Rattle.run_loop.specs.Ends.{IsSaid, is_shown, is_complained}

@@ -1,3 +1,13 @@
+pub mod Around
+pub mod Adding
+pub mod Making
+pub mod Cycles
+pub mod Ends
+pub mod Starts
+pub mod Turns
+pub mod Groups
+pub mod Counting
+pub mod Pieces
 pub mod Known
 pub mod GoesOn
 pub mod Costs

@@ -21,8 +21,8 @@ use Rattle.flat_run.specs.Steps.{Keeps, Cycles}
 use Rattle.flat_run.specs.declared.progress.Progress.TheVariants as progress
 use Rattle.flat_run.specs.declared.progress.Stop.{Stop}
 use Rattle.flat_run.specs.declared.progress.Stop.TheVariants.{NoTrueRule, Overflow, BadDelay, TooManyCycles, Memory}
-use Rattle.run_files.specs.declared.outputs.Unwritten.{Unwritten}
-use Rattle.run_files.specs.declared.outputs.Unwritten.TheVariants as why
+use Rattle.run_loop.specs.declared.outputs.Unwritten.{Unwritten}
+use Rattle.run_loop.specs.declared.outputs.Unwritten.TheVariants as why
 use Rattle.run_loop.specs.declared.ending.Ending.{Ending}
 use Rattle.run_loop.specs.declared.ending.Ending.TheVariants.{Done, Stopped}
 use Rattle.run_loop.specs.Answers.{MayRun, BeginsFrom}

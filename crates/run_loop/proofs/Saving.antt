@@ -13,11 +13,11 @@ use Rattle.asked_words.specs.Shown.{text_of_name}
 use Rattle.flat_run.specs.Standing.{Standing}
 use Rattle.flat_run.specs.declared.progress.Stop.{Stop}
 use Rattle.flat_run.specs.declared.progress.Stop.TheVariants.{NoTrueRule, Overflow, BadDelay, TooManyCycles, Memory}
-use Rattle.run_files.specs.declared.outputs.Output.TheVariants.{State}
-use Rattle.run_files.specs.Texts.{Names}
-use Rattle.run_files.specs.Order.{one_piece}
-use Rattle.run_files.specs.Written.{AddsAll}
-use Rattle.run_files.proofs.Adding.{nothing_added}
+use Rattle.run_loop.specs.declared.outputs.Output.TheVariants.{State}
+use Rattle.run_loop.specs.Texts.{Names}
+use Rattle.run_loop.specs.Order.{one_piece}
+use Rattle.run_loop.specs.Written.{AddsAll}
+use Rattle.run_loop.proofs.Adding.{nothing_added}
 use Rattle.run_loop.specs.declared.ending.Ending.TheVariants.{Done, Stopped}
 use Rattle.run_loop.specs.Saving.{Saves}
 

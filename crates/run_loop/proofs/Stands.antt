@@ -27,19 +27,19 @@ use Rattle.flat_run.specs.Standing.{Standing, tree_in, next_of}
 use Rattle.flat_run.specs.Steps as run
 use Rattle.flat_run.specs.Steps.{Keeps, Cycles, visits_of}
 use Rattle.flat_run.specs.declared.progress.Stop.{Stop}
-use Rattle.run_files.specs.declared.outputs.Output.TheVariants.{Frames, State}
-use Rattle.run_files.specs.declared.outputs.Unwritten.{Unwritten}
-use Rattle.run_files.specs.declared.outputs.Unwritten.TheVariants as why
-use Rattle.run_files.specs.AskedFiles.{names_of}
-use Rattle.run_files.specs.Texts.{Names, AreCreated}
-use Rattle.run_files.specs.Order.{Piece, piece_of, one_piece}
-use Rattle.run_files.specs.Written.{AddsAll, Falls}
-use Rattle.run_files.specs.Showing.{Showing, after_cycle, last_frame}
-use Rattle.run_files.specs.Pieces.{cycle_pieces, drawn_after, cycles_pieces, end_pieces, run_pieces}
-use Rattle.run_files.specs.Counts.{Counts, counts_after, counts_of}
-use Rattle.run_files.proofs.Adding.{all_none, all_both, all_as, fell_at_once, falls_after, falls_before, falls_as}
-use Rattle.run_files.proofs.Cycles.{none_of_cycle}
-use Rattle.run_files.proofs.Pieces.{after_split, pieces_split, pieces_next}
+use Rattle.run_loop.specs.declared.outputs.Output.TheVariants.{Frames, State}
+use Rattle.run_loop.specs.declared.outputs.Unwritten.{Unwritten}
+use Rattle.run_loop.specs.declared.outputs.Unwritten.TheVariants as why
+use Rattle.run_loop.specs.AskedFiles.{names_of}
+use Rattle.run_loop.specs.Texts.{Names, AreCreated}
+use Rattle.run_loop.specs.Order.{Piece, piece_of, one_piece}
+use Rattle.run_loop.specs.Written.{AddsAll, Falls}
+use Rattle.run_loop.specs.Showing.{Showing, after_cycle, last_frame}
+use Rattle.run_loop.specs.Pieces.{cycle_pieces, drawn_after, cycles_pieces, end_pieces, run_pieces}
+use Rattle.run_loop.specs.Counts.{Counts, counts_after, counts_of}
+use Rattle.run_loop.proofs.Adding.{all_none, all_both, all_as, fell_at_once, falls_after, falls_before, falls_as}
+use Rattle.run_loop.proofs.Cycles.{none_of_cycle}
+use Rattle.run_loop.proofs.Pieces.{after_split, pieces_split, pieces_next}
 use Rattle.run_loop.specs.declared.ending.Ending.{Ending}
 use Rattle.run_loop.specs.declared.ending.Ending.TheVariants.{Done, Stopped}
 use Rattle.run_loop.specs.declared.going.Going.{Going}

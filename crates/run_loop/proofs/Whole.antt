@@ -16,15 +16,15 @@ use Rattle.asked_words.specs.declared.asked.Asked as code
 use Rattle.flat_run.specs.Marking.{Marking}
 use Rattle.flat_run.specs.Standing.{Standing, tree_in}
 use Rattle.flat_run.specs.Steps.{Keeps}
-use Rattle.run_files.specs.declared.outputs.Output.TheVariants.{Frames, State}
-use Rattle.run_files.specs.declared.outputs.Unwritten.{Unwritten}
-use Rattle.run_files.specs.AskedFiles.{names_of}
-use Rattle.run_files.specs.Texts.{Names, AreCreated}
-use Rattle.run_files.specs.Order.{Piece, one_piece}
-use Rattle.run_files.specs.Written.{AddsAll, Falls, Writes}
-use Rattle.run_files.specs.Showing.{Showing, last_frame}
-use Rattle.run_files.specs.Pieces.{drawn_after}
-use Rattle.run_files.proofs.Ends.{run_unwritten, run_written}
+use Rattle.run_loop.specs.declared.outputs.Output.TheVariants.{Frames, State}
+use Rattle.run_loop.specs.declared.outputs.Unwritten.{Unwritten}
+use Rattle.run_loop.specs.AskedFiles.{names_of}
+use Rattle.run_loop.specs.Texts.{Names, AreCreated}
+use Rattle.run_loop.specs.Order.{Piece, one_piece}
+use Rattle.run_loop.specs.Written.{AddsAll, Falls, Writes}
+use Rattle.run_loop.specs.Showing.{Showing, last_frame}
+use Rattle.run_loop.specs.Pieces.{drawn_after}
+use Rattle.run_loop.proofs.Ends.{run_unwritten, run_written}
 use Rattle.run_loop.specs.declared.ending.Ending.{Ending}
 use Rattle.run_loop.specs.declared.ending.Ending.TheVariants.{Done, Stopped}
 use Rattle.run_loop.specs.declared.going.Going.{Going}

@@ -16,7 +16,7 @@ use Rattle.asked_words.specs.declared.asked.Asked.{Asked}
 use Rattle.asked_words.specs.declared.group.GroupAt.{GroupAt}
 use Rattle.asked_words.specs.Shown.{asked_of, made_names}
 use Rattle.flat_run.specs.Standing.{Standing, tree_in}
-use Rattle.run_files.specs.Groups.{IsFoundIn, CanShow}
+use Rattle.run_loop.specs.Groups.{IsFoundIn, CanShow}
 
 -- a run of a sound model before its first cycle, from which all waits for later times, to the end
 -- and with the limit that are asked for; the group that is drawn was found there, and its frames

@@ -2,7 +2,7 @@
 use Rattle.std.specs.Prelude.{◌≡◌, Option, Some, None}
 use Rattle.model_tree.specs.Tree.{Tree, leaf_count}
 use Rattle.answer_model.specs.Asked.{Source, file, made, Asked}
-use Rattle.run_files.specs.Counts.{Counts, no_counts}
+use Rattle.run_loop.specs.Counts.{Counts, no_counts}
 use Rattle.run_loop.specs.declared.going.Going.{Going}
 
 -- the counts before a run, where a model is made

@@ -6,7 +6,7 @@ use Rattle.run_model.specs.Cycle.{LeafState}
 use Rattle.sparse_cycle.specs.Sparse.{leaf_of}
 use Rattle.run_leaves.specs.Saved.{is_cell}
 use Rattle.answer_model.specs.RunFiles.{emitted_of}
-use Rattle.run_files.specs.Showing.{Showing, showing_from}
+use Rattle.run_loop.specs.Showing.{Showing, showing_from}
 
 -- what a leaf has emitted last
 abbrev pub given_by : List LeafState → ℕ → Value

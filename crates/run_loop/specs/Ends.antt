@@ -14,7 +14,7 @@ use Rattle.answer_model.specs.Asked.{Asked}
 use Rattle.answer_model.specs.RunEnd.{Said, said, shows, done_line}
 use Rattle.answer_model.specs.Endings.{Says, ShowsEnd}
 use Rattle.flat_run.specs.declared.progress.Stop.TheVariants.{NoTrueRule, Overflow, BadDelay, TooManyCycles, Memory}
-use Rattle.run_files.specs.Counts.{Counts, counts_of}
+use Rattle.run_loop.specs.Counts.{Counts, counts_of}
 use Rattle.run_loop.specs.Begins.{counts_at_start}
 use Rattle.run_loop.specs.declared.ending.Ending.{Ending}
 use Rattle.run_loop.specs.declared.ending.Ending.TheVariants.{Done, Stopped}

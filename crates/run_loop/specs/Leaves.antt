@@ -9,11 +9,11 @@ use Rattle.room_edge.specs.Outside.{Outside}
 use Rattle.answer_model.specs.Headline.{puts_all}
 use Rattle.answer_model.specs.RunFiles.{saved_text}
 use Rattle.answer_model.specs.Visits.{state_visits}
-use Rattle.run_files.specs.declared.outputs.Output.{Output}
-use Rattle.run_files.specs.Texts.{Names, Texts, files, made_before}
-use Rattle.run_files.specs.Order.{Piece, texts_of, WritesInOrder}
-use Rattle.run_files.specs.Showing.{Showing}
-use Rattle.run_files.specs.Pieces.{cycles_pieces, run_pieces}
+use Rattle.run_loop.specs.declared.outputs.Output.{Output}
+use Rattle.run_loop.specs.Texts.{Names, Texts, files, made_before}
+use Rattle.run_loop.specs.Order.{Piece, texts_of, WritesInOrder}
+use Rattle.run_loop.specs.Showing.{Showing}
+use Rattle.run_loop.specs.Pieces.{cycles_pieces, run_pieces}
 
 -- what is asked of a run's files: their names, of what and up to which end; and the file of the
 -- state that the run goes on from, if it does

@@ -1,3 +1,11 @@
+pub mod Texts
+pub mod AskedFiles
+pub mod Order
+pub mod Written
+pub mod Showing
+pub mod Pieces
+pub mod Groups
+pub mod Counts
 pub mod Answers
 pub mod Known
 pub mod Left

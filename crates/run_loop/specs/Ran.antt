@@ -7,17 +7,17 @@ use Rattle.run_model.specs.Run.{Cycle, Run}
 use Rattle.run_model.specs.Visits.{cycle_visits, last_visits}
 use Rattle.room_edge.specs.Outside.{Outside}
 use Rattle.flat_run.specs.Standing.{Standing, tree_in}
-use Rattle.run_files.specs.declared.outputs.Unwritten.{Unwritten}
+use Rattle.run_loop.specs.declared.outputs.Unwritten.{Unwritten}
 use Rattle.record_text.specs.Chosen.{letters_of}
 use Rattle.answer_model.specs.RunFiles.{saved_text}
 use Rattle.asked_words.specs.declared.asked.Asked as code
 use Rattle.asked_words.specs.Shown.{text_of_name}
-use Rattle.run_files.specs.AskedFiles.{names_of}
-use Rattle.run_files.specs.Texts.{Texts}
-use Rattle.run_files.specs.Written.{Adds, AddsAll, Falls}
-use Rattle.run_files.specs.Showing.{Showing}
-use Rattle.run_files.specs.Pieces.{drawn_after, cycles_pieces, run_pieces}
-use Rattle.run_files.specs.Counts.{counts_of}
+use Rattle.run_loop.specs.AskedFiles.{names_of}
+use Rattle.run_loop.specs.Texts.{Texts}
+use Rattle.run_loop.specs.Written.{Adds, AddsAll, Falls}
+use Rattle.run_loop.specs.Showing.{Showing}
+use Rattle.run_loop.specs.Pieces.{drawn_after, cycles_pieces, run_pieces}
+use Rattle.run_loop.specs.Counts.{counts_of}
 use Rattle.run_loop.specs.declared.ending.Ending.{Ending}
 use Rattle.run_loop.specs.declared.going.Going.{Going}
 use Rattle.run_loop.specs.Ends.{IsVerdict}

@@ -2,8 +2,8 @@
 use Rattle.std.specs.Prelude.{◌≡◌, Result, Ok, Err}
 use Rattle.flat_run.specs.declared.progress.Stop.{Stop}
 use Rattle.flat_run.specs.declared.progress.Stop.TheVariants as stops
-use Rattle.run_files.specs.declared.outputs.Unwritten.{Unwritten}
-use Rattle.run_files.specs.declared.outputs.Unwritten.TheVariants.{Fault, Memory}
+use Rattle.run_loop.specs.declared.outputs.Unwritten.{Unwritten}
+use Rattle.run_loop.specs.declared.outputs.Unwritten.TheVariants.{Fault, Memory}
 use Rattle.run_loop.specs.declared.ending.Ending.{Ending}
 use Rattle.run_loop.specs.declared.ending.Ending.TheVariants.{Done, Stopped}
 

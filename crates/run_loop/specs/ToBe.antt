@@ -3,7 +3,7 @@
 use Rattle.std.specs.Prelude.{◌≡◌}
 use Rattle.answer_model.specs.Answer.{Answer}
 use Rattle.answer_model.specs.RunEnd.{Said}
-use Rattle.run_files.specs.Texts.{Names, Texts, files}
+use Rattle.run_loop.specs.Texts.{Names, Texts, files}
 
 -- the answer of a run with these texts
 pub record IsAnswerOf (n : Names) (texts : Texts) (s : Said) (a : Answer) : Type 0 where

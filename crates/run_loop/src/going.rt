@@ -6,19 +6,22 @@ ghost use Rattle.run_model.specs.Run.{Cycle};
 ghost use Rattle.record_text.specs.Held.{Holds};
 ghost use Rattle.record_text.specs.Chosen.{letters_of};
 ghost use Rattle.record_text.specs.Named.{NamesLeaves};
-ghost use Rattle.run_files.specs.AskedFiles.{names_of};
-ghost use Rattle.run_files.specs.Texts.{AreApart, AreCreated};
-ghost use Rattle.run_files.specs.Showing.{after_cycle};
-ghost use Rattle.run_files.specs.Pieces.{cycle_pieces};
-ghost use Rattle.run_files.specs.Counts.{counts_after};
-ghost use Rattle.run_files.specs.Written.{Writes};
+ghost use Rattle.run_loop.specs.AskedFiles.{names_of};
+ghost use Rattle.run_loop.specs.Texts.{AreApart, AreCreated};
+ghost use Rattle.run_loop.specs.Showing.{after_cycle};
+ghost use Rattle.run_loop.specs.Pieces.{cycle_pieces};
+ghost use Rattle.run_loop.specs.Counts.{counts_after};
+ghost use Rattle.run_loop.specs.Written.{Writes};
 
+use crate::counted::{Counted, count};
+use crate::cycle::write_cycle;
+use crate::drawn::Drawn;
+use crate::outputs::Unwritten;
 use asked_words::Asked;
 use model_tree::Model;
 use quantity::Time;
 use record_text::Records;
 use room_edge::Room;
-use run_files::{Counted, Drawn, Unwritten, count, write_cycle};
 
 /// The frames that are drawn, what is counted for the last line, the number of cycles, and room
 /// that each cycle uses again: its records, and the piece that is written.

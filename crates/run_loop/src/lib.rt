@@ -4,23 +4,46 @@
 //! - `run_and_tell` takes a room, what is asked, the group that is drawn and a run before its first
 //!   cycle, and answers the `Status`. Its stages: `begin`, `shown` (what frames show of a state
 //!   that was read), `run`, `saved`, `ending`.
-//! - Definitions: `answer_model/specs/RunFiles.antt` and `RunEnd.antt`; what a run comes to and
-//!   what it leaves: `specs/Ran.antt`, `Leaves.antt`, `Emitted.antt`, `Saving.antt`,
-//!   `Answers.antt`.
+//! - The files of a run grow cycle by cycle: its log, its output, its frames, and the state at its
+//!   end. `create_files` makes those that are asked for; `write_cycle` takes the records of a cycle
+//!   and adds a frame and lines, `write_last` the last frame, `write_piece` any piece (`Output`
+//!   says to which file). `Unwritten` says why something was not written, `tell_unwritten` tells
+//!   it. `drawn_at_start` makes the frames of the drawn group (`Drawn`); `Counted` counts for the
+//!   last line of a made model.
+//! - Definitions: `answer_model/specs/RunFiles.antt` and `RunEnd.antt`; what each call adds to
+//!   files, and in which order: `specs/Texts.antt`, `Showing.antt`, `Order.antt`, `Pieces.antt`;
+//!   what a run comes to and what it leaves: `specs/Ran.antt`, `Leaves.antt`, `Emitted.antt`,
+//!   `Saving.antt`, `Answers.antt`.
 //! - Laws (`laws`): a run that may start has a verdict, and its cycles fit the model. It rests on
-//!   `flat_run`, `run_files` and `state_file`.
+//!   `flat_run`, `record_text`, `frame_draw` and `state_file`.
 #![tactic(auto)]
 
 mod begin;
+mod counted;
+mod create;
+mod cycle;
+mod drawn;
 mod ending;
 mod going;
 pub mod laws;
 mod lines;
+mod outputs;
 pub mod resumable;
 mod run;
 mod saved;
 mod shown;
 mod stage;
+mod start;
+mod tell;
+mod write;
 
+pub use counted::{Counted, count};
+pub use create::create_files;
+pub use cycle::{write_cycle, write_last};
+pub use drawn::Drawn;
+pub use outputs::{Output, Unwritten};
 pub use resumable::Resumable;
 pub use stage::run_and_tell;
+pub use start::drawn_at_start;
+pub use tell::tell_unwritten;
+pub use write::write_piece;

@@ -6,9 +6,9 @@ ghost use Rattle.text_forms.specs.Lines.{ended};
 ghost use Rattle.answer_model.specs.RunEnd.{many_line, stopped_at};
 ghost use Rattle.run_loop.specs.Ends.{end_text, made_text, mark_behind, leaf_called};
 
+use crate::counted::Counted;
 use model_tree::Model;
 use quantity::{OutOfMemory, Time, Value};
-use run_files::Counted;
 use std::alloc::Global;
 
 /// The line of a run that is done, without its line feed.

@@ -6,8 +6,8 @@ ghost use Rattle.run_model.specs.Visits.{visits};
 ghost use Rattle.answer_model.specs.Visits.{state_visits};
 ghost use Rattle.flat_run.specs.Standing.{tree_in};
 ghost use Rattle.flat_run.specs.Steps.{Keeps};
-ghost use Rattle.run_files.specs.AskedFiles.{names_of};
-ghost use Rattle.run_files.specs.Texts.{AreApart, AreCreated};
+ghost use Rattle.run_loop.specs.AskedFiles.{names_of};
+ghost use Rattle.run_loop.specs.Texts.{AreApart, AreCreated};
 ghost use Rattle.run_loop.specs.DoneIn.{DoneIn};
 ghost use Rattle.run_loop.specs.Left.{run_of, HaveValues, IsFitTo};
 ghost use Rattle.run_loop.specs.Marked.{IsMarked};
@@ -15,14 +15,15 @@ ghost use Rattle.run_loop.specs.Ran.{asking, RunsTo, RunsWhole};
 ghost use Rattle.run_loop.specs.Leaves.{spent};
 ghost use Rattle.run_loop.specs.Stopping.{StopsAs};
 
+use crate::cycle::write_last;
 use crate::ending::Ending;
 use crate::going::{Going, write_next};
+use crate::outputs::Unwritten;
 use crate::resumable::Resumable;
 use crate::saved::write_saved;
 use asked_words::Asked;
 use flat_run::{Cycles, Progress, Steps, Stop};
 use room_edge::Room;
-use run_files::{Unwritten, write_last};
 use std::sync::ledger::Ledger;
 
 /// Runs at most so many cycles, and writes each, and at the end the last frame and, where the run is

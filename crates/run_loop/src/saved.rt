@@ -7,19 +7,20 @@ ghost use Rattle.text_forms.specs.StateText.{text_of_state};
 ghost use Rattle.answer_model.specs.RunFiles.{saved_text};
 ghost use Rattle.answer_model.specs.Visits.{state_visits};
 ghost use Rattle.flat_run.specs.Standing.{tree_in};
-ghost use Rattle.run_files.specs.declared.outputs.Output.TheVariants.{State as state};
-ghost use Rattle.run_files.specs.AskedFiles.{names_of};
-ghost use Rattle.run_files.specs.Order.{one_piece};
-ghost use Rattle.run_files.specs.Texts.{AreApart, AreCreated};
-ghost use Rattle.run_files.specs.Written.{Writes};
+ghost use Rattle.run_loop.specs.declared.outputs.Output.TheVariants.{State as state};
+ghost use Rattle.run_loop.specs.AskedFiles.{names_of};
+ghost use Rattle.run_loop.specs.Order.{one_piece};
+ghost use Rattle.run_loop.specs.Texts.{AreApart, AreCreated};
+ghost use Rattle.run_loop.specs.Written.{Writes};
 ghost use Rattle.run_loop.specs.Saving.{LeftIn, Saves};
 
 use crate::ending::Ending;
+use crate::outputs::{Output, Unwritten};
 use crate::resumable::Resumable;
+use crate::write::write_piece;
 use asked_words::Asked;
 use flat_run::Steps;
 use room_edge::Room;
-use run_files::{Output, Unwritten, write_piece};
 use std::sync::ledger::Ledger;
 
 /// Writes the state in which a run is left, where it is done and its state is to be saved; else

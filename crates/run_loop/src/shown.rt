@@ -5,11 +5,11 @@ ghost use Rattle.sparse_cycle.specs.Sparse.{leaf_of};
 ghost use Rattle.run_leaves.specs.Saved.{is_cell};
 ghost use Rattle.run_loop.specs.Emitted.{AreCells, with_emitted, given_by, AreUnbegun, IsUnbegun};
 
+use crate::drawn::Drawn;
 use crate::resumable::Resumable;
 use atomic_face::AtomicModel;
 use flat_run::{FlatRun, Steps};
 use quantity::{OutOfMemory, Value};
-use run_files::Drawn;
 use std::sync::ledger::Ledger;
 use time_queue::TimeQueue;
 

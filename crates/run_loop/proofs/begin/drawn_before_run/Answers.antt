@@ -8,7 +8,7 @@ use Rattle.asked_words.specs.Shown.{asked_of}
 use Rattle.run_leaves.specs.Seated.{settings_at}
 use Rattle.flat_run.specs.Standing.{tree_in}
 use Rattle.state_file.proofs.Lines.{as_many}
-use Rattle.run_files.specs.Groups.{IsFoundIn, CanShowIn, showing_at_start}
+use Rattle.run_loop.specs.Groups.{IsFoundIn, CanShowIn, showing_at_start}
 use Rattle.run_loop.specs.Emitted.{with_emitted, AreCells, AreUnbegun}
 use Rattle.run_loop.proofs.Saving.{visits_named}
 use Rattle.run_loop.proofs.Emitted.{cells_at_start, unbegun_at_start, from_start, shown_from}

@@ -2,11 +2,11 @@ use Rattle.std.proofs.Common.{◌≡◌, refl, sym, subst, rules}
 use Rattle.std.specs.Prelude.{Result, Err}
 use Rattle.model_tree.specs.Models.{tree_of}
 use Rattle.record_text.specs.Chosen.{letters_of}
-use Rattle.run_files.specs.declared.outputs.Unwritten.{Unwritten}
-use Rattle.run_files.specs.AskedFiles.{names_of}
-use Rattle.run_files.specs.Pieces.{cycle_pieces}
-use Rattle.run_files.specs.Written.{Writes}
-use Rattle.run_files.proofs.Cycles.{all_of_cycle}
+use Rattle.run_loop.specs.declared.outputs.Unwritten.{Unwritten}
+use Rattle.run_loop.specs.AskedFiles.{names_of}
+use Rattle.run_loop.specs.Pieces.{cycle_pieces}
+use Rattle.run_loop.specs.Written.{Writes}
+use Rattle.run_loop.proofs.Cycles.{all_of_cycle}
 use Rattle.run_loop.proofs.going.write_next.Goals as goal
 
 pub returns-in_err-write_cycle-clause-texts : goal.returns-in_err-write_cycle-clause-texts

@@ -2,7 +2,7 @@ use Rattle.std.proofs.Common.{◌≡◌, refl, sym, subst, arith, rules}
 use Rattle.std.specs.Prelude.{Result, Err, Ok}
 use Rattle.std.specs.Option.{is_some}
 use Rattle.std.proofs.lemmas.Bool.{OnTrue_at, OnTrue_from}
-use Rattle.run_files.specs.declared.outputs.Unwritten.{Unwritten}
+use Rattle.run_loop.specs.declared.outputs.Unwritten.{Unwritten}
 use Rattle.run_loop.specs.declared.ending.Ending.{Ending}
 use Rattle.run_loop.specs.Left.{run_of}
 use Rattle.run_loop.specs.Leaves.{spent}

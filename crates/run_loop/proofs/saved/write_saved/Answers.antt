@@ -2,10 +2,10 @@ use Rattle.std.proofs.Common.{subst}
 use Rattle.std.specs.Option.{is_some}
 use Rattle.quantity.specs.Bytes.{Bytes}
 use Rattle.flat_run.specs.Standing.{tree_in}
-use Rattle.run_files.specs.declared.outputs.Output.TheVariants.{State}
-use Rattle.run_files.specs.AskedFiles.{names_of}
-use Rattle.run_files.specs.Order.{one_piece}
-use Rattle.run_files.specs.Written.{Writes}
+use Rattle.run_loop.specs.declared.outputs.Output.TheVariants.{State}
+use Rattle.run_loop.specs.AskedFiles.{names_of}
+use Rattle.run_loop.specs.Order.{one_piece}
+use Rattle.run_loop.specs.Written.{Writes}
 use Rattle.run_loop.specs.declared.ending.Ending.{Ending}
 use Rattle.run_loop.specs.Saving.{LeftIn, Saves}
 use Rattle.run_loop.proofs.Saving.{saved_done, nothing_saved}

@@ -5,10 +5,10 @@ use Rattle.text_forms.specs.StateText.{text_of_state}
 use Rattle.run_leaves.specs.Seated.{settings_at}
 use Rattle.flat_run.specs.Standing.{tree_in}
 use Rattle.state_file.proofs.Lines.{as_many}
-use Rattle.run_files.specs.declared.outputs.Output.TheVariants.{State}
-use Rattle.run_files.specs.AskedFiles.{names_of}
-use Rattle.run_files.proofs.Adding.{none_added}
-use Rattle.run_files.proofs.Cycles.{no_name}
+use Rattle.run_loop.specs.declared.outputs.Output.TheVariants.{State}
+use Rattle.run_loop.specs.AskedFiles.{names_of}
+use Rattle.run_loop.proofs.Adding.{none_added}
+use Rattle.run_loop.proofs.Cycles.{no_name}
 use Rattle.run_loop.proofs.Saving.{visits_named}
 use Rattle.run_loop.proofs.saved.write_state.Goals as goal
 

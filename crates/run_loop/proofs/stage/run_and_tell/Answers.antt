@@ -15,12 +15,12 @@ use Rattle.answer_model.proofs.Stages.{then_ends}
 use Rattle.asked_words.specs.Shown.{asked_of}
 use Rattle.run_leaves.specs.Seated.{settings_at}
 use Rattle.flat_run.specs.Standing.{tree_in}
-use Rattle.run_files.specs.Texts.{no_texts, files}
-use Rattle.run_files.specs.AskedFiles.{names_of}
-use Rattle.run_files.specs.declared.outputs.Output.TheVariants.{Log}
-use Rattle.run_files.specs.Groups.{showing_at_start}
-use Rattle.run_files.proofs.Adding.{no_fewer}
-use Rattle.run_files.proofs.Making.{all_created, unmade_ends, fell_ends, making_blames, falls_blames, making_answers, falls_answers, clean_makes, tells_among, tells_rose}
+use Rattle.run_loop.specs.Texts.{no_texts, files}
+use Rattle.run_loop.specs.AskedFiles.{names_of}
+use Rattle.run_loop.specs.declared.outputs.Output.TheVariants.{Log}
+use Rattle.run_loop.specs.Groups.{showing_at_start}
+use Rattle.run_loop.proofs.Adding.{no_fewer}
+use Rattle.run_loop.proofs.Making.{all_created, unmade_ends, fell_ends, making_blames, falls_blames, making_answers, falls_answers, clean_makes, tells_among, tells_rose}
 use Rattle.run_loop.specs.Answers.{answer_to}
 use Rattle.run_loop.specs.Left.{run_of}
 use Rattle.run_loop.specs.Ran.{asking}

@@ -1,7 +1,0 @@
-use Rattle.std.proofs.Common.{◌≡◌, map, drop}
-use Rattle.run_files.specs.Counts.{ones_after}
-use Rattle.run_files.specs.Showing.{plain}
-use Rattle.run_files.proofs.counted.mark.Given as goal
-
-abbrev pub invariant-loop-one : goal.invariant-loop-one
-invariant-loop-one l = ones_after l.ones.items (map plain (drop l.one-index l.given)) ≡ ones_after l.fn.ones.items (map plain l.given)

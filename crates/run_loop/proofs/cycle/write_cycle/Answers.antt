@@ -1,0 +1,57 @@
+use Rattle.std.proofs.Common.{◌≡◌, ◌∙◌, sym, subst, rules, map}
+use Rattle.std.specs.Prelude.{Result, Err}
+use Rattle.std.specs.Option.{option_map}
+use Rattle.model_tree.specs.Models.{tree_of}
+use Rattle.record_text.specs.Chosen.{letters_of}
+use Rattle.run_loop.specs.declared.outputs.Unwritten.{Unwritten}
+use Rattle.run_loop.specs.AskedFiles.{names_of}
+use Rattle.run_loop.specs.Texts.{AreCreated}
+use Rattle.run_loop.specs.Showing.{took, plain, BeginsAt}
+use Rattle.run_loop.specs.Pieces.{cycle_pieces}
+use Rattle.run_loop.specs.Written.{Writes}
+use Rattle.run_loop.proofs.Cycles.{frame_fell, lines_fell, cycle_written, taken_cycle, may_begin, on_ok_so}
+use Rattle.run_loop.proofs.cycle.write_cycle.Goals as goal
+
+pub returns-in_err-write_before-clause-texts : goal.returns-in_err-write_before-clause-texts
+returns-in_err-write_before-clause-texts g c = λ cycle h time settings.
+    let n = names_of c.args.asked.now in
+    let letters = letters_of c.args.asked.now.given.letters in
+    let tree = tree_of c.args.model.now settings in
+    let old = g.R.Room.outside c.args.room.now in
+    let new = g.R.Room.outside c.write_before.new.room in
+    let why = c.in_err-write_before.field-0.0 in
+    let is : c.from_residual.result ≡ Err why = search rules in
+    subst (λ (r : Result (Unit {0}) Unwritten). Writes n (cycle_pieces tree letters c.args.drawn.now cycle) old new r) (sym is)
+    (frame_fell n tree letters c.args.drawn.now cycle c.args.at time why old new c.in_err-write_before.ensures.texts)
+
+pub take-requires : goal.take-requires
+take-requires g c = subst (BeginsAt c.args.at) (sym c.in_ok-write_before.ensures.drawn) (may_begin c.args.at c.args.drawn.now)
+
+pub write_lines-requires-clause-created : goal.write_lines-requires-clause-created
+write_lines-requires-clause-created g c =
+    subst (AreCreated (names_of c.args.asked.now)) (sym c.in_ok-write_before.ensures.texts.adds.created) c.requires.created
+
+pub returns-in_err-write_lines-clause-texts : goal.returns-in_err-write_lines-clause-texts
+returns-in_err-write_lines-clause-texts g c = λ cycle h time settings.
+    let n = names_of c.args.asked.now in
+    let letters = letters_of c.args.asked.now.given.letters in
+    let tree = tree_of c.args.model.now settings in
+    let old = g.R.Room.outside c.args.room.now in
+    let first = g.R.Room.outside c.write_before.new.room in
+    let new = g.R.Room.outside c.write_lines.new.room in
+    let why = c.in_err-write_lines.field-0.0 in
+    let is : c.from_residual-in_err-write_lines.result ≡ Err why = search rules in
+    subst (λ (r : Result (Unit {0}) Unwritten). Writes n (cycle_pieces tree letters c.args.drawn.now cycle) old new r) (sym is)
+    (lines_fell n tree letters c.args.drawn.now cycle c.args.at time why old first new c.in_ok-write_before.ensures.texts (c.in_err-write_lines.ensures.texts cycle h settings))
+
+pub returns-clause-texts : goal.returns-clause-texts
+returns-clause-texts g c = λ cycle h time settings.
+    cycle_written (names_of c.args.asked.now) (tree_of c.args.model.now settings) (letters_of c.args.asked.now.given.letters) c.args.drawn.now cycle c.args.at time c.write_lines-2.result
+    (g.R.Room.outside c.args.room.now) (g.R.Room.outside c.write_before.new.room) (g.R.Room.outside c.write_lines.new.room) (g.R.Room.outside c.write_lines-2.new.room)
+    c.in_ok-write_before.ensures.texts (c.in_ok-write_lines.ensures.texts cycle h settings) (c.write_lines-2.ensures.texts cycle h settings)
+
+pub returns-clause-drawn : goal.returns-clause-drawn
+returns-clause-drawn g c = on_ok_so c.write_lines-2.result (λ cycle h time.
+    c.take.ensures
+    ∙ (λ i. option_map (took c.args.at (map plain (c.deref.ensures.value i))) (c.in_ok-write_before.ensures.drawn i))
+    ∙ taken_cycle cycle c.args.at c.args.records.now.y.items c.args.drawn.now time h.y)

@@ -1,0 +1,180 @@
+// What a cycle adds to the files.
+ghost use Rattle.std.specs.Prelude.{◌≡◌, ◌++◌, map, OnOk};
+ghost use Rattle.std.specs.Option.{option_map};
+ghost use Rattle.model_tree.specs.Leaves.{OfTree};
+ghost use Rattle.run_model.specs.Run.{Cycle};
+ghost use Rattle.record_text.specs.Held.{Holds};
+ghost use Rattle.record_text.specs.Chosen.{letters_of};
+ghost use Rattle.record_text.specs.Named.{NamesLeaves};
+ghost use Rattle.run_loop.specs.declared.outputs.Output.TheVariants.{Frames as frames};
+ghost use Rattle.run_loop.specs.AskedFiles.{names_of};
+ghost use Rattle.run_loop.specs.Texts.{AreApart, AreCreated};
+ghost use Rattle.run_loop.specs.Order.{one_piece};
+ghost use Rattle.run_loop.specs.Pieces.{lines_of, cycle_pieces};
+ghost use Rattle.run_loop.specs.Showing.{took, plain, ended, ended_before, is_begun_before};
+ghost use Rattle.run_loop.specs.Showing.{after_cycle, frame_before, last_frame, BeginsAt};
+ghost use Rattle.run_loop.specs.Written.{Writes};
+
+use crate::drawn::Drawn;
+use crate::outputs::{Output, Unwritten, name_of};
+use crate::write::write_piece;
+use asked_words::Asked;
+use model_tree::Model;
+use quantity::{OutOfMemory, Time};
+use record_text::{Letters, Records, YRecord, log_bytes, out_bytes};
+use room_edge::Room;
+
+/// Adds what a cycle gave, in this order: the frame of the instant before, where this one begins
+/// another; the lines of the log; and the lines of the output. `piece` is room that each call uses
+/// again.
+///
+/// # Errors
+///
+/// `Fault` where a file could not be written: those before it have all of this cycle, it has a
+/// beginning of its piece and lacks the rest, and those behind it have nothing of this cycle.
+/// `Memory` where memory ran out, at some place of that order.
+pub fn write_cycle<R: Room>(
+    room: &mut R,
+    asked: &Asked<'_>,
+    drawn: &mut Option<Drawn>,
+    model: &Model,
+    records: &Records,
+    at: Time,
+    piece: &mut Vec<u8>,
+) -> Result<(), Unwritten>
+    requires apart { AreApart (names_of asked.now) }
+    requires created { AreCreated (names_of asked.now) (R.outside room.old).created }
+    requires leaves { NamesLeaves model.now records.now }
+    // For the cycle whose records these are.
+    ensures texts { (c : Cycle) → Holds records.now c → c.time ≡ at → OfTree model.now (λ tree.
+        Writes (names_of asked.now) (cycle_pieces tree (letters_of asked.now.given.letters) drawn.old c)
+        (R.outside room.old) (R.outside room.new) result) }
+    ensures drawn { OnOk result ((c : Cycle) → Holds records.now c → c.time ≡ at →
+        drawn.new ≡ option_map (after_cycle c) drawn.old) }
+{
+    write_before(room, asked, drawn, at, piece)?;
+    take(drawn, at, &records.y);
+    write_lines(room, asked, Output::Log, model, records, piece)?;
+    write_lines(room, asked, Output::Out, model, records, piece)
+}
+
+/// Adds the frame of the instant that was begun, where a run ends.
+///
+/// # Errors
+///
+/// `Fault` where the file of frames could not be written, `Memory` where memory ran out: it has a
+/// beginning of the frame.
+pub fn write_last<R: Room>(
+    room: &mut R,
+    asked: &Asked<'_>,
+    drawn: &mut Option<Drawn>,
+    piece: &mut Vec<u8>,
+) -> Result<(), Unwritten>
+    requires apart { AreApart (names_of asked.now) }
+    requires created { AreCreated (names_of asked.now) (R.outside room.old).created }
+    ensures texts { Writes (names_of asked.now) (one_piece frames (last_frame drawn.old))
+        (R.outside room.old) (R.outside room.new) result }
+    ensures drawn { OnOk result (drawn.new ≡ option_map ended drawn.old) }
+{
+    let filled = draw_last(drawn, piece);
+    write_piece(room, asked, Output::Frames, filled, piece)
+}
+
+/// The frame of the instant that was begun stands in `piece`, and that instant is over.
+fn draw_last(drawn: &mut Option<Drawn>, piece: &mut Vec<u8>) -> Result<(), OutOfMemory>
+    ensures text { OnOk result (piece.new.items ≡ last_frame drawn.old) }
+    ensures drawn { OnOk result (drawn.new ≡ option_map ended drawn.old) }
+{
+    piece.clear();
+    match drawn {
+        None => Ok(()),
+        Some(drawn) => drawn.finish(piece),
+    }
+}
+
+/// Adds the frame of an instant that is over, where this one begins another.
+fn write_before<R: Room>(
+    room: &mut R,
+    asked: &Asked<'_>,
+    drawn: &mut Option<Drawn>,
+    at: Time,
+    piece: &mut Vec<u8>,
+) -> Result<(), Unwritten>
+    requires apart { AreApart (names_of asked.now) }
+    requires created { AreCreated (names_of asked.now) (R.outside room.old).created }
+    ensures texts { Writes (names_of asked.now) (one_piece frames (frame_before at drawn.old))
+        (R.outside room.old) (R.outside room.new) result }
+    ensures drawn { OnOk result (drawn.new ≡ option_map (ended_before at) drawn.old) }
+{
+    if has_begun_before(drawn, at) {
+        write_last(room, asked, drawn, piece)
+    } else {
+        Ok(())
+    }
+}
+
+/// Whether an instant was begun that is another than this.
+fn has_begun_before(drawn: &Option<Drawn>, at: Time) -> bool
+    ensures { result ≡ is_begun_before at drawn.now }
+{
+    match drawn {
+        None => false,
+        Some(drawn) => drawn.has_begun_before(at),
+    }
+}
+
+/// Adds the lines of a cycle to the log or to the output.
+fn write_lines<R: Room>(
+    room: &mut R,
+    asked: &Asked<'_>,
+    file: Output,
+    model: &Model,
+    records: &Records,
+    piece: &mut Vec<u8>,
+) -> Result<(), Unwritten>
+    requires apart { AreApart (names_of asked.now) }
+    requires created { AreCreated (names_of asked.now) (R.outside room.old).created }
+    requires leaves { NamesLeaves model.now records.now }
+    ensures texts { (c : Cycle) → Holds records.now c → OfTree model.now (λ tree.
+        Writes (names_of asked.now)
+        (one_piece file (lines_of tree (letters_of asked.now.given.letters) c file))
+        (R.outside room.old) (R.outside room.new) result) }
+    ensures created { (R.outside room.new).created ≡ (R.outside room.old).created }
+{
+    if name_of(asked, file).is_none() {
+        return Ok(());
+    }
+    piece.clear();
+    let filled = put_lines(&asked.given.letters, file, model, records, piece);
+    write_piece(room, asked, file, filled, piece)
+}
+
+/// Appends the lines that a cycle has in a file.
+fn put_lines(
+    letters: &Letters,
+    file: Output,
+    model: &Model,
+    records: &Records,
+    into: &mut Vec<u8>,
+) -> Result<(), OutOfMemory>
+    requires { NamesLeaves model.now records.now }
+    ensures { OnOk result ((c : Cycle) → Holds records.now c → OfTree model.now (λ tree.
+        into.new.items ≡ into.old.items ++ lines_of tree (letters_of letters.now) c file)) }
+{
+    match file {
+        Output::Log => log_bytes(records, letters, model, into),
+        Output::Out => out_bytes(records, model, into),
+        Output::Frames => Ok(()),
+        Output::State => Ok(()),
+    }
+}
+
+/// Takes what a cycle shows of the group that is drawn.
+fn take(drawn: &mut Option<Drawn>, at: Time, given: &[YRecord])
+    requires { BeginsAt at drawn.old }
+    ensures { drawn.new ≡ option_map (took at (map plain given.now)) drawn.old }
+{
+    if let Some(drawn) = drawn {
+        drawn.take(at, given);
+    }
+}
