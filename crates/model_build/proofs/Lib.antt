@@ -1,3 +1,8 @@
+pub mod Bare
+pub mod Laid
+pub mod Sounds
+pub mod Groups
+pub mod Boxes
 pub mod Plain
 pub mod Fronts
 pub mod Trees

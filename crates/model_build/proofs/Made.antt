@@ -33,8 +33,8 @@ use Rattle.model_walk.specs.Shown.{item_of}
 use Rattle.model_spaces.specs.Placed.{Placed, placed_of}
 use Rattle.model_rules.specs.Sets.{Sets, sets_of}
 use Rattle.model_build.specs.declared.parts.Parts.{Parts}
-use Rattle.model_laid.specs.Blank.{blanked}
-use Rattle.model_laid.specs.Boxes.{atomics_in}
+use Rattle.model_build.specs.Blank.{blanked}
+use Rattle.model_build.specs.Boxes.{atomics_in}
 use Rattle.model_build.specs.Built.{settings_of_item}
 use Rattle.model_build.specs.Ahead.{Told, box_told, item_told, IsAhead, Takes, Shows, Builds, Boxes, AllMet, BuildsSection, BuildsItems, BuildsItem, TakesLinks, TakesAtomic, TakesGroup, group_with}
 use Rattle.model_text.proofs.Parts.{behind}

@@ -26,8 +26,8 @@ use Rattle.model_spaces.specs.Placed.{shown, placed_of}
 use Rattle.model_stock.specs.Settled.{named, named_item}
 use Rattle.model_rules.specs.Sets.{sets_shown, sets_of}
 use Rattle.model_build.specs.declared.parts.Parts.{Parts}
-use Rattle.model_laid.specs.Blank.{blanked}
-use Rattle.model_laid.specs.Boxes.{atomics_in}
+use Rattle.model_build.specs.Blank.{blanked}
+use Rattle.model_build.specs.Boxes.{atomics_in}
 use Rattle.model_build.specs.Built.{settings_of_item, IsBuilt}
 use Rattle.model_build.specs.Ahead.{Told, Front, box_told, item_told, front_of, front_at, lists_of, IsAhead, Boxes, AllMet, BuildsSection}
 use Rattle.model_text.proofs.Keys.{same_bytes}

@@ -10,8 +10,8 @@ use Rattle.model_tree.specs.Stands.{part_of, parts_of}
 use Rattle.model_tree.specs.Leaves.{Settings}
 use Rattle.model_tree.proofs.Rows.{row_of}
 use Rattle.model_text.specs.Trees.{trees}
-use Rattle.model_laid.specs.Blank.{blanked, all_blanked}
-use Rattle.model_laid.specs.Boxes.{atomics_in, all_atomics_in}
+use Rattle.model_build.specs.Blank.{blanked, all_blanked}
+use Rattle.model_build.specs.Boxes.{atomics_in, all_atomics_in}
 
 parts-row : (n : _) (row : Row_of-Component n) (settings : Settings) → parts_of row settings ≡ trees (map (λ c. part_of c settings) (items-the_row-Component n row))
 parts-row n end_of-Component settings = refl

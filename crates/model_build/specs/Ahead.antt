@@ -25,8 +25,8 @@ use Rattle.model_walk.specs.Met.{item_steps}
 use Rattle.model_text.specs.Met.{Met}
 use Rattle.model_spaces.specs.Placed.{Placed, shown, placed_of}
 use Rattle.model_rules.specs.Sets.{Sets, sets_shown, sets_of}
-use Rattle.model_laid.specs.Blank.{blanked}
-use Rattle.model_laid.specs.Boxes as held
+use Rattle.model_build.specs.Blank.{blanked}
+use Rattle.model_build.specs.Boxes as held
 use Rattle.model_build.specs.declared.parts.Parts.{Parts}
 use Rattle.model_build.specs.Built.{settings_of_item}
 

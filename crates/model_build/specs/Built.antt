@@ -15,7 +15,7 @@ use Rattle.model_text.specs.Walk.{atomics}
 use Rattle.model_text.specs.Stock.{class_of_item, params_of}
 use Rattle.model_text.specs.Trees.{tree_of, no_files}
 use Rattle.model_text.specs.BuildLaws.{PassedLinks}
-use Rattle.model_laid.specs.Blank.{blanked}
+use Rattle.model_build.specs.Blank.{blanked}
 
 -- with boxes of some classes no phase up to the limit of links refuses the sections
 abbrev pub Passes : List Section → Type 0

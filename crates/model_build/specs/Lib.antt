@@ -1,2 +1,5 @@
+pub mod Blank
+pub mod Boxes
+pub mod Laws
 pub mod Built
 pub mod Ahead

@@ -1,10 +1,14 @@
-//! The tree of a model, put together from what the phases read.
+//! The tree of a model, put together from what the phases read; and laws of the values that are
+//! laid on it (`Model::lay` of `model_tree`).
 //!
 //! - `build` takes the sections, the walk, and in its order the groups of `model_spaces`, their
-//!   rules of `model_rules`, the atomic components of `model_stock` and the links of `model_links`;
-//!   and gives the component top. It goes down the sections once more and takes each part from the
-//!   front of its list (`Parts`). The cells have `?`, until `Model::lay` gives them values.
+//!   rules of `model_rules`, the atomic components and the links of `model_links`; and gives the
+//!   component top. It goes down the sections once more and takes each part from the front of its
+//!   list (`Parts`). The cells have `?`, until `Model::lay` gives them values.
 //! - Definitions: `specs/Built.antt` (`IsBuilt`), over `model_text/specs/Trees.antt`.
+//! - Laws (`laws`), by the statements of `specs/Laws.antt`: no port, link or path changes where
+//!   values are laid; a model is sound with any values that fit its groups; where the components of
+//!   a tree have boxes at their start (`specs/Boxes.antt`), so have the leaves of its model.
 #![tactic(auto)]
 
 ghost use Rattle.std.specs.Prelude.{◌≡◌, map, IfOk};
@@ -16,11 +20,12 @@ ghost use Rattle.model_spaces.specs.Placed.{shown, placed_of};
 ghost use Rattle.model_stock.specs.Settled.{named, named_item};
 ghost use Rattle.model_rules.specs.Sets.{sets_shown, sets_of};
 ghost use Rattle.model_tree.specs.declared.component.Component.TheVariants.{Coupled as in_tree};
-ghost use Rattle.model_laid.specs.Boxes.{atomics_in};
+ghost use Rattle.model_build.specs.Boxes.{atomics_in};
 ghost use Rattle.model_build.specs.Built.{Passes, HasSettings, IsBuilt};
 
 mod cells;
 mod component;
+pub mod laws;
 mod parts;
 
 use crate::component::coupled;

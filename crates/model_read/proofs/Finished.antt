@@ -27,8 +27,8 @@ use Rattle.model_files.specs.declared.refusal.ModelRefusal.{ModelRefusal}
 use Rattle.model_files.specs.declared.refusal.ModelRefusal.TheVariants.{Missing, ReadFault, Refused, Memory}
 use Rattle.model_files.specs.Reading.{ReadsFiles}
 use Rattle.model_files.specs.Spaces.{shown, said}
-use Rattle.model_laid.specs.Boxes.{settings_in, HasBoxes}
-use Rattle.model_laid.specs.Laws.{GroupsAreMet, BlanksAreLaid, LinksStay, LaidModelsAreSound, BoxesAreStanding}
+use Rattle.model_build.specs.Boxes.{settings_in, HasBoxes}
+use Rattle.model_build.specs.Laws.{GroupsAreMet, BlanksAreLaid, LinksStay, LaidModelsAreSound, BoxesAreStanding}
 use Rattle.asked_words.specs.declared.group.GroupAt.{GroupAt}
 use Rattle.asked_words.specs.Group.{IsDrawn}
 use Rattle.model_read.specs.Ends.{RoutesGive, IsBlank, can_draw}

@@ -22,7 +22,7 @@ use Rattle.model_text.specs.ModelOf.{model, ModelRead, refuses, unless, model_un
 use Rattle.model_files.specs.declared.refusal.ModelRefusal.{ModelRefusal}
 use Rattle.model_files.specs.declared.refusal.ModelRefusal.TheVariants.{Missing, ReadFault, Refused, Memory}
 use Rattle.model_files.specs.Reading.{Tried, IsLastTried, Counted, StopsAs, ReadsFiles}
-use Rattle.model_laid.specs.Boxes.{settings_in}
+use Rattle.model_build.specs.Boxes.{settings_in}
 use Rattle.model_read.specs.declared.found.ReadModel.{ReadModel}
 use Rattle.asked_words.specs.declared.group.GroupAt.{GroupAt}
 use Rattle.asked_words.specs.Group.{IsDrawn}

@@ -15,8 +15,8 @@ use Rattle.model_text.specs.BuildLaws.{PassedLinks}
 use Rattle.model_text.specs.Spaces.{space_of}
 use Rattle.model_text.specs.Trees.{group_of, tree_of, no_files}
 use Rattle.model_text.specs.Walk.{groups}
-use Rattle.model_laid.specs.Blank.{blank_group}
-use Rattle.model_laid.specs.Laws.{GroupsAreMet, GroupsAreAlike, BlanksAreLaid}
+use Rattle.model_build.specs.Blank.{blank_group}
+use Rattle.model_build.specs.Laws.{GroupsAreMet, GroupsAreAlike, BlanksAreLaid}
 use Rattle.model_read.specs.Ends.{IsBlank}
 
 abbrev head_or : ℕ → List ℕ → ℕ

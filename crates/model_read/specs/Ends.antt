@@ -15,7 +15,7 @@ use Rattle.route_flat.specs.Nets.{RoutesOf}
 use Rattle.model_text.specs.declared.kind.Kind.TheVariants.{TooManyRoutes}
 use Rattle.model_text.specs.Drawings.{Drawing}
 use Rattle.model_text.specs.Trees.{tree_of, no_files}
-use Rattle.model_laid.specs.Blank.{blanked}
+use Rattle.model_build.specs.Blank.{blanked}
 use Rattle.model_files.specs.declared.group_space.GroupSpace.{GroupSpace}
 use Rattle.model_files.specs.declared.refusal.ModelRefusal.{ModelRefusal}
 use Rattle.model_files.specs.declared.refusal.ModelRefusal.TheVariants as why

@@ -21,7 +21,7 @@ use Rattle.model_files.specs.declared.refusal.ModelRefusal.{ModelRefusal}
 use Rattle.model_files.specs.declared.refusal.ModelRefusal.TheVariants as why
 use Rattle.model_files.specs.Reading.{Tried, IsLastTried, Counted}
 use Rattle.asked_words.specs.declared.asked.FramesFile.{FramesFile}
-use Rattle.model_laid.specs.Boxes.{settings_in, BoxesStand}
+use Rattle.model_build.specs.Boxes.{settings_in, BoxesStand}
 use Rattle.asked_words.specs.Group.{IsDrawn}
 use Rattle.model_read.specs.declared.found.ReadModel.{ReadModel}
 

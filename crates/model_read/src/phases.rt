@@ -16,7 +16,7 @@ ghost use Rattle.model_tree.specs.declared.component.Component.TheVariants.{Coup
 ghost use Rattle.model_build.specs.Built.{Passes, HasSettings, IsBuilt};
 ghost use Rattle.model_files.specs.Spaces as spaces;
 ghost use Rattle.model_read.specs.Order.{up_to_limit};
-ghost use Rattle.model_laid.specs.Boxes.{settings_in, atomics_in, HasBoxes};
+ghost use Rattle.model_build.specs.Boxes.{settings_in, atomics_in, HasBoxes};
 
 use crate::stages::{Parts, met_sections, read_links, read_parts};
 use atomic_face::{AtomicModel, Stock};

@@ -10,9 +10,9 @@ use Rattle.std.specs.List.{All}
 use Rattle.model_tree.specs.Pull.{sources, top_sources}
 use Rattle.model_tree.specs.Laid.{laid_from, all_laid_from}
 use Rattle.route_flat.specs.Nets.{Flat, RoutesOf, named, IsThere}
-use Rattle.model_laid.specs.Blank.{blank_group, blanked, all_blanked}
-use Rattle.model_laid.specs.Laws.{BlanksAreLaid, LinksStay}
-use Rattle.model_laid.proofs.Bare.{bare, all_bare, alike_ins, alike_sources, alike_tops, alike_paths}
+use Rattle.model_build.specs.Blank.{blank_group, blanked, all_blanked}
+use Rattle.model_build.specs.Laws.{BlanksAreLaid, LinksStay}
+use Rattle.model_build.proofs.Bare.{bare, all_bare, alike_ins, alike_sources, alike_tops, alike_paths}
 
 mutual
   pub bare_laid : (t : Tree) (first : ℕ) (values : List (List Value)) → bare (laid_from t first values) ≡ bare t

@@ -22,7 +22,7 @@ use Rattle.model_text.specs.Links.{links_of}
 use Rattle.model_text.specs.Trees.{group_of, trees, component_of, first_tree, tree_at, tree_of}
 use Rattle.model_text.specs.Met.{Met, RightItem, HasClass}
 use Rattle.model_text.specs.BuildLaws.{component_at, tree_at_item, WalkIsMet, ItemsAreMade, SectionsAreMade}
-use Rattle.model_laid.specs.Laws.{GroupsAreMet, GroupsAreAlike}
+use Rattle.model_build.specs.Laws.{GroupsAreMet, GroupsAreAlike}
 
 -- ---- whatever the settings
 

@@ -1,6 +1,6 @@
 // Laws of trees whose groups get their values.
-ghost use Rattle.model_laid.specs.Laws.{GroupsAreMet, GroupsAreAlike, BlanksAreLaid, LinksStay};
-ghost use Rattle.model_laid.specs.Laws.{LaidModelsAreSound, BoxesAreStanding};
+ghost use Rattle.model_build.specs.Laws.{GroupsAreMet, GroupsAreAlike, BlanksAreLaid, LinksStay};
+ghost use Rattle.model_build.specs.Laws.{LaidModelsAreSound, BoxesAreStanding};
 
 use model_text::building::components_are_made_item_by_item;
 

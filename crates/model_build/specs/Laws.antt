@@ -20,8 +20,8 @@ use Rattle.model_text.specs.Walk.{groups}
 use Rattle.model_text.specs.Trees as text
 use Rattle.model_text.specs.Trees.{group_of}
 use Rattle.model_text.specs.BuildLaws.{PassedLinks, IsWithinLimits}
-use Rattle.model_laid.specs.Blank.{blank_group, blanked}
-use Rattle.model_laid.specs.Boxes.{HasBoxes, BoxesStand}
+use Rattle.model_build.specs.Blank.{blank_group, blanked}
+use Rattle.model_build.specs.Boxes.{HasBoxes, BoxesStand}
 
 -- ---- groups
 

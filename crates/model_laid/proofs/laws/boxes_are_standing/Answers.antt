@@ -1,5 +1,0 @@
-use Rattle.model_laid.proofs.Boxes.{boxes_are_standing}
-use Rattle.model_laid.proofs.laws.boxes_are_standing.Goals as goal
-
-pub returns : goal.returns
-returns c = boxes_are_standing
