@@ -3,7 +3,7 @@ ghost use Rattle.std.specs.Prelude.{◌≡◌, ◌<◌, ◌≤◌, ◌^◌, None
 ghost use Rattle.std.specs.List.{list_all};
 ghost use Rattle.std.specs.String.{string_bytes};
 ghost use Rattle.room_edge.specs.Outside.{OnlyInput};
-ghost use Rattle.model_stock.specs.Settled.{classes_of};
+ghost use Rattle.model_build.specs.Settled.{classes_of};
 ghost use Rattle.model_text.specs.Drawings.{drawing_refused};
 ghost use Rattle.model_read.specs.Read as reading;
 ghost use Rattle.model_read.specs.Read.{Reads};

@@ -21,7 +21,7 @@ use Rattle.model_tree.specs.Leaves.{Settings, no_settings, IsLeafOf, IsPlaceOf, 
 use Rattle.model_tree.specs.Models.{tree_of}
 use Rattle.model_tree.specs.Stands.{part_of, parts_of}
 use Rattle.model_tree.proofs.Read.{leaves-length}
-use Rattle.model_stock.specs.Settled.{are_apart}
+use Rattle.model_build.specs.Settled.{are_apart}
 use Rattle.model_build.specs.Boxes.{settings_in, atomics_in, all_atomics_in, IsStarted, HasBoxes, StartedAs, BoxesStand}
 use Rattle.model_build.specs.Laws.{BoxesAreStanding}
 

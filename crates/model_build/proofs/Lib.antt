@@ -1,3 +1,6 @@
+mod Counts
+mod StockBoxes
+mod Standing
 pub mod Bare
 pub mod Laid
 pub mod Sounds

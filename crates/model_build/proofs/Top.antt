@@ -23,7 +23,7 @@ use Rattle.model_text.specs.Walk as W
 use Rattle.model_text.specs.Trees.{tree_at, component_of, first_tree, no_files}
 use Rattle.model_text.specs.BuildLaws.{PassedLinks, WalkIsMet}
 use Rattle.model_spaces.specs.Placed.{shown, placed_of}
-use Rattle.model_stock.specs.Settled.{named, named_item}
+use Rattle.model_build.specs.Settled.{named, named_item}
 use Rattle.model_rules.specs.Sets.{sets_shown, sets_of}
 use Rattle.model_build.specs.declared.parts.Parts.{Parts}
 use Rattle.model_build.specs.Blank.{blanked}

@@ -6,7 +6,7 @@ use Rattle.model_tree.specs.declared.component.Coupled.{Coupled}
 use Rattle.model_tree.specs.declared.component.Component.{Component, Row_of-Component, end_of-Component, more_of-Component}
 use Rattle.model_tree.specs.declared.component.Component.TheVariants.{Coupled as in_tree, Coupled', Cells, Atomic as atomic_in_tree}
 use Rattle.model_tree.specs.declared.group.Atomic.{Atomic}
-use Rattle.model_stock.specs.Settled.{are_apart}
+use Rattle.model_build.specs.Settled.{are_apart}
 pub use Rattle.started_boxes.specs.Boxes.{settings_in, StartedAs, BoxesStand}
 
 -- ---- components

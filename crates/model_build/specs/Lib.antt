@@ -1,3 +1,5 @@
+pub mod Settled
+pub mod Taken
 pub mod Blank
 pub mod Boxes
 pub mod Laws

@@ -1,11 +1,17 @@
-//! The tree of a model, put together from what the phases read; and laws of the values that are
-//! laid on it (`Model::lay` of `model_tree`).
+//! The tree of a model, put together from what the phases read; the boxes of its atomic components;
+//! and laws of the values that are laid on it (`Model::lay` of `model_tree`).
 //!
 //! - `build` takes the sections, the walk, and in its order the groups of `model_spaces`, their
 //!   rules of `model_rules`, the atomic components and the links of `model_links`; and gives the
 //!   component top. It goes down the sections once more and takes each part from the front of its
 //!   list (`Parts`). The cells have `?`, until `Model::lay` gives them values.
-//! - Definitions: `specs/Built.antt` (`IsBuilt`), over `model_text/specs/Trees.antt`.
+//! - `atomics` (`stock`) is the phase of atomic components: it takes the sections, the walk and a
+//!   `Stock` of `atomic_face`, and gives the atomic components in declared order, each with the
+//!   number of its box, which its parameters settle; or the first that is refused: it has no class,
+//!   no box is left, or a parameter is off its form.
+//! - Definitions: `specs/Built.antt` (`IsBuilt`), over `model_text/specs/Trees.antt`. Of atomic
+//!   components: `model_text/specs/Stock.antt` (`stock_refused`); the box that one has then:
+//!   `specs/Settled.antt`.
 //! - Laws (`laws`), by the statements of `specs/Laws.antt`: no port, link or path changes where
 //!   values are laid; a model is sound with any values that fit its groups; where the components of
 //!   a tree have boxes at their start (`specs/Boxes.antt`), so have the leaves of its model.
@@ -17,7 +23,7 @@ ghost use Rattle.model_text.specs.Walk as W;
 ghost use Rattle.model_text.specs.Links.{links_of};
 ghost use Rattle.model_walk.specs.Met.{IsWalk, met_of};
 ghost use Rattle.model_spaces.specs.Placed.{shown, placed_of};
-ghost use Rattle.model_stock.specs.Settled.{named, named_item};
+ghost use Rattle.model_build.specs.Settled.{named, named_item};
 ghost use Rattle.model_rules.specs.Sets.{sets_shown, sets_of};
 ghost use Rattle.model_tree.specs.declared.component.Component.TheVariants.{Coupled as in_tree};
 ghost use Rattle.model_build.specs.Boxes.{atomics_in};
@@ -25,8 +31,11 @@ ghost use Rattle.model_build.specs.Built.{Passes, HasSettings, IsBuilt};
 
 mod cells;
 mod component;
+mod component_box;
 pub mod laws;
+mod params;
 mod parts;
+mod stock;
 
 use crate::component::coupled;
 use crate::parts::Parts;
@@ -40,6 +49,7 @@ use model_walk::Walked;
 use model_walk::entries::section_named;
 use quantity::OutOfMemory;
 use std::alloc::Global;
+pub use stock::atomics;
 
 /// The component top of sections that pass the phases up to the limit of links. Its groups have `?`
 /// in each cell; they get their values when the files are read. It goes down the sections once

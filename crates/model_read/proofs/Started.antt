@@ -13,7 +13,7 @@ use Rattle.model_tree.specs.declared.component.Component.TheVariants.{Coupled as
 use Rattle.model_tree.specs.declared.group.Atomic.{Atomic}
 use Rattle.model_text.specs.Keyed.{Item}
 use Rattle.model_text.specs.Stock.{class_of_item, params_of}
-use Rattle.model_stock.specs.Settled.{named, named_item, started_box, settled, are_apart}
+use Rattle.model_build.specs.Settled.{named, named_item, started_box, settled, are_apart}
 use Rattle.model_build.specs.Built.{settings_of_item}
 use Rattle.model_build.specs.Boxes.{settings_in, atomics_in, IsStarted, HasBoxes}
 use Rattle.model_build.proofs.Fronts.{same_head, same_tail}

@@ -9,7 +9,7 @@ ghost use Rattle.model_text.specs.BuildLaws.{PassedLinks};
 ghost use Rattle.model_walk.specs.Shown.{refusal_of};
 ghost use Rattle.model_walk.specs.Met.{IsWalk, met_of};
 ghost use Rattle.model_spaces.specs.Placed.{shown, placed_of, values_before_files};
-ghost use Rattle.model_stock.specs.Settled.{classes_of, named, named_item};
+ghost use Rattle.model_build.specs.Settled.{classes_of, named, named_item};
 ghost use Rattle.model_rules.specs.Sets.{sets_shown, sets_of};
 ghost use Rattle.model_tree.specs.Leaves.{Settings};
 ghost use Rattle.model_tree.specs.declared.component.Component.TheVariants.{Coupled as in_tree};

@@ -7,7 +7,7 @@ ghost use Rattle.room_edge.specs.Outside.{OnlyInput};
 ghost use Rattle.room_edge.specs.Faults.{KeepsMisses, KeepsReadFaults};
 ghost use Rattle.model_tree.specs.Leaves.{OfTree};
 ghost use Rattle.model_text.specs.ModelOf.{model_in, model_of};
-ghost use Rattle.model_stock.specs.Settled.{classes_of};
+ghost use Rattle.model_build.specs.Settled.{classes_of};
 ghost use Rattle.model_files.specs.Reading.{Tried, IsLastTried, Counted};
 ghost use Rattle.asked_words.specs.Group.{IsDrawn};
 ghost use Rattle.model_read.specs.Read.{drawing_of, ModelGives, IsReady, CanBeDrawn, Reads};

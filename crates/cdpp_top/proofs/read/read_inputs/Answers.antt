@@ -6,7 +6,7 @@ use Rattle.quantity.specs.Bytes.{Bytes}
 use Rattle.sparse_cycle.specs.Feed.{AreAtInputs}
 use Rattle.atomic_face.specs.StockView.{Stocked}
 use Rattle.atomic_face.specs.declared.class.Class.{Class}
-use Rattle.model_stock.specs.Settled.{classes_of}
+use Rattle.model_build.specs.Settled.{classes_of}
 use Rattle.model_tree.specs.declared.component.Coupled.{Coupled}
 use Rattle.model_read.specs.declared.found.ReadModel.{ReadModel}
 use Rattle.answer_model.specs.Started.{inputs_read}

@@ -3,7 +3,7 @@ use Rattle.model_text.specs.Walk.{atomics}
 use Rattle.model_walk.specs.declared.refused.Stop.{Stop}
 use Rattle.model_walk.specs.declared.refused.Stop.TheVariants as Stops
 use Rattle.model_walk.specs.Shown.{refusal_of}
-use Rattle.model_stock.specs.Settled.{classes_of}
+use Rattle.model_build.specs.Settled.{classes_of}
 use Rattle.model_build.specs.Boxes.{settings_in}
 use Rattle.model_read.proofs.Joined.{stops_first, stops_second, stops_third}
 use Rattle.model_read.proofs.Started.{has_settings, has_boxes}

@@ -1,6 +1,6 @@
 use Rattle.std.proofs.Common.{◌≡◌, Err, ℕ, Vec, Global, sym, subst, rules}
 use Rattle.model_text.specs.ModelOf.{model_of}
-use Rattle.model_stock.specs.Settled.{classes_of}
+use Rattle.model_build.specs.Settled.{classes_of}
 use Rattle.model_read.specs.Read.{drawing_of, Reads}
 use Rattle.model_read.specs.Whole.{of_name}
 use Rattle.model_read.proofs.Named.{named_stop, named_bytes}

@@ -1,6 +1,6 @@
 use Rattle.std.proofs.Common.{Err, sym, ap, subst}
 use Rattle.model_text.specs.ModelOf.{model_in}
-use Rattle.model_stock.specs.Settled.{classes_of}
+use Rattle.model_build.specs.Settled.{classes_of}
 use Rattle.model_read.specs.Read.{drawing_of, Reads}
 use Rattle.model_read.specs.Whole.{behind_limit}
 use Rattle.model_read.proofs.Stopping.{phase_stops}

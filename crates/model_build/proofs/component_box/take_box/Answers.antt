@@ -1,8 +1,8 @@
 use Rattle.std.proofs.Common.{◌≡◌, ◌∙◌, sym, ap}
 use Rattle.model_walk.specs.declared.refused.Refused.{Refused}
-use Rattle.model_stock.specs.Taken.{kind_of_stock}
-use Rattle.model_stock.proofs.Boxes.{take-keeps, take-lacks, refused-by}
-use Rattle.model_stock.proofs.component.take_box.Goals as goal
+use Rattle.model_build.specs.Taken.{kind_of_stock}
+use Rattle.model_build.proofs.StockBoxes.{take-keeps, take-lacks, refused-by}
+use Rattle.model_build.proofs.component_box.take_box.Goals as goal
 
 pub returns-in-Ok-clause-classes : goal.returns-in-Ok-clause-classes
 returns-in-Ok-clause-classes g c = take-keeps c.args.class c.args.stock.now c.take.new.self c.in-Ok.at c.in-Ok.ensures

@@ -24,7 +24,7 @@ use Rattle.model_text.specs.Stock.{class_of_item, params_of, params_refused, box
 use Rattle.model_walk.specs.declared.refused.Refused.{Refused}
 use Rattle.model_walk.specs.declared.refused.Stop.{Stop}
 use Rattle.model_walk.specs.declared.refused.Stop.TheVariants as Stops
-use Rattle.model_stock.specs.Settled.{classes_of, named, named_item, started_box, settled, are_apart}
+use Rattle.model_build.specs.Settled.{classes_of, named, named_item, started_box, settled, are_apart}
 
 -- no parameter of the class that may stand once stands again
 abbrev pub HasOnce : List Section → Item → Type 0

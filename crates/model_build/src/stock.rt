@@ -1,13 +1,4 @@
-//! The phase of atomic components: each takes a box of its class from the stock, which is settled
-//! by the component's parameters.
-//!
-//! - `atomics` takes the sections, the walk and a `Stock` of `atomic_face`, and gives the atomic
-//!   components in declared order, each with the number of its box; or the first that is refused:
-//!   it has no class, no box is left, or a parameter is off its form.
-//! - Definitions: `model_text/specs/Stock.antt` (`stock_refused`); the box that a component has
-//!   then: `specs/Settled.antt`.
-#![tactic(auto)]
-
+// The phase of atomic components: each takes a box of its class, settled by its parameters.
 ghost use Rattle.std.specs.Prelude.{◌≡◌, None, Some, map, length, slice_get, not, IsTrue, IfOk};
 ghost use Rattle.std.specs.List.{filter, list_all};
 ghost use Rattle.model_text.specs.Walk as W;
@@ -15,12 +6,9 @@ ghost use Rattle.model_text.specs.Keys as K;
 ghost use Rattle.model_text.specs.Stock as S;
 ghost use Rattle.model_walk.specs.Shown.{item_of, refusal_of};
 ghost use Rattle.model_walk.specs.Met.{IsWalk, met_of};
-ghost use Rattle.model_stock.specs.Settled.{classes_of, settled, named, named_item, are_apart};
+ghost use Rattle.model_build.specs.Settled.{classes_of, settled, named, named_item, are_apart};
 
-mod component;
-mod params;
-
-use crate::component::add_component;
+use crate::component_box::add_component;
 use atomic_face::{AtomicModel, Stock};
 use ma_lines::Sections;
 use model_text::building::parameters_stand_once;

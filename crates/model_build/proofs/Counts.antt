@@ -15,8 +15,8 @@ use Rattle.atomic_face.specs.StockView.{Stocked, is_of, is_free}
 use Rattle.model_text.specs.declared.kind.Kind.{Kind}
 use Rattle.model_text.specs.declared.kind.Kind.TheVariants.{UnknownClass, OutOfStock}
 use Rattle.model_text.specs.Stock.{boxes_of, box_refused}
-use Rattle.model_stock.specs.Settled.{classes_of}
-use Rattle.model_stock.specs.Taken.{lacks, taken_of}
+use Rattle.model_build.specs.Settled.{classes_of}
+use Rattle.model_build.specs.Taken.{lacks, taken_of}
 
 -- ---- counts
 

@@ -4,8 +4,8 @@ use Rattle.quantity.specs.Bytes.{Bytes}
 use Rattle.model_tree.specs.declared.group.Atomic.{Atomic}
 use Rattle.model_text.specs.Stock.{class_of_item}
 use Rattle.model_walk.specs.Shown.{item_of, refusal_of}
-use Rattle.model_stock.proofs.Boxes.{adds, has-once, off-form}
-use Rattle.model_stock.proofs.component.add_component.Goals as goal
+use Rattle.model_build.proofs.StockBoxes.{adds, has-once, off-form}
+use Rattle.model_build.proofs.component_box.add_component.Goals as goal
 
 pub settle_box-requires-clause-once : goal.settle_box-requires-clause-once
 settle_box-requires-clause-once g c =

@@ -8,9 +8,9 @@ ghost use Rattle.model_text.specs.Refusals.{refusal};
 ghost use Rattle.model_text.specs.Stock.{params_of};
 ghost use Rattle.model_text.specs.Walk as W;
 ghost use Rattle.model_walk.specs.Shown.{item_of, refusal_of};
-ghost use Rattle.model_stock.specs.Taken.{HasOnce, Adds, Settles, lacks, component_lacks};
-ghost use Rattle.model_stock.specs.Taken.{off_of_box, kind_of_stock, stop_of_settling};
-ghost use Rattle.model_stock.specs.Settled.{classes_of};
+ghost use Rattle.model_build.specs.Taken.{HasOnce, Adds, Settles, lacks, component_lacks};
+ghost use Rattle.model_build.specs.Taken.{off_of_box, kind_of_stock, stop_of_settling};
+ghost use Rattle.model_build.specs.Settled.{classes_of};
 
 use crate::params::params_of;
 use atomic_face::{AtomicModel, BoxNo, Class, SettleRefusal, Stock, StockRefusal};

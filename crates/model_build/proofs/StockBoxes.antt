@@ -26,9 +26,9 @@ use Rattle.model_text.specs.Walk.{item_name}
 use Rattle.model_text.specs.Stock.{class_of_item, params_of, params_refused}
 use Rattle.model_walk.specs.declared.refused.Refused.{Refused}
 use Rattle.model_walk.specs.Shown.{refusal_of}
-use Rattle.model_stock.specs.Settled.{classes_of, started_box}
-use Rattle.model_stock.specs.Taken.{HasOnce, Adds, Settles, lacks, lacks_class, component_lacks, off_of_box, kind_of_stock, taken_of}
-use Rattle.model_stock.proofs.Counts.{found-at, none-counted, at-counted, parts-counted}
+use Rattle.model_build.specs.Settled.{classes_of, started_box}
+use Rattle.model_build.specs.Taken.{HasOnce, Adds, Settles, lacks, lacks_class, component_lacks, off_of_box, kind_of_stock, taken_of}
+use Rattle.model_build.proofs.Counts.{found-at, none-counted, at-counted, parts-counted}
 
 -- ---- lists
 

@@ -6,10 +6,10 @@ use Rattle.model_walk.specs.declared.item.Item as kept
 use Rattle.model_walk.specs.declared.refused.Stop.{Stop}
 use Rattle.model_walk.specs.declared.refused.Stop.TheVariants as Stops
 use Rattle.model_walk.specs.Shown.{item_of, refusal_of}
-use Rattle.model_stock.specs.Settled.{classes_of}
-use Rattle.model_stock.specs.Taken.{HasOnce, Stands}
-use Rattle.model_stock.proofs.Standing.{stands-none, stands-more, all-items, has-at, more, stops, whole}
-use Rattle.model_stock.proofs.atomics.Goals as goal
+use Rattle.model_build.specs.Settled.{classes_of}
+use Rattle.model_build.specs.Taken.{HasOnce, Stands}
+use Rattle.model_build.proofs.Standing.{stands-none, stands-more, all-items, has-at, more, stops, whole}
+use Rattle.model_build.proofs.stock.atomics.Goals as goal
 
 pub loop-item-init : goal.loop-item-init
 loop-item-init g c =

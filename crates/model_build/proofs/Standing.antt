@@ -24,10 +24,10 @@ use Rattle.model_walk.specs.declared.item.Item as kept
 use Rattle.model_walk.specs.declared.walked.Walked.{Walked}
 use Rattle.model_walk.specs.Shown.{item_of}
 use Rattle.model_walk.specs.Met.{IsWalk, met_of}
-use Rattle.model_stock.specs.Settled.{classes_of, named, named_item, started_box, settled, are_apart}
-use Rattle.model_stock.specs.Taken.{Adds, Stands, lacks, lacks_class, component_lacks, taken_of}
-use Rattle.model_stock.proofs.Counts.{one_if, count-cons, count-append, count-set, lacks-box}
-use Rattle.model_stock.proofs.Boxes.{both, get-set, get-other, map-set_same, params-off, off_of_kind, some-lacks}
+use Rattle.model_build.specs.Settled.{classes_of, named, named_item, started_box, settled, are_apart}
+use Rattle.model_build.specs.Taken.{Adds, Stands, lacks, lacks_class, component_lacks, taken_of}
+use Rattle.model_build.proofs.Counts.{one_if, count-cons, count-append, count-set, lacks-box}
+use Rattle.model_build.proofs.StockBoxes.{both, get-set, get-other, map-set_same, params-off, off_of_kind, some-lacks}
 use Rattle.std.proofs.lemmas.Option.{get_or_from_slice_get}
 
 -- ---- what is refused

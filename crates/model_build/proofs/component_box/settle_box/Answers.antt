@@ -3,8 +3,8 @@ use Rattle.std.specs.Prelude.{IsTrue, List}
 use Rattle.atomic_face.specs.Held.{Held}
 use Rattle.atomic_face.specs.declared.params.Param.{Param}
 use Rattle.atomic_face.specs.Settings.{are_once}
-use Rattle.model_stock.proofs.Boxes.{change-keeps}
-use Rattle.model_stock.proofs.component.settle_box.Goals as goal
+use Rattle.model_build.proofs.StockBoxes.{change-keeps}
+use Rattle.model_build.proofs.component_box.settle_box.Goals as goal
 
 pub settle-requires-clause-once : goal.settle-requires-clause-once
 settle-requires-clause-once g c = λ d.

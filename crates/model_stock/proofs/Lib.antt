@@ -1,3 +1,0 @@
-mod Counts
-mod Boxes
-mod Standing
