@@ -8,7 +8,7 @@ use Rattle.model_tree.specs.declared.table.Model.{Model}
 use Rattle.model_tree.specs.Tree.{Word, Tree}
 use Rattle.model_tree.specs.Models.{tree_of}
 use Rattle.model_tree.specs.Sound.{is_sound_model}
-use Rattle.started_boxes.specs.Boxes.{settings_in}
+use Rattle.model_tree.specs.Boxes.{settings_in}
 use Rattle.route_flat.specs.declared.routes.Routes.{Routes}
 use Rattle.model_text.specs.Drawings.{drawing_refused}
 use Rattle.model_read.specs.Read.{IsReady}

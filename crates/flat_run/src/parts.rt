@@ -1,7 +1,7 @@
 // What a run has of its model.
 ghost use Rattle.std.specs.Prelude.{IfOk, IsTrue, vec_capacity};
 ghost use Rattle.model_tree.specs.Sound.{is_sound_model};
-ghost use Rattle.started_boxes.specs.Boxes.{BoxesStand};
+ghost use Rattle.model_tree.specs.Boxes.{BoxesStand};
 ghost use Rattle.flat_run.specs.Changes.{tree_with};
 ghost use Rattle.flat_run.specs.Holds.{ArePartsOf};
 

@@ -7,7 +7,7 @@ use Rattle.model_tree.specs.declared.table.Model.{Model}
 use Rattle.model_tree.specs.Tree.{Tree, leaf_count}
 use Rattle.model_tree.specs.Models.{tree_of}
 use Rattle.model_tree.specs.Sound.{is_sound_model}
-use Rattle.started_boxes.specs.Boxes.{settings_in}
+use Rattle.model_tree.specs.Boxes.{settings_in}
 use Rattle.run_leaves.specs.Seated as S
 use Rattle.run_leaves.specs.Seated.{settings_at}
 use Rattle.route_flat.specs.declared.routes.Routes.{Routes}

@@ -12,7 +12,7 @@
 //!   (`model_files`), and the drawn group is found (`group`).
 //! - Definitions: `model_text/specs/ModelOf.antt` (`model_of`); the phases up to the limit in their
 //!   order: `specs/Order.antt` (`up_to_limit`); what is answered: `specs/Read.antt` (`Reads`),
-//!   `Whole.antt`. That the boxes stand ready is `started_boxes/specs/Boxes.antt`.
+//!   `Whole.antt`. That the boxes stand ready is `model_tree/specs/Boxes.antt`.
 #![tactic(auto)]
 
 pub mod ends;

@@ -3,7 +3,7 @@ use Rattle.std.proofs.Common.{◌≡◌, ℕ, zero, suc, List, [], ◌∷◌, re
 use Rattle.atomic_face.specs.StockView.{Stocked}
 use Rattle.model_tree.specs.declared.table.Model.{Model}
 use Rattle.model_tree.specs.Models.{tree_of}
-use Rattle.started_boxes.specs.Boxes as boxes
+use Rattle.model_tree.specs.Boxes as boxes
 use Rattle.run_leaves.specs.Seated.{settings_in, settings_at, tree_at}
 
 at-number : (stock : List Stocked) (n : ℕ) → settings_at (settings_in stock) n ≡ boxes.settings_in stock n

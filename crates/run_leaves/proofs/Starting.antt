@@ -18,7 +18,7 @@ use Rattle.model_tree.specs.Tree.{Word, Tree, Group, Leaf, atomic_leaf, cell_lea
 use Rattle.model_tree.specs.Sound.{totals, is_sound_group, is_sound_model}
 use Rattle.model_tree.specs.Leaves.{Settings, no_settings, IsLeafOf, HasBox, IsCellIn, StandsAt}
 use Rattle.model_tree.proofs.Read.{leaves-length}
-use Rattle.started_boxes.specs.Boxes.{StartedAs, BoxesStand}
+use Rattle.model_tree.specs.Boxes.{StartedAs, BoxesStand}
 use Rattle.run_model.specs.CellStep.{CellState, initial_cell}
 use Rattle.run_model.specs.Cycle.{box_state, cell_state, initial_leaf}
 use Rattle.cell_engine.specs.Cells.{Cells}

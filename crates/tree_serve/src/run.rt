@@ -3,7 +3,7 @@ ghost use Rattle.std.specs.Prelude.{◌≡◌, ℕ, ◌≤◌, None, [], length,
 ghost use Rattle.quantity.specs.declared.bounds.TheConstants.{MAX_DELAY};
 ghost use Rattle.model_tree.specs.Tree.{ins_of};
 ghost use Rattle.model_tree.specs.Sound.{is_sound_model};
-ghost use Rattle.started_boxes.specs.Boxes.{BoxesStand};
+ghost use Rattle.model_tree.specs.Boxes.{BoxesStand};
 ghost use Rattle.run_model.specs.Run.{start};
 ghost use Rattle.sparse_cycle.specs.Feed.{AreAtInputs};
 ghost use Rattle.run_leaves.specs.Seated.{settings_in, tree_at};

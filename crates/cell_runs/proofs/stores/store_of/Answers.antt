@@ -1,6 +1,6 @@
 use Rattle.model_tree.specs.Stands.{group_of}
 use Rattle.model_tree.specs.Models.{tree_of}
-use Rattle.started_boxes.specs.Boxes.{settings_in}
+use Rattle.model_tree.specs.Boxes.{settings_in}
 use Rattle.run_leaves.proofs.SoundParts.{sound-parts, group-sound}
 use Rattle.cell_runs.proofs.stores.store_of.Goals as goal
 
