@@ -1,3 +1,5 @@
+pub mod Drafts
+pub mod Table
 pub mod Shown
 pub mod Group
 pub mod Spaces

@@ -3,8 +3,8 @@ use Rattle.std.specs.Prelude.{◌≡◌, ◌<◌, ◌≤◌, None, List, IfSome,
 use Rattle.std.specs.Option.{option_map}
 use Rattle.quantity.specs.declared.bounds.TheConstants.{MAX_DELAY}
 use Rattle.model_tree.specs.Tree.{Word}
-pub use Rattle.word_options.specs.Drafts.{text_of_name, given_names}
-use Rattle.word_options.specs.Drafts.{draft_of}
+pub use Rattle.asked_words.specs.Drafts.{text_of_name, given_names}
+use Rattle.asked_words.specs.Drafts.{draft_of}
 use Rattle.cell_grid.specs.Space.{plane_count}
 use Rattle.answer_model.specs.Options.{differ_all}
 use Rattle.answer_model.specs.Asked as A

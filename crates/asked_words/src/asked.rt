@@ -5,13 +5,14 @@ ghost use Rattle.std.specs.String.{string_bytes};
 ghost use Rattle.answer_model.specs.Asked as A;
 ghost use Rattle.asked_words.specs.Shown.{text_of_name, source_of, frames_of, asked_of};
 ghost use Rattle.asked_words.specs.Shown.{IsOfSize, CanBeShown, IsInBounds};
-ghost use Rattle.word_options.specs.Drafts.{draft_of, IsBounded, MadeDiffer};
+ghost use Rattle.asked_words.specs.Drafts.{draft_of, IsBounded, MadeDiffer};
 
+use crate::draft::Draft;
+use crate::read::cdpp_draft;
+use crate::values::group_in;
 use cell_grid::Grid;
 use quantity::{Name, OutOfMemory, Time};
 use std::alloc::Global;
-use word_options::values::group_in;
-use word_options::{Draft, cdpp_draft};
 
 /// Where a model comes from: a file, or a game of life with so many rows and columns, 5 to 1000.
 #[derive(Clone, Copy)]

@@ -8,15 +8,16 @@ ghost use Rattle.quantity.specs.Written.{for_some};
 ghost use Rattle.answer_model.specs.Asked as A;
 ghost use Rattle.answer_model.specs.AskedDrawing as D;
 ghost use Rattle.asked_words.specs.Shown.{text_of_name, drawing_of, CanBeDrawn};
-ghost use Rattle.word_options.specs.Drafts.{draft_of, IsBounded};
+ghost use Rattle.asked_words.specs.Drafts.{draft_of, IsBounded};
 ghost use Rattle.asked_words.specs.Spaces.{space_sized, drawing_with};
 
 use crate::asked::AskedDrawing;
+use crate::draft::Draft;
+use crate::read::drawlog_draft;
+use crate::values::{group_in, number};
 use cell_grid::{Border, Grid};
 use quantity::{Name, OutOfMemory};
 use std::alloc::{AllocError, Global};
-use word_options::values::{group_in, number};
-use word_options::{Draft, drawlog_draft};
 
 /// The pieces of a text between its commas.
 fn pieces<'a>(alloc: Global, text: &'a str) -> Result<Vec<&'a str>, AllocError>

@@ -1,20 +1,34 @@
-//! The words of both programs, and what they ask for.
+//! The words of both programs, and what they ask for, option by option.
 //!
 //! - `given_words` takes the words that a process is given. `read_words` gives what they ask of the
 //!   simulator (`Asked`, with `Source` and `FramesFile`), `read_drawing_words` what they ask of the
 //!   drawing program (`AskedDrawing`), or none where they are refused.
+//! - The options have a row each (`table`), by which the command line of `clap` (`command`), the
+//!   line of usage and the value of each option (`values`) are made. `cdpp_draft` and
+//!   `drawlog_draft` take the words of a command line and give a `Draft`, what each option says by
+//!   itself, or none where the words are refused. `usage_line` and `drawing_usage_line` give the
+//!   lines of usage.
 //! - `GroupAt` is the group that is drawn, by where it stands in a model.
-//! - Definitions: `answer_model/specs/Asked.antt`, `AskedDrawing.antt`; `specs/Shown.antt` joins
-//!   these types with them, `Group.antt` says which group is drawn. Option by option the words are
-//!   read in `word_options`.
+//! - Definitions: `answer_model/specs/Options.antt` (`built_rows`, `drawing_rows`), and the same in
+//!   code: `specs/Drafts.antt`; what options say together: `answer_model/specs/Asked.antt`,
+//!   `AskedDrawing.antt`; `specs/Shown.antt` joins these types with them, `Group.antt` says which
+//!   group is drawn.
 #![tactic(auto)]
 
 pub mod asked;
+mod command;
+pub mod draft;
 mod drawlog;
 mod given;
 pub mod group;
+mod read;
+mod table;
+pub mod values;
 
 pub use asked::{Asked, AskedDrawing, FramesFile, Source, read_words};
+pub use draft::Draft;
 pub use drawlog::read_drawing_words;
 pub use given::given_words;
 pub use group::GroupAt;
+pub use read::{cdpp_draft, drawlog_draft};
+pub use table::{drawing_usage_line, usage_line};

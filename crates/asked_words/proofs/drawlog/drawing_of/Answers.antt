@@ -1,5 +1,5 @@
 use Rattle.std.proofs.Common.{◌∙◌, sym, ap}
-use Rattle.word_options.specs.Drafts.{text_of_name, draft_of}
+use Rattle.asked_words.specs.Drafts.{text_of_name, draft_of}
 use Rattle.asked_words.proofs.Drawing.{no_log, no_group, no_space, all_there}
 use Rattle.asked_words.proofs.drawlog.drawing_of.Goals as goal
 

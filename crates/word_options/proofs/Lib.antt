@@ -1,6 +1,0 @@
-mod Matched
-mod Taken
-mod Tables
-mod Fewer
-mod Drafted
-mod Lowered

@@ -1,8 +1,0 @@
-use Rattle.std.proofs.Common.{◌≡◌, drop}
-use Rattle.clap.specs.Words.{app_of}
-use Rattle.word_options.specs.Table.{with_named}
-use Rattle.word_options.proofs.command.with_options.Given as goal
-
--- with the options that are left the command is as it is to be
-abbrev pub invariant-loop-option : goal.invariant-loop-option
-invariant-loop-option l = with_named (app_of l.command) (drop l.option-index l.options) ≡ with_named (app_of l.initial.command) l.options

@@ -1,5 +1,0 @@
-use Rattle.std.proofs.lemmas.Result.{IfOk-weaker}
-use Rattle.word_options.proofs.table.usage_line.Goals as goal
-
-pub returns : goal.returns
-returns c = IfOk-weaker c.usage_of.result _ _ (λ line is. is) c.usage_of.ensures
