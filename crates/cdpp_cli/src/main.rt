@@ -10,7 +10,7 @@
 
 ghost use Rattle.std.specs.Prelude.{◌≡◌, ◌<◌, ◌^◌, length};
 
-use asked_words::given_words;
+use asked_words::{Status, given_words};
 use atomic_face::{AtomicModel, Class};
 use atomic_kinds::{CounterModel, CpuModel, GeneratorModel, QueueModel};
 use cdpp_top::cdpp;
@@ -24,7 +24,6 @@ use std::marker::Brand;
 use std::process::ExitCode;
 use std::sync::ledger::{Blank, Ledger};
 use std::{env, io};
-use told_lines::Status;
 
 /// How many boxes there are of each class.
 const BOXES: usize = 4096;

@@ -12,12 +12,12 @@ ghost use Rattle.cdpp_top.specs.Leaving.{LeavesFor};
 use crate::read::read;
 use crate::run::run;
 use crate::tell::tell_unread;
+use asked_words::Status;
 use atomic_face::AtomicModel;
 use flat_run::Steps;
 use room_edge::Room;
 use std::alloc::Global;
 use std::sync::ledger::Ledger;
-use told_lines::Status;
 
 /// Runs the program for the words of a command line, of which the first is its name, with these
 /// boxes for atomic components. Answers what a process ends with: the run is done, and its end is

@@ -18,14 +18,13 @@ ghost use Rattle.cdpp_top.specs.Ways.{standing_in, marking_in};
 
 use crate::start::Start;
 use crate::way::Way;
-use asked_words::{Asked, GroupAt};
+use asked_words::{Asked, GroupAt, Status};
 use atomic_face::AtomicModel;
 use flat_run::Steps;
 use room_edge::Room;
 use run_loop::{Resumable, run_and_tell};
 use std::alloc::Global;
 use std::sync::ledger::Ledger;
-use told_lines::Status;
 
 /// Runs what was read, and tells how that went.
 pub(crate) fn run<R: Room, M: AtomicModel, L: Ledger>(

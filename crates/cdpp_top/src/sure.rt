@@ -9,12 +9,12 @@ ghost use Rattle.answer_model.specs.declared.status.Status.TheVariants.{NoMemory
 ghost use Rattle.cdpp_top.specs.Starting.{classes_by};
 
 use crate::program::cdpp;
+use asked_words::Status;
 use atomic_face::AtomicModel;
 use flat_run::Steps;
 use room_edge::SureRoom;
 use std::alloc::Global;
 use std::sync::ledger::Ledger;
-use told_lines::Status;
 
 /// Runs the program over a room that never fails: what comes is the answer, but for want of memory,
 /// with no more visits than the reference run may cost, where they are counted.

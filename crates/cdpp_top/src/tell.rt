@@ -9,12 +9,11 @@ ghost use Rattle.cdpp_top.specs.Unread.{TellsEvents, TellsState, TellsUnread};
 
 use crate::lines::refused_line;
 use crate::unread::Unread;
-use asked_words::usage_line;
+use asked_words::{Status, complain, complain_of, usage_line};
 use event_list::EventRefusal;
 use room_edge::Room;
 use std::alloc::Global;
 use text_forms::StateRefusal;
-use told_lines::{Status, complain, complain_of};
 
 /// Tells why nothing is read, as far as it can.
 pub(crate) fn tell_unread<R: Room>(alloc: Global, room: &mut R, why: Unread) -> Status

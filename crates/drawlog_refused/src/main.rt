@@ -5,12 +5,11 @@
 //!   output.
 #![tactic(auto)]
 
-use asked_words::given_words;
+use asked_words::{Status, given_words};
 use drawlog_top::drawlog;
 use room_edge::FolderRoom;
 use std::env;
 use std::process::ExitCode;
-use told_lines::Status;
 
 fn main(rt: HostRuntime) -> ExitCode {
     let alloc = rt.alloc();

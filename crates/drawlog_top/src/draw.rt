@@ -11,10 +11,9 @@ ghost use Rattle.asked_words.specs.Shown.{drawing_of};
 use crate::refusal::DrawRefusal;
 use crate::refuse::refuse;
 use crate::whole_log::draw_log;
-use asked_words::AskedDrawing;
+use asked_words::{AskedDrawing, Status, show};
 use room_edge::Room;
 use std::alloc::Global;
-use told_lines::{Status, show};
 
 /// Draws the frames of a log and shows them, or tells that it is refused.
 pub(crate) fn draw<R: Room>(

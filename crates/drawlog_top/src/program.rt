@@ -14,11 +14,10 @@ ghost use Rattle.drawlog_top.specs.Ends.{answer_to_file};
 
 use crate::draw::draw;
 use crate::refuse::{refuse, tell_usage};
-use asked_words::{AskedDrawing, read_drawing_words};
+use asked_words::{AskedDrawing, Status, complain_named, read_drawing_words};
 use quantity::MAX_LOG_BYTES;
 use room_edge::{ReadWhole, Room, read_whole};
 use std::alloc::Global;
-use told_lines::{Status, complain_named};
 
 // The most bytes that a log may have.
 const MOST_BYTES: u32 = MAX_LOG_BYTES as u32;

@@ -6,11 +6,10 @@ ghost use Rattle.answer_model.specs.declared.status.Status.TheVariants.{LogRefus
 ghost use Rattle.answer_model.specs.Drawlog.{log_refused};
 ghost use Rattle.answer_model.specs.Endings.{Says};
 
-use asked_words::drawing_usage_line;
+use asked_words::{Status, complain, drawing_usage_line};
 use quantity::OutOfMemory;
 use room_edge::Room;
 use std::alloc::Global;
-use told_lines::{Status, complain};
 
 /// The line that names the first line that is refused, or 0 for a log that is too long.
 fn refused_line(alloc: Global, line: u32) -> Result<Vec<u8>, OutOfMemory>

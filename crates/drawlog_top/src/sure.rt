@@ -7,9 +7,9 @@ ghost use Rattle.answer_model.specs.Drawlog.{drawing_answer};
 ghost use Rattle.answer_model.specs.Headline.{Writes};
 
 use crate::program::drawlog;
+use asked_words::Status;
 use room_edge::SureRoom;
 use std::alloc::Global;
-use told_lines::Status;
 
 /// Runs the drawing program over a room that never fails: what comes is the answer, but for want of
 /// memory.

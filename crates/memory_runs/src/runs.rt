@@ -1,6 +1,7 @@
 // Runs of both programs in a room in memory.
 ghost use Rattle.std.specs.Prelude.{◌≡◌, ◌<◌, ◌^◌, length};
 
+use asked_words::Status;
 use atomic_face::{AtomicModel, Class};
 use atomic_kinds::{CounterModel, CpuModel, GeneratorModel, QueueModel};
 use cdpp_top::cdpp;
@@ -12,7 +13,6 @@ use state_tables::TableModel;
 use std::alloc::{AllocError, Global};
 use std::marker::Brand;
 use std::sync::ledger::{Blank, Ledger};
-use told_lines::Status;
 
 /// How many boxes there are of each class.
 const BOXES: usize = 2;

@@ -13,13 +13,12 @@ ghost use Rattle.run_loop.specs.Ends.{IsVerdict, IsSaid, HasCounted, mark_behind
 
 use crate::going::Going;
 use crate::lines::{delay_line, end_line, made_line, many_cycles_line, put_mark, stopped_line};
-use asked_words::{Asked, Source};
+use asked_words::{Asked, Source, Status, complain, show};
 use flat_run::Stop;
 use model_tree::Model;
 use quantity::{OutOfMemory, Time, Value};
 use room_edge::Room;
 use std::alloc::Global;
-use told_lines::{Status, complain, show};
 
 /// The run is done, or it stopped.
 #[derive(Clone, Copy)]

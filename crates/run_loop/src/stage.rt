@@ -27,12 +27,11 @@ use crate::laws::runs_are_fit;
 use crate::resumable::Resumable;
 use crate::run::run_all;
 use crate::tell::tell_unwritten;
-use asked_words::{Asked, GroupAt};
+use asked_words::{Asked, GroupAt, Status};
 use flat_run::Steps;
 use room_edge::Room;
 use std::alloc::Global;
 use std::sync::ledger::Ledger;
-use told_lines::Status;
 
 /// Makes the log, the output, the file of frames and that of the state at the end, runs a model to
 /// its end, from the start or from a saved state, whichever way its cycles are made, and tells how

@@ -3,10 +3,9 @@ ghost use Rattle.run_loop.specs.AskedFiles.{names_of};
 ghost use Rattle.run_loop.specs.Written.{Tells, Blames};
 
 use crate::outputs::{Unwritten, name_of};
-use asked_words::Asked;
+use asked_words::{Asked, Status, write_fault};
 use room_edge::Room;
 use std::alloc::Global;
-use told_lines::{Status, write_fault};
 
 /// Tells of the file that could not be written. For want of memory there is no line.
 pub fn tell_unwritten<R: Room>(

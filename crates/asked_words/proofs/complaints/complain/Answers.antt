@@ -1,6 +1,6 @@
 use Rattle.std.proofs.Common.{refl}
 use Rattle.answer_model.proofs.Said.{said_whole, said_cut, said_part}
-use Rattle.told_lines.proofs.complaints.complain.Goals as goal
+use Rattle.asked_words.proofs.complaints.complain.Goals as goal
 
 pub returns-in-Ok : goal.returns-in-Ok
 returns-in-Ok g c = let e = c.in-Ok.ensures in said_whole _ _ _ _ e.complained e.only e.counts_faults e.counts_complain_faults

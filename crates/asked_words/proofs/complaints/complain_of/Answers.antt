@@ -1,7 +1,7 @@
 use Rattle.std.proofs.Common.{◌++◌, ◌∙◌, subst}
 use Rattle.answer_model.specs.Endings.{Says}
 use Rattle.answer_model.proofs.Said.{said_nothing}
-use Rattle.told_lines.proofs.complaints.complain_of.Goals as goal
+use Rattle.asked_words.proofs.complaints.complain_of.Goals as goal
 
 pub returns-in_default : goal.returns-in_default
 returns-in_default g c = said_nothing _ (c.args.what.now ++ c.args.name.now) _

@@ -1,7 +1,7 @@
 use Rattle.std.proofs.Common.{refl}
 use Rattle.answer_model.specs.declared.status.Status.TheVariants.{Done}
 use Rattle.answer_model.proofs.Said.{shown_whole, shown_stopped, shown_part}
-use Rattle.told_lines.proofs.shown.show.Goals as goal
+use Rattle.asked_words.proofs.shown.show.Goals as goal
 
 pub returns-in-Ok : goal.returns-in-Ok
 returns-in-Ok g c =
