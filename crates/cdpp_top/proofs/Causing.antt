@@ -8,9 +8,9 @@ use Rattle.event_list.specs.declared.refusal.EventRefusal.TheVariants as E
 use Rattle.text_forms.specs.declared.refusal.StateRefusal.{StateRefusal}
 use Rattle.text_forms.specs.declared.refusal.StateRefusal.TheVariants as S
 use Rattle.model_tree.specs.Tree.{Word}
-use Rattle.model_files.specs.declared.refusal.ModelRefusal.{ModelRefusal}
-use Rattle.model_files.specs.declared.refusal.ModelRefusal.TheVariants as M
-use Rattle.model_files.specs.Reading.{Counted}
+use Rattle.model_read.specs.declared.refusal.ModelRefusal.{ModelRefusal}
+use Rattle.model_read.specs.declared.refusal.ModelRefusal.TheVariants as M
+use Rattle.model_read.specs.Reading.{Counted}
 use Rattle.answer_model.specs.declared.status.Status.{Status}
 use Rattle.answer_model.specs.declared.status.Status.TheVariants as exit
 use Rattle.answer_model.specs.Status.{row_of, of_words, of_reading, of_cdpp}

@@ -10,9 +10,9 @@ use Rattle.model_tree.specs.Tree.{Word, Tree}
 use Rattle.model_text.specs.Refusals.{refusal}
 use Rattle.model_text.specs.Drawings.{Drawing}
 use Rattle.model_text.specs.ModelOf.{ModelOf, model, missing, refused, model_of}
-use Rattle.model_files.specs.declared.refusal.ModelRefusal.{ModelRefusal}
-use Rattle.model_files.specs.declared.refusal.ModelRefusal.TheVariants as M
-use Rattle.model_files.specs.Reading.{Tried, Counted}
+use Rattle.model_read.specs.declared.refusal.ModelRefusal.{ModelRefusal}
+use Rattle.model_read.specs.declared.refusal.ModelRefusal.TheVariants as M
+use Rattle.model_read.specs.Reading.{Tried, Counted}
 use Rattle.model_read.specs.Whole.{found_in, looked_in}
 use Rattle.model_read.specs.Read.{ModelGives}
 use Rattle.answer_model.specs.declared.status.Status.{Status}

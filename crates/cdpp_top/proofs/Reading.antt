@@ -14,7 +14,7 @@ use Rattle.run_model.specs.Run.{Event}
 use Rattle.event_list.specs.Events.{events_of}
 use Rattle.text_forms.specs.StateOf.{Saved, state_of}
 use Rattle.flat_run.specs.Standing.{Standing, tree_in}
-use Rattle.model_files.specs.declared.refusal.ModelRefusal.{ModelRefusal}
+use Rattle.model_read.specs.declared.refusal.ModelRefusal.{ModelRefusal}
 use Rattle.model_read.specs.Read.{Reads}
 use Rattle.model_read.specs.declared.found.ReadModel.{ReadModel}
 use Rattle.asked_words.specs.declared.group.GroupAt.{GroupAt}

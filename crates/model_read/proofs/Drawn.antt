@@ -17,8 +17,8 @@ use Rattle.model_text.specs.Drawings as D
 use Rattle.model_text.specs.Spaces.{space_of}
 use Rattle.model_text.specs.Trees.{group_of, tree_of}
 use Rattle.model_text.specs.Walk.{groups}
-use Rattle.model_files.specs.declared.group_space.GroupSpace.{GroupSpace}
-use Rattle.model_files.specs.Spaces.{shown, said}
+use Rattle.model_read.specs.declared.group_space.GroupSpace.{GroupSpace}
+use Rattle.model_read.specs.Spaces.{shown, said}
 use Rattle.model_read.specs.Ends as ends
 
 abbrev Face : Type 0

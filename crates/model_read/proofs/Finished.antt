@@ -22,11 +22,11 @@ use Rattle.model_text.specs.Refusals.{refusal}
 use Rattle.model_text.specs.Trees.{initial_of, tree_of, no_files}
 use Rattle.model_text.specs.Walk.{groups}
 use Rattle.model_build.specs.Built.{IsBuilt}
-use Rattle.model_files.specs.declared.group_space.GroupSpace.{GroupSpace}
-use Rattle.model_files.specs.declared.refusal.ModelRefusal.{ModelRefusal}
-use Rattle.model_files.specs.declared.refusal.ModelRefusal.TheVariants.{Missing, ReadFault, Refused, Memory}
-use Rattle.model_files.specs.Reading.{ReadsFiles}
-use Rattle.model_files.specs.Spaces.{shown, said}
+use Rattle.model_read.specs.declared.group_space.GroupSpace.{GroupSpace}
+use Rattle.model_read.specs.declared.refusal.ModelRefusal.{ModelRefusal}
+use Rattle.model_read.specs.declared.refusal.ModelRefusal.TheVariants.{Missing, ReadFault, Refused, Memory}
+use Rattle.model_read.specs.Reading.{ReadsFiles}
+use Rattle.model_read.specs.Spaces.{shown, said}
 use Rattle.model_build.specs.Boxes.{settings_in, HasBoxes}
 use Rattle.model_build.specs.Laws.{GroupsAreMet, BlanksAreLaid, LinksStay, LaidModelsAreSound, BoxesAreStanding}
 use Rattle.asked_words.specs.declared.group.GroupAt.{GroupAt}

@@ -15,12 +15,12 @@ use Rattle.model_text.specs.Refusals.{Refusal, refusal}
 use Rattle.model_text.specs.Drawings.{Drawing}
 use Rattle.model_text.specs.InitialFiles.{FileStop, absent, off, is_long, content_stops, looked_for}
 use Rattle.model_text.specs.ModelOf.{ModelOf, missing, refused, ModelRead, model_of}
-use Rattle.model_files.specs.declared.refusal.ModelRefusal.{ModelRefusal}
-use Rattle.model_files.specs.declared.refusal.ModelRefusal.TheVariants.{Missing, ReadFault, Refused, Memory}
-use Rattle.model_files.specs.Reading.{Tried, StopsAs, ReadsFiles}
-use Rattle.model_files.specs.Whole.{any_file}
-use Rattle.model_files.proofs.Looking.{looks_for_one}
-use Rattle.model_files.proofs.Readings.{only_both, tried_behind, counted_behind, counted_as, last_as}
+use Rattle.model_read.specs.declared.refusal.ModelRefusal.{ModelRefusal}
+use Rattle.model_read.specs.declared.refusal.ModelRefusal.TheVariants.{Missing, ReadFault, Refused, Memory}
+use Rattle.model_read.specs.Reading.{Tried, StopsAs, ReadsFiles}
+use Rattle.model_read.specs.WholeFile.{any_file}
+use Rattle.model_read.proofs.Looking.{looks_for_one}
+use Rattle.model_read.proofs.Readings.{only_both, tried_behind, counted_behind, counted_as, last_as}
 use Rattle.model_read.specs.declared.found.ReadModel.{ReadModel}
 use Rattle.model_read.specs.Read.{ModelGives, Reads}
 use Rattle.model_read.specs.Whole.{found_in, looked_in, of_name}

@@ -8,7 +8,7 @@ use Rattle.atomic_face.specs.StockView.{Stocked}
 use Rattle.model_text.specs.Drawings.{Drawing}
 use Rattle.model_text.specs.ModelOf.{ModelRead}
 use Rattle.room_edge.specs.Outside.{Outside, OnlyInput}
-use Rattle.model_files.specs.declared.refusal.ModelRefusal.TheVariants as why
+use Rattle.model_read.specs.declared.refusal.ModelRefusal.TheVariants as why
 use Rattle.model_read.specs.Read.{Reads}
 
 pub nothing_changed : (o : Outside) → OnlyInput o o

@@ -18,7 +18,7 @@ use Rattle.model_walk.specs.declared.refused.Refused.{Refused}
 use Rattle.model_walk.specs.declared.refused.Stop.{Stop}
 use Rattle.model_walk.specs.declared.refused.Stop.TheVariants as stop
 use Rattle.model_walk.specs.Shown.{refusal_of}
-use Rattle.model_files.specs.Stops.{refusal_of_stop}
+use Rattle.model_read.specs.Stops.{refusal_of_stop}
 use Rattle.model_read.specs.Order.{up_to_limit}
 use Rattle.model_read.specs.Read.{Reads}
 use Rattle.model_read.specs.Whole.{refusal_of_lines}

@@ -19,9 +19,9 @@ use Rattle.model_text.specs.Drawings.{Drawing, drawing_refused}
 use Rattle.model_text.specs.InitialFiles.{initial_files, first_file_stop, looked_for}
 use Rattle.model_text.specs.Trees.{tree_of, no_files}
 use Rattle.model_text.specs.ModelOf.{model, ModelRead, refuses, unless, model_unless, after_files, with_files}
-use Rattle.model_files.specs.declared.refusal.ModelRefusal.{ModelRefusal}
-use Rattle.model_files.specs.declared.refusal.ModelRefusal.TheVariants.{Missing, ReadFault, Refused, Memory}
-use Rattle.model_files.specs.Reading.{Tried, IsLastTried, Counted, StopsAs, ReadsFiles}
+use Rattle.model_read.specs.declared.refusal.ModelRefusal.{ModelRefusal}
+use Rattle.model_read.specs.declared.refusal.ModelRefusal.TheVariants.{Missing, ReadFault, Refused, Memory}
+use Rattle.model_read.specs.Reading.{Tried, IsLastTried, Counted, StopsAs, ReadsFiles}
 use Rattle.model_build.specs.Boxes.{settings_in}
 use Rattle.model_read.specs.declared.found.ReadModel.{ReadModel}
 use Rattle.asked_words.specs.declared.group.GroupAt.{GroupAt}

@@ -16,9 +16,9 @@ use Rattle.model_text.specs.declared.kind.Kind.TheVariants.{TooManyRoutes}
 use Rattle.model_text.specs.Drawings.{Drawing}
 use Rattle.model_text.specs.Trees.{tree_of, no_files}
 use Rattle.model_build.specs.Blank.{blanked}
-use Rattle.model_files.specs.declared.group_space.GroupSpace.{GroupSpace}
-use Rattle.model_files.specs.declared.refusal.ModelRefusal.{ModelRefusal}
-use Rattle.model_files.specs.declared.refusal.ModelRefusal.TheVariants as why
+use Rattle.model_read.specs.declared.group_space.GroupSpace.{GroupSpace}
+use Rattle.model_read.specs.declared.refusal.ModelRefusal.{ModelRefusal}
+use Rattle.model_read.specs.declared.refusal.ModelRefusal.TheVariants as why
 
 -- the routes of a model with at most 65536 paths; TooManyRoutes where there are more
 abbrev pub RoutesGive : Model → Result Routes ModelRefusal → Type 0

@@ -1,3 +1,8 @@
+pub mod Stops
+pub mod Reading
+pub mod WholeFile
+pub mod Spaces
+pub mod Laid
 pub mod Order
 pub mod Ends
 pub mod Group

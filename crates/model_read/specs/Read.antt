@@ -17,9 +17,9 @@ use Rattle.route_flat.specs.Nets.{RoutesOf}
 use Rattle.model_text.specs.Refusals.{refusal}
 use Rattle.model_text.specs.Drawings as D
 use Rattle.model_text.specs.ModelOf.{ModelOf, model, missing, refused, ModelRead}
-use Rattle.model_files.specs.declared.refusal.ModelRefusal.{ModelRefusal}
-use Rattle.model_files.specs.declared.refusal.ModelRefusal.TheVariants as why
-use Rattle.model_files.specs.Reading.{Tried, IsLastTried, Counted}
+use Rattle.model_read.specs.declared.refusal.ModelRefusal.{ModelRefusal}
+use Rattle.model_read.specs.declared.refusal.ModelRefusal.TheVariants as why
+use Rattle.model_read.specs.Reading.{Tried, IsLastTried, Counted}
 use Rattle.asked_words.specs.declared.asked.FramesFile.{FramesFile}
 use Rattle.model_build.specs.Boxes.{settings_in, BoxesStand}
 use Rattle.asked_words.specs.Group.{IsDrawn}

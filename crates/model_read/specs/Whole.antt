@@ -6,8 +6,8 @@ use Rattle.ma_lines.specs.Sections.{Section}
 use Rattle.ma_lines.specs.declared.section.LineRefusal.{LineRefusal}
 use Rattle.ma_lines.specs.declared.section.LineRefusal.TheVariants as L
 use Rattle.model_text.specs.declared.kind.Kind.TheVariants.{BadLine, DuplicateSection}
-use Rattle.model_files.specs.declared.refusal.ModelRefusal.{ModelRefusal}
-use Rattle.model_files.specs.declared.refusal.ModelRefusal.TheVariants as why
+use Rattle.model_read.specs.declared.refusal.ModelRefusal.{ModelRefusal}
+use Rattle.model_read.specs.declared.refusal.ModelRefusal.TheVariants as why
 use Rattle.atomic_face.specs.declared.class.Class.{Class}
 use Rattle.model_text.specs.Drawings.{Drawing}
 use Rattle.model_text.specs.ModelOf.{ModelOf, missing, ModelRead, model_of, unless, routes_refused, with_files}

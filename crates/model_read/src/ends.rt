@@ -12,7 +12,7 @@ ghost use Rattle.model_text.specs.Spaces.{space_of};
 ghost use Rattle.model_text.specs.Walk as W;
 ghost use Rattle.model_spaces.specs.Placed.{values_before_files};
 ghost use Rattle.model_build.specs.Built.{Passes, IsBuilt};
-ghost use Rattle.model_files.specs.Spaces as spaces;
+ghost use Rattle.model_read.specs.Spaces as spaces;
 ghost use Rattle.model_build.specs.Boxes.{settings_in, HasBoxes};
 ghost use Rattle.model_read.specs.Read.{drawing_of, Reads};
 ghost use Rattle.model_read.specs.Whole.{behind_limit};
@@ -20,7 +20,10 @@ ghost use Rattle.model_read.specs.Ends.{can_draw, has_plane, IsBlank, RoutesGive
 
 use crate::found::ReadModel;
 use crate::group::drawn_in;
+use crate::group_space::GroupSpace;
+use crate::initial::initial_values;
 use crate::phases::Judged;
+use crate::refusal::ModelRefusal;
 use asked_words::FramesFile;
 use cell_grid::Initial;
 use ma_lines::Sections;
@@ -28,7 +31,6 @@ use model_build::laws::{
     blanks_are_laid, boxes_are_standing, groups_are_alike, groups_are_met, laid_models_are_sound,
     links_stay,
 };
-use model_files::{GroupSpace, ModelRefusal, initial_values};
 use model_text::Kind;
 use model_text::building::{files_are_laid, totals_are_within_limits};
 use model_tree::Model;

@@ -14,16 +14,16 @@ ghost use Rattle.model_rules.specs.Sets.{sets_shown, sets_of};
 ghost use Rattle.model_tree.specs.Leaves.{Settings};
 ghost use Rattle.model_tree.specs.declared.component.Component.TheVariants.{Coupled as in_tree};
 ghost use Rattle.model_build.specs.Built.{Passes, HasSettings, IsBuilt};
-ghost use Rattle.model_files.specs.Spaces as spaces;
+ghost use Rattle.model_read.specs.Spaces as spaces;
 ghost use Rattle.model_read.specs.Order.{up_to_limit};
 ghost use Rattle.model_build.specs.Boxes.{settings_in, atomics_in, HasBoxes};
 
+use crate::group_space::GroupSpace;
 use crate::stages::{Parts, met_sections, read_links, read_parts};
 use atomic_face::{AtomicModel, Stock};
 use cell_grid::Initial;
 use ma_lines::Sections;
 use model_build::build;
-use model_files::GroupSpace;
 use model_spaces::PlacedGroup;
 use model_tree::{Coupled, Link};
 use model_walk::{Refused, Stop, Walked};

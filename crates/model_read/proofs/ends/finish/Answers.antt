@@ -1,6 +1,6 @@
 use Rattle.std.proofs.Common.{◌≡◌, Vec, Global, Err, sym, ap, ◌∙◌, subst, rules}
 use Rattle.cell_grid.specs.declared.initial.Initial.{Initial}
-use Rattle.model_files.specs.declared.refusal.ModelRefusal.TheVariants.{Memory}
+use Rattle.model_read.specs.declared.refusal.ModelRefusal.TheVariants.{Memory}
 use Rattle.model_read.specs.Ends.{can_draw}
 use Rattle.model_read.specs.Read.{drawing_of, Reads}
 use Rattle.model_read.specs.Whole.{behind_limit}

@@ -5,7 +5,7 @@ use Rattle.ma_lines.specs.Sections.{Section}
 use Rattle.cell_grid.specs.Space.{Space}
 use Rattle.model_spaces.specs.Placed.{Placed, shown, placed_of}
 use Rattle.model_spaces.specs.declared.placed.PlacedGroup.{PlacedGroup}
-use Rattle.model_files.specs.Spaces as spaces
+use Rattle.model_read.specs.Spaces as spaces
 use Rattle.model_read.proofs.phases.built.Goals as goal
 
 -- the section and the space of a group

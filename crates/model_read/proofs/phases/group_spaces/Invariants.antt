@@ -1,5 +1,5 @@
 use Rattle.std.proofs.Common.{◌≡◌, map, take}
-use Rattle.model_files.specs.Spaces.{shown, placed}
+use Rattle.model_read.specs.Spaces.{shown, placed}
 use Rattle.model_read.proofs.phases.group_spaces.Given as goal
 
 abbrev pub invariant-loop-group : goal.invariant-loop-group

@@ -1,0 +1,8 @@
+use Rattle.std.specs.Prelude.{codes}
+use Rattle.ma_lines.specs.Sections.{section_of}
+use Rattle.std.proofs.Common.{sym}
+use Rattle.model_read.proofs.Plain.{found_plain}
+use Rattle.model_read.proofs.lay.lay_map.Goals as goal
+
+pub lay_map_file-requires-clause-plain : goal.lay_map_file-requires-clause-plain
+lay_map_file-requires-clause-plain g c = found_plain (codes "initialmapvalue") (section_of c.args.section.now) c.in-Some.entry.now c.requires.plain (sym c.in-Some.ensures)
