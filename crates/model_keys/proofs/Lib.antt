@@ -1,3 +1,5 @@
+mod Gathered
+mod Texts
 mod Parts
 mod Off
 mod Kept

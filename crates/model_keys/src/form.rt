@@ -11,13 +11,13 @@ ghost use Rattle.model_keys.specs.LeastOf.{IsLeastOf};
 ghost use Rattle.model_keys.specs.FormOf.{key_of, test_of, table_of};
 ghost use Rattle.model_keys.specs.Wanted.{AreWanted};
 
+use crate::link::has_two_ends;
+use crate::names::{are_names, are_ports, are_words};
+use crate::port_rule::port_rule_text;
+use crate::sizes::{is_delay_time, is_dim, is_size, is_value_text};
+use crate::tuples::tuples_of;
 use crate::wanted::{WantedValues, fits, wanted_values};
 use ma_lines::{Entry, Section};
-use model_forms::link::has_two_ends;
-use model_forms::names::{are_names, are_ports, are_words};
-use model_forms::port_rule::port_rule_text;
-use model_forms::sizes::{is_delay_time, is_dim, is_size, is_value_text};
-use model_forms::tuples::tuples_of;
 use model_text::Kind;
 use model_walk::Refused;
 use model_walk::least::least;

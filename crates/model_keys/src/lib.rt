@@ -4,17 +4,13 @@
 //! - `keys_refused` takes the sections and the walk, and gives the least refusal, or none.
 //! - The tables of keys stand in `sections`, that of forms in `form`; `repeated`, `again`,
 //!   `wanted`, `group` and `atomics` have the tests.
-//! - Definitions: `model_text/specs/Keys.antt` (`keys_refused`) and `Forms.antt`. It rests on
-//!   `model_forms`, and on `Class` of `atomic_face` for the keys of classes.
+//! - Tests of a value's text: `are_names`, `are_values`, `are_words`, `are_ports` (`names`),
+//!   `is_size`, `is_dim`, `is_delay_time`, `is_value_text` (`sizes`), `has_two_ends` (`link`). What
+//!   is read of the texts of links, ports and tuples: `link_text` and `two_ends` (`link`),
+//!   `port_rule_text` (`port_rule`, type `PortRuleText`), `tuples_of` (`tuples`).
+//! - Definitions: `model_text/specs/Keys.antt` (`keys_refused`), `Forms.antt` and `Links.antt`. It
+//!   rests on `Class` of `atomic_face` for the keys of classes.
 #![tactic(auto)]
-
-mod again;
-mod atomics;
-mod form;
-mod group;
-mod repeated;
-mod sections;
-mod wanted;
 
 ghost use Rattle.std.specs.Prelude.{◌≡◌, IfOk};
 ghost use Rattle.std.specs.Option.{option_map};
@@ -22,11 +18,25 @@ ghost use Rattle.model_text.specs.Keys as K;
 ghost use Rattle.model_walk.specs.Met.{IsWalk, met_of};
 ghost use Rattle.model_walk.specs.Shown.{refusal_of};
 
+mod again;
+mod atomics;
+mod form;
+mod group;
+pub mod link;
+pub mod names;
+pub mod port_rule;
+mod repeated;
+mod sections;
+pub mod sizes;
+pub mod tuples;
+mod wanted;
+
 use crate::atomics::of_atomics;
 use crate::sections::of_sections;
 use ma_lines::Sections;
 use model_walk::least::least;
 use model_walk::{Refused, Walked};
+pub use port_rule::PortRuleText;
 use quantity::OutOfMemory;
 use std::alloc::Global;
 

@@ -5,8 +5,8 @@ ghost use Rattle.model_text.specs.Forms as F;
 ghost use Rattle.model_text.specs.Keyed as L;
 ghost use Rattle.model_keys.specs.Wanted.{wanted, wanted_by, fits, AreWanted};
 
+use crate::names::{are_ports, are_values, are_words, word_count};
 use ma_lines::Section;
-use model_forms::names::{are_ports, are_values, are_words, word_count};
 use model_walk::entries::first_entry;
 use quantity::OutOfMemory;
 use std::alloc::Global;

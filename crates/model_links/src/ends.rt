@@ -14,7 +14,7 @@ ghost use Rattle.model_links.specs.Around.{IsSpaceOf};
 use cell_grid::Grid;
 use cell_grid::tuple_place::cell_in;
 use ma_lines::{Entry, Section};
-use model_forms::link::{link_text, two_ends};
+use model_keys::link::{link_text, two_ends};
 use model_tree::{End, Link};
 use quantity::digits::cut_at;
 use quantity::name::is_name;

@@ -12,7 +12,7 @@ use crate::keyed::has_key;
 use cell_grid::Grid;
 use cell_grid::tuple_place::offset_in;
 use ma_lines::{Entry, Section};
-use model_forms::tuples::tuples_of;
+use model_keys::tuples::tuples_of;
 use quantity::{Offset, OutOfMemory};
 use source_text::{NamedTuple, Tuple};
 use std::alloc::Global;

@@ -16,7 +16,7 @@ use crate::placed::PlacedRule;
 use cell_grid::Grid;
 use cell_grid::tuple_place::cell_in;
 use ma_lines::{Entry, Section};
-use model_forms::port_rule::port_rule_text;
+use model_keys::port_rule::port_rule_text;
 use model_text::Kind;
 use model_walk::Refused;
 use model_walk::least::least;

@@ -17,7 +17,7 @@ use cell_grid::rows::{is_row_digits, is_row_values};
 use cell_grid::tuple_place::offset_in;
 use cell_grid::{Grid, ZoneRefusal, Zones};
 use ma_lines::{Entry, Section};
-use model_forms::tuples::tuples_of;
+use model_keys::tuples::tuples_of;
 use model_text::Kind;
 use model_walk::Refused;
 use model_walk::least::least;

@@ -4,7 +4,7 @@
 //!   and stay whole in links (`forms`); the least key is refused (`keys`); links of a tree are
 //!   added and refused, its leaves and ports are called by their names (`trees`); the made text has
 //!   five rows and columns (`made_texts`).
-//! - Crates that are tried: `model_walk`, `model_forms`, `model_keys`, `model_tree`, `model_text`.
+//! - Crates that are tried: `model_walk`, `model_keys`, `model_tree`, `model_text`.
 //!   Whole models are read in `gallery_models` and `refused_runs`.
 #![tactic(auto)]
 
