@@ -6,7 +6,7 @@ use Rattle.std.specs.Borrow.{Bor}
 use Rattle.model_tree.specs.Tree.{Word}
 use Rattle.quantity.specs.declared.bounds.TheConstants.{MAX_DELAY}
 use Rattle.quantity.specs.Times.{time_in}
-use Rattle.record_text.specs.Chosen.{letters_of}
+use Rattle.text_forms.specs.Chosen.{letters_of}
 use Rattle.answer_model.specs.Options as D
 use Rattle.asked_words.specs.declared.draft.Draft.{Draft}
 use Rattle.asked_words.specs.declared.table.Place.{Place}

@@ -12,7 +12,7 @@ use crate::table::{Field, Opt, Place};
 use crate::values::{letters_in, number, seed_in};
 use clap::ArgMatches;
 use quantity::{MAX_CELLS, Time};
-use record_text::Letters;
+use text_forms::Letters;
 
 /// What options ask for: a model's file or the size of a made one, 5 to 1000, the last instant, the
 /// files, the group that is drawn and its space as words, the letters of the log's lines, how many

@@ -2,16 +2,15 @@
 ghost use Rattle.std.specs.Prelude.{◌≡◌, ◌≤◌, ◌++◌, ◌∷◌, [], IfOk, IfSome, map};
 ghost use Rattle.std.specs.Option.{option_map};
 ghost use Rattle.rule_tree.specs.Scope.{differ};
-ghost use Rattle.record_text.specs.Chosen.{letters_of};
+ghost use Rattle.text_forms.specs.Chosen.{letters_of};
 ghost use Rattle.answer_model.specs.Options.{is_among, are_letters, letters_in, number, seed_in};
 ghost use Rattle.answer_model.specs.Asked.{lower, group_in};
 ghost use Rattle.text_forms.specs.Letters.{letter_bytes};
 
 use quantity::digits::whole_number;
 use quantity::{Name, NameRefusal, OutOfMemory};
-use record_text::Letters;
 use std::alloc::{AllocError, Global};
-use text_forms::Letter;
+use text_forms::{Letter, Letters};
 
 /// The number of up to seven digits, where it lies in these bounds.
 pub fn number(low: u32, high: u32, text: &str) -> Option<u32>

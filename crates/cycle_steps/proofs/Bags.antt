@@ -4,7 +4,7 @@ use Rattle.std.specs.List.{All, AllByRecursion}
 use Rattle.std.specs.List.Sorted.{IsNonDecreasingBy}
 use Rattle.quantity.specs.declared.value.Value.{Value}
 use Rattle.atomic_face.specs.declared.class.PortNo.{PortNo}
-use Rattle.record_text.specs.declared.records.XRecord.{XRecord}
+use Rattle.text_forms.specs.declared.records.XRecord.{XRecord}
 use Rattle.sparse_cycle.specs.Sparse.{bag_in, records_at, value_at_port}
 use Rattle.cycle_steps.proofs.Picked as picked
 use Rattle.cycle_steps.specs.Untimed.{x_record, x_records}

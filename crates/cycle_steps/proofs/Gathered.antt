@@ -6,8 +6,8 @@ use Rattle.std.proofs.lemmas.List.{map-append, take_more, drop_more, drop_all}
 use Rattle.atomic_face.specs.Classes.{Bag}
 use Rattle.run_model.specs.Cycle.{LeafState, leaf_next, leaf_emitted, collected_of}
 use Rattle.run_model.specs.Run.{PortRecord, port_records, is_of_out}
-use Rattle.record_text.specs.declared.records.YRecord.{YRecord}
-use Rattle.record_text.specs.Held.{y_at}
+use Rattle.text_forms.specs.declared.records.YRecord.{YRecord}
+use Rattle.text_forms.specs.Held.{y_at}
 use Rattle.sparse_cycle.specs.Sparse.{leaf_of}
 use Rattle.sparse_cycle.specs.Collect.{Collected, and_given, giver_in, y_of, n_of, collect_each, CanCollect}
 use Rattle.cycle_steps.specs.Gathering.{Collects, values_in}

@@ -12,10 +12,10 @@ use Rattle.model_tree.specs.Tree.{Word, Tree, ins_of, leaves}
 use Rattle.model_tree.specs.Pull as pull
 use Rattle.run_model.specs.Cycle.{LeafState, leaf_emitted}
 use Rattle.run_model.specs.Run.{PortRecord, OutRecord, RunState, Event, at_top}
-use Rattle.record_text.specs.declared.records.YRecord.{YRecord}
-use Rattle.record_text.specs.declared.records.XRecord.{XRecord}
-use Rattle.record_text.specs.declared.records.Records.{Records}
-use Rattle.record_text.specs.Held.{y_at, x_at, out_at}
+use Rattle.text_forms.specs.declared.records.YRecord.{YRecord}
+use Rattle.text_forms.specs.declared.records.XRecord.{XRecord}
+use Rattle.text_forms.specs.declared.records.Records.{Records}
+use Rattle.text_forms.specs.Held.{y_at, x_at, out_at}
 use Rattle.leaf_set.specs.Members.{is_in}
 use Rattle.route_flat.specs.declared.source.Path.{Path}
 use Rattle.port_net.specs.declared.source.Source.{Source}

@@ -5,7 +5,7 @@ use Rattle.std.proofs.lemmas.Grind.{get_or-set_at}
 use Rattle.std.proofs.lemmas.List.{drop_more, drop_all, get_or-set_other}
 use Rattle.std.proofs.lemmas.List.Folds.{list_any-append}
 use Rattle.quantity.specs.declared.value.Value.{Value}
-use Rattle.record_text.specs.Held.{x_at, out_at}
+use Rattle.text_forms.specs.Held.{x_at, out_at}
 use Rattle.route_flat.specs.declared.source.TargetPort.{TargetPort}
 use Rattle.route_flat.specs.declared.source.TargetPort.TheVariants as target
 use Rattle.leaf_set.specs.Members.{is_in}

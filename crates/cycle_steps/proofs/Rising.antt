@@ -5,8 +5,8 @@ use Rattle.std.specs.List.{filter, cons_option, flat_map}
 use Rattle.std.specs.List.Sorted.{IsNonDecreasingBy}
 use Rattle.quantity.specs.declared.value.Value.{Value}
 use Rattle.run_model.specs.Run.{PortRecord}
-use Rattle.record_text.specs.declared.records.XRecord.{XRecord}
-use Rattle.record_text.specs.Held.{x_at}
+use Rattle.text_forms.specs.declared.records.XRecord.{XRecord}
+use Rattle.text_forms.specs.Held.{x_at}
 use Rattle.route_flat.specs.declared.source.Path.{Path}
 use Rattle.port_net.specs.declared.source.Source.{Source}
 use Rattle.route_flat.specs.declared.source.TargetPort.{TargetPort}

@@ -4,7 +4,7 @@ use Rattle.std.specs.List.{All, filter, flat_map}
 use Rattle.std.specs.List.Sorted.{IsNonDecreasingBy}
 use Rattle.std.proofs.lemmas.List.{drop_more}
 use Rattle.run_model.specs.Run.{PortRecord}
-use Rattle.record_text.specs.declared.records.YRecord.{YRecord}
+use Rattle.text_forms.specs.declared.records.YRecord.{YRecord}
 use Rattle.sparse_cycle.specs.Feed.{values_of_leaf}
 use Rattle.cycle_steps.proofs.Gathered.{more}
 use Rattle.cycle_steps.proofs.Picked as picked

@@ -8,8 +8,8 @@ use Rattle.std.proofs.lemmas.List.Sums.{sum_by-cons}
 use Rattle.model_tree.specs.Tree.{Tree}
 use Rattle.run_model.specs.Cycle.{LeafState, leaf_next, Moved, stayed, moved, stopped, after}
 use Rattle.run_model.specs.Run.{PortRecord, StateRecord, computed_of}
-use Rattle.record_text.specs.declared.records.SRecord.{SRecord}
-use Rattle.record_text.specs.Held.{s_at}
+use Rattle.text_forms.specs.declared.records.SRecord.{SRecord}
+use Rattle.text_forms.specs.Held.{s_at}
 use Rattle.sparse_cycle.specs.Sparse.{leaf_of, move_at}
 use Rattle.sparse_cycle.specs.Walk.{with_leaf, Walked, halted, walked, unless_halted, and_record, walk}
 use Rattle.cycle_steps.specs.declared.halt.Told.{Told}

@@ -1,8 +1,8 @@
 -- What leaves give, as records with the time of their cycle.
 use Rattle.std.specs.Prelude.{◌≡◌, ℕ, ◌+◌, List, map, length, take}
 use Rattle.run_model.specs.Cycle.{LeafState}
-use Rattle.record_text.specs.declared.records.YRecord.{YRecord}
-use Rattle.record_text.specs.Held.{y_at}
+use Rattle.text_forms.specs.declared.records.YRecord.{YRecord}
+use Rattle.text_forms.specs.Held.{y_at}
 use Rattle.sparse_cycle.specs.Collect.{Collected, collect_each}
 
 -- the lists are what leaves gave

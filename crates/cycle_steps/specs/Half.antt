@@ -4,8 +4,8 @@ use Rattle.quantity.specs.declared.value.Value.{Value}
 use Rattle.model_tree.specs.Tree.{Tree, ins_of}
 use Rattle.run_model.specs.Cycle.{LeafState}
 use Rattle.run_model.specs.Run.{RunState}
-use Rattle.record_text.specs.declared.records.Records.{Records}
-use Rattle.record_text.specs.Held.{y_at, x_at, out_at}
+use Rattle.text_forms.specs.declared.records.Records.{Records}
+use Rattle.text_forms.specs.Held.{y_at, x_at, out_at}
 use Rattle.route_flat.specs.declared.source.Path.{Path}
 use Rattle.sparse_cycle.specs.Sparse.{Parts, due_leaves}
 use Rattle.sparse_cycle.specs.Collect.{Collected, collected_at_once, y_of, n_of}

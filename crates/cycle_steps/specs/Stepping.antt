@@ -4,8 +4,8 @@ use Rattle.std.specs.declared.result.Result.{Result}
 use Rattle.std.specs.declared.result.Result.TheVariants.{Ok, Err}
 use Rattle.run_model.specs.Cycle.{LeafState, leaf_next, Moved, stayed, moved, stopped}
 use Rattle.run_model.specs.Run.{computed_of}
-use Rattle.record_text.specs.declared.records.SRecord.{SRecord}
-use Rattle.record_text.specs.Held.{s_at}
+use Rattle.text_forms.specs.declared.records.SRecord.{SRecord}
+use Rattle.text_forms.specs.Held.{s_at}
 use Rattle.cycle_steps.specs.declared.halt.LeafStop.{LeafStop}
 use Rattle.cycle_steps.specs.declared.halt.LeafStop.TheVariants as leaf
 use Rattle.cycle_steps.specs.declared.halt.Halt.{Halt}

@@ -1,8 +1,8 @@
 -- Records as the code keeps them, without the time of their cycle.
 use Rattle.std.specs.Prelude.{List, map}
 use Rattle.run_model.specs.Run.{PortRecord}
-use Rattle.record_text.specs.declared.records.YRecord.{YRecord}
-use Rattle.record_text.specs.declared.records.XRecord.{XRecord}
+use Rattle.text_forms.specs.declared.records.YRecord.{YRecord}
+use Rattle.text_forms.specs.declared.records.XRecord.{XRecord}
 
 -- a Y or an N record
 abbrev pub y_record : YRecord → PortRecord

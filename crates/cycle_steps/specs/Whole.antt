@@ -3,8 +3,8 @@ use Rattle.std.specs.Prelude.{◌≡◌, ℕ, Option, List, map, OnOk}
 use Rattle.std.specs.declared.result.Result.{Result}
 use Rattle.model_tree.specs.Tree.{Tree}
 use Rattle.run_model.specs.Cycle.{LeafState}
-use Rattle.record_text.specs.declared.records.Records.{Records}
-use Rattle.record_text.specs.Held.{y_at, x_at, out_at}
+use Rattle.text_forms.specs.declared.records.Records.{Records}
+use Rattle.text_forms.specs.Held.{y_at, x_at, out_at}
 use Rattle.sparse_cycle.specs.Sparse.{Parts}
 use Rattle.sparse_cycle.specs.Collect.{y_of, n_of}
 use Rattle.sparse_cycle.specs.Walk.{walk}

@@ -2,13 +2,13 @@
 ghost use Rattle.std.specs.Prelude.{◌≡◌, ◌<◌, ◌≤◌, ◌++◌, [], ℕ, OnOk, OnErr, length, slice_index_or};
 ghost use Rattle.std.specs.List.{All};
 ghost use Rattle.std.specs.List.Sorted.{IsNonDecreasingBy};
-ghost use Rattle.record_text.specs.declared.records.XRecord.{XRecord as AnyXRecord};
+ghost use Rattle.text_forms.specs.declared.records.XRecord.{XRecord as AnyXRecord};
 ghost use Rattle.sparse_cycle.specs.Sparse.{bag_in};
 ghost use Rattle.cycle_steps.specs.Untimed.{x_records};
 
 use atomic_face::PortNo;
 use quantity::{OutOfMemory, Value};
-use record_text::XRecord;
+use text_forms::XRecord;
 
 /// Puts the bag of a leaf into an empty list, which stays empty where memory is refused.
 pub fn bag_at(x: &[XRecord], leaf: u32, into: &mut Vec<(PortNo, Value)>) -> Result<(), OutOfMemory>

@@ -3,7 +3,7 @@ ghost use Rattle.std.specs.Prelude.{◌≡◌, ◌≤◌, ◌+◌, ◌++◌, ◌
 ghost use Rattle.run_model.specs.Cycle.{LeafState, leaf_next, leaf_emitted, collected_of};
 ghost use Rattle.model_tree.specs.Tree.{Tree as AnyTree};
 ghost use Rattle.run_model.specs.Run.{port_records};
-ghost use Rattle.record_text.specs.Held.{y_at};
+ghost use Rattle.text_forms.specs.Held.{y_at};
 ghost use Rattle.sparse_cycle.specs.Sparse.{leaf_of};
 ghost use Rattle.sparse_cycle.specs.Collect.{CanCollect, collect_each, giver_in, y_of, n_of};
 ghost use Rattle.cycle_steps.specs.Gathering.{Collects, GaveFirst, values_in};
@@ -11,7 +11,7 @@ ghost use Rattle.cycle_steps.specs.Gathering.{Collects, GaveFirst, values_in};
 use crate::leaves::Leaves;
 use atomic_face::PortNo;
 use quantity::{OutOfMemory, Time, Value};
-use record_text::YRecord;
+use text_forms::YRecord;
 
 /// Asks each due leaf: what they gave as Y and N records, the leaves that gave something, and how
 /// all leaves stand then. Where memory is refused, the first of them have given, and the lists stay

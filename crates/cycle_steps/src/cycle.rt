@@ -6,7 +6,7 @@ ghost use Rattle.std.specs.Vec.{vec_capacity};
 ghost use Rattle.quantity.specs.declared.bounds.TheConstants.{MAX_DELAY};
 ghost use Rattle.model_tree.specs.Tree.{Tree as AnyTree};
 ghost use Rattle.run_model.specs.Run.{RunState};
-ghost use Rattle.record_text.specs.Held.{AreEmpty};
+ghost use Rattle.text_forms.specs.Held.{AreEmpty};
 ghost use Rattle.route_flat.specs.declared.source.Path.{Path as AnyPath};
 ghost use Rattle.sparse_cycle.specs.Sparse.{due_leaves, parts_of};
 ghost use Rattle.cycle_steps.specs.Gathering.{values_in};
@@ -23,7 +23,7 @@ use crate::wake::Watched;
 use crate::walk::walk;
 use leaf_set::LeafSet;
 use quantity::{Time, Value};
-use record_text::Records;
+use text_forms::Records;
 use time_queue::TimeQueue;
 
 /// The cycle at an instant, from the due leaves, which were taken from the queue, and the inputs of

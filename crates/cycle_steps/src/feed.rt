@@ -2,8 +2,8 @@
 ghost use Rattle.std.specs.Prelude.{◌≡◌, ◌<◌, ◌≤◌, ◌++◌, ◌∷◌, [], ℕ, List, OnOk, OnErr, length, map, slice_index_or};
 ghost use Rattle.std.specs.List.{All};
 ghost use Rattle.std.specs.List.Sorted.{IsNonDecreasingBy};
-ghost use Rattle.record_text.specs.declared.records.YRecord.{YRecord as AnyYRecord};
-ghost use Rattle.record_text.specs.Held.{x_at, out_at};
+ghost use Rattle.text_forms.specs.declared.records.YRecord.{YRecord as AnyYRecord};
+ghost use Rattle.text_forms.specs.Held.{x_at, out_at};
 ghost use Rattle.sparse_cycle.specs.Feed.{values_of_leaf};
 ghost use Rattle.cycle_steps.specs.Growing.{Grown};
 ghost use Rattle.cycle_steps.specs.Untimed.{y_records};
@@ -12,8 +12,8 @@ ghost use Rattle.cycle_steps.specs.Routed.{values_at, values_of_input, fed_to, o
 use crate::reach::Routing;
 use atomic_face::PortNo;
 use quantity::{OutOfMemory, Time, Value};
-use record_text::{OutRecord, XRecord, YRecord};
 use route_flat::{Path, Source, TargetPort};
+use text_forms::{OutRecord, XRecord, YRecord};
 
 /// Appends what these Y records, which stand by rising leaf, and these inputs bring by the paths of
 /// these numbers. Where memory is refused, both lists are as before.

@@ -5,9 +5,9 @@ ghost use Rattle.std.specs.List.Sorted.{IsNonDecreasingBy};
 ghost use Rattle.std.specs.Vec.{vec_capacity};
 ghost use Rattle.model_tree.specs.Tree.{Tree, leaves};
 ghost use Rattle.run_model.specs.Run.{RunState};
-ghost use Rattle.record_text.specs.declared.records.YRecord.{YRecord as AnyYRecord};
-ghost use Rattle.record_text.specs.declared.records.XRecord.{XRecord as AnyXRecord};
-ghost use Rattle.record_text.specs.Held.{AreEmpty, x_at, out_at};
+ghost use Rattle.text_forms.specs.declared.records.YRecord.{YRecord as AnyYRecord};
+ghost use Rattle.text_forms.specs.declared.records.XRecord.{XRecord as AnyXRecord};
+ghost use Rattle.text_forms.specs.Held.{AreEmpty, x_at, out_at};
 ghost use Rattle.leaf_set.specs.Members.{is_in};
 ghost use Rattle.route_flat.specs.declared.source.Path.{Path as AnyPath};
 ghost use Rattle.sparse_cycle.specs.Sparse.{due_leaves, is_woken_at, given_among, parts_of};
@@ -28,7 +28,7 @@ use crate::wake::{Watched, touch, wake};
 use atomic_face::PortNo;
 use leaf_set::LeafSet;
 use quantity::{OutOfMemory, Time, Value};
-use record_text::{OutRecord, Records, XRecord, YRecord};
+use text_forms::{OutRecord, Records, XRecord, YRecord};
 
 /// All that comes before the leaves move: for each model and state of a run that stands so, the
 /// parts of its cycle. The

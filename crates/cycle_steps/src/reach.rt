@@ -10,8 +10,8 @@ ghost use Rattle.cycle_steps.specs.Routed.{is_from, numbers, reaches};
 ghost use Rattle.cycle_steps.specs.Leading.{leads_from_leaf, leads_from_top};
 
 use quantity::{OutOfMemory, Value};
-use record_text::YRecord;
 use route_flat::{Path, Routes, Source, Target};
+use text_forms::YRecord;
 
 /// Numbered paths, which are found by their sources.
 pub trait Routing {

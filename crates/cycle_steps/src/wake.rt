@@ -3,7 +3,7 @@ ghost use Rattle.std.specs.Prelude.{◌≡◌, ◌<◌, ◌≤◌, [], ℕ, Bool
 ghost use Rattle.std.specs.Prelude.{List, OnOk, OnErr, length, replicate};
 ghost use Rattle.std.specs.List.{All};
 ghost use Rattle.std.specs.Vec.{vec_capacity};
-ghost use Rattle.record_text.specs.declared.records.XRecord.{XRecord as AnyXRecord};
+ghost use Rattle.text_forms.specs.declared.records.XRecord.{XRecord as AnyXRecord};
 ghost use Rattle.leaf_set.specs.Members.{is_in};
 ghost use Rattle.sparse_cycle.specs.Collect.{is_among};
 ghost use Rattle.sparse_cycle.specs.Wake.{is_fed, reached};
@@ -13,7 +13,7 @@ ghost use Rattle.cycle_steps.specs.Watching.{watches_any};
 
 use leaf_set::LeafSet;
 use quantity::OutOfMemory;
-use record_text::XRecord;
+use text_forms::XRecord;
 
 /// Leaves of which each knows who watches it.
 pub trait Watched {

@@ -5,7 +5,7 @@ ghost use Rattle.std.specs.List.Sorted.{IsNonDecreasingBy};
 ghost use Rattle.quantity.specs.declared.bounds.TheConstants.{MAX_DELAY};
 ghost use Rattle.model_tree.specs.Tree.{Tree as AnyTree, leaves};
 ghost use Rattle.run_model.specs.Run.{PortRecord};
-ghost use Rattle.record_text.specs.declared.records.XRecord.{XRecord as AnyXRecord};
+ghost use Rattle.text_forms.specs.declared.records.XRecord.{XRecord as AnyXRecord};
 ghost use Rattle.leaf_set.specs.Members.{is_in};
 ghost use Rattle.sparse_cycle.specs.Sparse.{is_woken_at, move_at};
 ghost use Rattle.sparse_cycle.specs.Walk as reference;
@@ -20,7 +20,7 @@ use crate::waiting::set_next;
 use atomic_face::PortNo;
 use leaf_set::LeafSet;
 use quantity::{OutOfMemory, Time, Value};
-use record_text::{SRecord, XRecord};
+use text_forms::{SRecord, XRecord};
 use time_queue::TimeQueue;
 
 /// Moves all touched leaves, each by its bag of the X records, which stand by rising leaf, sets its

@@ -8,8 +8,8 @@ use Rattle.event_list.specs.Events.{Event}
 use Rattle.run_model.specs.Cycle.{LeafState}
 use Rattle.run_model.specs.Run.{next_instant, cycles_at, cycled, unless_stop}
 use Rattle.run_model.specs.Fitting.{FitsTree}
-use Rattle.record_text.specs.declared.records.Records.{Records}
-use Rattle.record_text.specs.Held.{AreEmpty}
+use Rattle.text_forms.specs.declared.records.Records.{Records}
+use Rattle.text_forms.specs.Held.{AreEmpty}
 use Rattle.sparse_cycle.specs.Laws.{NextIsSparse}
 use Rattle.sparse_cycle.specs.Woken.{CostsItsParts}
 use Rattle.sparse_cycle.specs.Sparse.{Parts, parts_of, first_stop_among, cycle_of_parts, state_of_parts, next_of_parts}

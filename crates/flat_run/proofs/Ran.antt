@@ -12,7 +12,7 @@ use Rattle.model_tree.proofs.Read.{leaves-length}
 use Rattle.run_model.specs.Cycle.{LeafState}
 use Rattle.run_model.specs.Run.{RunState, next_instant}
 use Rattle.run_model.specs.Fitting.{Fits, FitsTree}
-use Rattle.record_text.specs.declared.records.Records.{Records}
+use Rattle.text_forms.specs.declared.records.Records.{Records}
 use Rattle.time_queue.specs.Waiting.{without}
 use Rattle.sparse_cycle.specs.Sparse.{Parts, parts_of, first_stop_among, moved_among, after_among}
 use Rattle.sparse_cycle.specs.Walk.{Stand, Walked, walk, waits, at_once, WalkIsAtOnce}

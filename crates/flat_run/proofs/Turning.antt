@@ -12,7 +12,7 @@ use Rattle.run_model.specs.Fitting.{FitsTree, CycleFits}
 use Rattle.run_model.specs.Visits.{most_offsets}
 use Rattle.route_flat.specs.Nets.{Flat}
 use Rattle.route_flat.specs.Ways.{paths_of}
-use Rattle.record_text.specs.declared.records.Records.{Records}
+use Rattle.text_forms.specs.declared.records.Records.{Records}
 use Rattle.sparse_cycle.specs.Laws.{NextIsSparse}
 use Rattle.sparse_cycle.specs.Sparse.{parts_of, cycle_of_parts, state_of_parts}
 use Rattle.sparse_cycle.specs.Collect.{y_of, n_of}

@@ -9,8 +9,8 @@ use Rattle.model_tree.specs.Tree.{Tree}
 use Rattle.run_model.specs.Cycle.{LeafState}
 use Rattle.run_model.specs.Run.{RunState, next_instant}
 use Rattle.run_model.specs.Visits.{cost}
-use Rattle.record_text.specs.declared.records.Records.{Records}
-use Rattle.record_text.specs.Held.{Holds}
+use Rattle.text_forms.specs.declared.records.Records.{Records}
+use Rattle.text_forms.specs.Held.{Holds}
 use Rattle.sparse_cycle.specs.Sparse.{Parts, parts_of, first_stop_among, after_among, cycle_of_parts}
 use Rattle.sparse_cycle.specs.Walk.{waits}
 use Rattle.cycle_steps.specs.declared.halt.Halt.{Halt}

@@ -5,8 +5,8 @@ use Rattle.std.specs.declared.result.Result.TheVariants.{Ok, Err}
 use Rattle.rule_tree.specs.declared.outcome.RuleStop.TheVariants as rules
 use Rattle.run_model.specs.Run.{Cycle, Next, ended, cycled, done, too_many, stop}
 use Rattle.run_model.specs.Visits.{cycle_visits, stopping_visits}
-use Rattle.record_text.specs.declared.records.Records.{Records}
-use Rattle.record_text.specs.Held.{Holds, AreEmpty}
+use Rattle.text_forms.specs.declared.records.Records.{Records}
+use Rattle.text_forms.specs.Held.{Holds, AreEmpty}
 use Rattle.flat_run.specs.declared.progress.Progress.{Progress}
 use Rattle.flat_run.specs.declared.progress.Progress.TheVariants.{Cycled, Done}
 use Rattle.flat_run.specs.declared.progress.Stop.{Stop}

@@ -6,7 +6,7 @@ ghost use Rattle.quantity.specs.declared.bounds.TheConstants.{MAX_DELAY};
 ghost use Rattle.atomic_face.specs.Classes.{is_at};
 ghost use Rattle.event_list.specs.Events.{Event as AnyEvent};
 ghost use Rattle.time_queue.specs.Waiting.{leaves_at, without};
-ghost use Rattle.record_text.specs.Held.{AreEmpty};
+ghost use Rattle.text_forms.specs.Held.{AreEmpty};
 ghost use Rattle.sparse_cycle.specs.Feed.{inputs_at};
 ghost use Rattle.flat_run.specs.Holds.{IsFrameOf, GoesOn};
 ghost use Rattle.flat_run.specs.Running.{Runs, tree_by, parts_at, instant_of, later, visits_in, stop_of_halt};
@@ -20,11 +20,11 @@ use cycle_steps::halt::Halt;
 use event_list::Events;
 use leaf_set::LeafSet;
 use quantity::{OutOfMemory, Time, Value};
-use record_text::Records;
 use route_flat::Routes;
 use rule_tree::RuleStop;
 use run_leaves::{FlatLeaves, Watchers};
 use std::sync::ledger::Ledger;
+use text_forms::Records;
 use time_queue::TimeQueue;
 
 /// The cycle at the next instant: what its parts make of leaves, queue, events and records. It

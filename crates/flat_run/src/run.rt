@@ -10,7 +10,7 @@ ghost use Rattle.run_model.specs.Run.{start, next_instant, cycles_at, ended, don
 ghost use Rattle.std.specs.declared.result.Result.TheVariants.{Ok};
 ghost use Rattle.flat_run.specs.declared.progress.Progress.TheVariants.{Done};
 ghost use Rattle.run_model.specs.Cycle.{cell_state, leaf_next, box_state};
-ghost use Rattle.record_text.specs.Held.{AreEmpty};
+ghost use Rattle.text_forms.specs.Held.{AreEmpty};
 ghost use Rattle.sparse_cycle.specs.Sparse.{leaf_of};
 ghost use Rattle.cell_table.specs.Saved.{cell_of_saved};
 ghost use Rattle.run_leaves.specs.Seated.{is_box, settings_in};
@@ -30,12 +30,12 @@ use cycle_steps::waiting::set_next;
 use event_list::Events;
 use model_tree::Model as Tree;
 use quantity::{OutOfMemory, Time};
-use record_text::Records;
 use route_flat::Routes;
 use run_leaves::{FlatLeaves, Watchers};
 use std::alloc::Global;
 use std::marker::Model;
 use std::sync::ledger::Ledger;
+use text_forms::Records;
 use time_queue::TimeQueue;
 
 /// A run of a model. It is seen as the model, the state of the reference run, the end, the limit,

@@ -13,7 +13,6 @@ use flat_run::{FlatRun, Progress};
 use model_read::{ReadModel, read_model_bytes};
 use model_tree::Model;
 use quantity::{OutOfMemory, Time, Value};
-use record_text::{Records, SRecord, YRecord};
 use room_edge::MemoryRoom;
 use route_flat::Routes;
 use std::alloc::Global;
@@ -21,6 +20,7 @@ use std::marker::Brand;
 use std::process::Abort;
 use std::sync::ledger::{Blank, Ledger};
 use std::test::Fail;
+use text_forms::{Records, SRecord, YRecord};
 use time_queue::LinkedQueue;
 
 type Run = FlatRun<LinkedQueue, CounterModel>;

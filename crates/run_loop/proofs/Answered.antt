@@ -7,7 +7,7 @@ use Rattle.run_model.specs.Instants.{InstantsNeverFall}
 use Rattle.text_forms.specs.Frames.{frames_of}
 use Rattle.text_forms.specs.Lines.{log_bytes, out_bytes}
 use Rattle.text_forms.specs.StateOf.{Saved}
-use Rattle.record_text.specs.Chosen.{letters_of}
+use Rattle.text_forms.specs.Chosen.{letters_of}
 use Rattle.answer_model.specs.Asked.{FramesFile, Asked}
 use Rattle.answer_model.specs.Answer.{MadeFiles}
 use Rattle.answer_model.specs.Cdpp.{run_on}

@@ -10,10 +10,10 @@ use Rattle.quantity.specs.Arithmetic.{same_value}
 use Rattle.rule_tree.specs.Meaning.{whole}
 use Rattle.run_model.specs.Run.{PortRecord, Cycle}
 use Rattle.answer_model.specs.RunEnd.{is_one_last}
-use Rattle.record_text.specs.declared.records.YRecord.{YRecord}
-use Rattle.record_text.specs.declared.records.SRecord.{SRecord}
-use Rattle.record_text.specs.declared.records.Records.{Records}
-use Rattle.record_text.specs.Held.{Holds, y_at, s_at}
+use Rattle.text_forms.specs.declared.records.YRecord.{YRecord}
+use Rattle.text_forms.specs.declared.records.SRecord.{SRecord}
+use Rattle.text_forms.specs.declared.records.Records.{Records}
+use Rattle.text_forms.specs.Held.{Holds, y_at, s_at}
 use Rattle.run_loop.proofs.Cycles.{plain_back}
 use Rattle.run_loop.specs.Showing.{plain}
 use Rattle.run_loop.specs.Counts.{Counts, no_counts, ones_after, counts_after, counts_of}

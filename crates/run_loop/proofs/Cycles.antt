@@ -8,8 +8,8 @@ use Rattle.std.proofs.lemmas.List.{at_drop_more, at_drop_all}
 use Rattle.std.proofs.lemmas.Bool.Decides.{nat_tests}
 use Rattle.model_tree.specs.Tree.{Word, Tree}
 use Rattle.run_model.specs.Run.{PortRecord, Cycle}
-use Rattle.record_text.specs.Held.{y_at}
-use Rattle.record_text.specs.declared.records.YRecord.{YRecord}
+use Rattle.text_forms.specs.Held.{y_at}
+use Rattle.text_forms.specs.declared.records.YRecord.{YRecord}
 use Rattle.frame_draw.specs.Drawing.{frame_of}
 use Rattle.frame_draw.specs.Turns.{is_other}
 use Rattle.room_edge.specs.Outside.{Outside}

@@ -5,7 +5,7 @@ use Rattle.rule_tree.specs.declared.outcome.RuleStop.TheVariants as rules
 use Rattle.model_tree.specs.Tree.{Tree}
 use Rattle.model_tree.specs.Models.{tree_of}
 use Rattle.run_model.specs.Run.{Cycle, RunState, Verdict, too_many, stop, ended, cycled, next_cycle, run_from, run_behind, at_last, in_front}
-use Rattle.record_text.specs.declared.records.Records.{Records}
+use Rattle.text_forms.specs.declared.records.Records.{Records}
 use Rattle.run_leaves.specs.Seated.{settings_at}
 use Rattle.flat_run.specs.Standing.{Standing, tree_in, next_of}
 use Rattle.flat_run.specs.Steps as run

@@ -6,7 +6,7 @@ use Rattle.std.specs.Option.{is_some, option_map}
 use Rattle.std.proofs.lemmas.Option.{IfSome_then}
 use Rattle.model_tree.specs.Tree.{Word, Tree}
 use Rattle.run_model.specs.Run.{Event, Cycle, RunState, Verdict, done, too_many, stop, Next, ended, cycled, next_cycle, most_cycles, start}
-use Rattle.record_text.specs.declared.records.Records.{Records}
+use Rattle.text_forms.specs.declared.records.Records.{Records}
 use Rattle.served_tree.specs.Order.{Serving, serve_cycle, mark_from, mark_of}
 use Rattle.text_forms.specs.StateOf.{Saved}
 use Rattle.answer_model.specs.Asked.{Asked}

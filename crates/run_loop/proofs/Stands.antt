@@ -14,10 +14,10 @@ use Rattle.model_tree.specs.Models.{tree_of}
 use Rattle.run_model.specs.Run.{Cycle, Run, RunState, Verdict, done, too_many, stop, Next, ended, cycled}
 use Rattle.run_model.specs.Fitting.{NamesItsParts}
 use Rattle.run_model.specs.Visits.{cycle_visits, last_visits, visits}
-use Rattle.record_text.specs.declared.records.Records.{Records}
-use Rattle.record_text.specs.Named.{NamesLeaves}
-use Rattle.record_text.specs.Chosen.{letters_of}
-use Rattle.record_text.proofs.NamedLeaves.{cycles_name_leaves}
+use Rattle.text_forms.specs.declared.records.Records.{Records}
+use Rattle.text_forms.specs.Named.{NamesLeaves}
+use Rattle.text_forms.specs.Chosen.{letters_of}
+use Rattle.text_forms.proofs.NamedLeaves.{cycles_name_leaves}
 use Rattle.room_edge.specs.Outside.{Outside}
 use Rattle.quantity.specs.Bytes.{Bytes}
 use Rattle.answer_model.specs.RunFiles.{saved_text}

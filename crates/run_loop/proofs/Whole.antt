@@ -8,7 +8,7 @@ use Rattle.model_tree.specs.Tree.{Tree}
 use Rattle.run_model.specs.Run.{Run, RunState}
 use Rattle.run_model.specs.Fitting.{FitsTree}
 use Rattle.run_model.specs.Visits.{last_visits}
-use Rattle.record_text.specs.Chosen.{letters_of}
+use Rattle.text_forms.specs.Chosen.{letters_of}
 use Rattle.room_edge.specs.Outside.{Outside}
 use Rattle.answer_model.specs.RunFiles.{saved_text}
 use Rattle.answer_model.specs.Visits.{state_visits}

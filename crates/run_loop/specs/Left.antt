@@ -5,7 +5,7 @@ use Rattle.model_tree.specs.Tree.{Tree, Leaf, leaves}
 use Rattle.run_model.specs.Fitting.{FitsTree, NamesItsParts}
 use Rattle.run_model.specs.Run.{Run, run_from}
 use Rattle.run_model.specs.Runs.{Runs}
-use Rattle.record_text.specs.CycleNames.{HasPortValues}
+use Rattle.text_forms.specs.CycleNames.{HasPortValues}
 use Rattle.flat_run.specs.Standing.{Standing, tree_in}
 
 -- at most n cycles from where a run stands

@@ -8,7 +8,7 @@ use Rattle.run_model.specs.Visits.{cycle_visits, last_visits}
 use Rattle.room_edge.specs.Outside.{Outside}
 use Rattle.flat_run.specs.Standing.{Standing, tree_in}
 use Rattle.run_loop.specs.declared.outputs.Unwritten.{Unwritten}
-use Rattle.record_text.specs.Chosen.{letters_of}
+use Rattle.text_forms.specs.Chosen.{letters_of}
 use Rattle.answer_model.specs.RunFiles.{saved_text}
 use Rattle.asked_words.specs.declared.asked.Asked as code
 use Rattle.asked_words.specs.Shown.{text_of_name}

@@ -8,7 +8,7 @@ use Rattle.quantity.specs.declared.value.Value.{Value}
 use Rattle.cell_grid.specs.Space.{cell_count}
 use Rattle.model_tree.specs.Tree.{Tree}
 use Rattle.run_model.specs.Run.{PortRecord, Cycle}
-use Rattle.record_text.specs.declared.records.YRecord.{YRecord}
+use Rattle.text_forms.specs.declared.records.YRecord.{YRecord}
 use Rattle.text_forms.specs.Lines.{log_bytes, out_bytes}
 use Rattle.text_forms.specs.Frames.{Picture, ShownCell, shown_by, shown_in}
 use Rattle.frame_draw.specs.Drawing.{Drawing, blank, frame_of, with_instant}

@@ -23,10 +23,10 @@ use asked_words::{Asked, GroupAt, Source};
 use flat_run::Steps;
 use model_tree::Model;
 use quantity::{OutOfMemory, Time};
-use record_text::Records;
 use saved_runs::accepted::groups_stand;
 use std::alloc::Global;
 use std::sync::ledger::Ledger;
+use text_forms::Records;
 
 /// Frames of which nothing is drawn yet, with what the cells had emitted where the run goes on from
 /// a saved state; and nothing counted. Those cells take one visit each.

@@ -4,14 +4,14 @@ ghost use Rattle.std.specs.Option.{option_map};
 ghost use Rattle.quantity.specs.Arithmetic.{same_value};
 ghost use Rattle.rule_tree.specs.Meaning.{whole};
 ghost use Rattle.run_model.specs.Run.{Cycle};
-ghost use Rattle.record_text.specs.Held.{Holds};
+ghost use Rattle.text_forms.specs.Held.{Holds};
 ghost use Rattle.run_loop.specs.Counts.{no_counts, ones_after, counts_after};
 ghost use Rattle.run_loop.specs.Showing.{plain};
 
 use quantity::{OutOfMemory, Value};
-use record_text::{Records, YRecord};
 use std::alloc::Global;
 use std::marker::Model;
+use text_forms::{Records, YRecord};
 
 /// How many Y and S records there were, and for each leaf whether the last value that it gave is 1.
 #[derive(Drop)]

@@ -3,9 +3,9 @@ ghost use Rattle.std.specs.Prelude.{◌≡◌, ◌++◌, map, OnOk};
 ghost use Rattle.std.specs.Option.{option_map};
 ghost use Rattle.model_tree.specs.Leaves.{OfTree};
 ghost use Rattle.run_model.specs.Run.{Cycle};
-ghost use Rattle.record_text.specs.Held.{Holds};
-ghost use Rattle.record_text.specs.Chosen.{letters_of};
-ghost use Rattle.record_text.specs.Named.{NamesLeaves};
+ghost use Rattle.text_forms.specs.Held.{Holds};
+ghost use Rattle.text_forms.specs.Chosen.{letters_of};
+ghost use Rattle.text_forms.specs.Named.{NamesLeaves};
 ghost use Rattle.run_loop.specs.declared.outputs.Output.TheVariants.{Frames as frames};
 ghost use Rattle.run_loop.specs.AskedFiles.{names_of};
 ghost use Rattle.run_loop.specs.Texts.{AreApart, AreCreated};
@@ -21,8 +21,8 @@ use crate::write::write_piece;
 use asked_words::Asked;
 use model_tree::Model;
 use quantity::{OutOfMemory, Time};
-use record_text::{Letters, Records, YRecord, log_bytes, out_bytes};
 use room_edge::Room;
+use text_forms::{Letters, Records, YRecord, log_bytes, out_bytes};
 
 /// Adds what a cycle gave, in this order: the frame of the instant before, where this one begins
 /// another; the lines of the log; and the lines of the output. `piece` is room that each call uses

@@ -10,9 +10,9 @@ ghost use Rattle.run_loop.specs.Showing.{took, plain, ended};
 use cell_grid::Grid;
 use frame_draw::Frames;
 use quantity::{OutOfMemory, Time, Value};
-use record_text::YRecord;
 use std::alloc::Global;
 use std::marker::Model;
+use text_forms::YRecord;
 
 /// The frames of the group whose first cell has the leaf number `first`. It is seen as that number
 /// and the frames that are being drawn.

@@ -3,9 +3,9 @@ ghost use Rattle.std.specs.Prelude.{◌≡◌, ◌+◌, ◌<◌, ◌^◌, OnOk};
 ghost use Rattle.std.specs.Option.{option_map};
 ghost use Rattle.model_tree.specs.Leaves.{OfTree};
 ghost use Rattle.run_model.specs.Run.{Cycle};
-ghost use Rattle.record_text.specs.Held.{Holds};
-ghost use Rattle.record_text.specs.Chosen.{letters_of};
-ghost use Rattle.record_text.specs.Named.{NamesLeaves};
+ghost use Rattle.text_forms.specs.Held.{Holds};
+ghost use Rattle.text_forms.specs.Chosen.{letters_of};
+ghost use Rattle.text_forms.specs.Named.{NamesLeaves};
 ghost use Rattle.run_loop.specs.AskedFiles.{names_of};
 ghost use Rattle.run_loop.specs.Texts.{AreApart, AreCreated};
 ghost use Rattle.run_loop.specs.Showing.{after_cycle};
@@ -20,8 +20,8 @@ use crate::outputs::Unwritten;
 use asked_words::Asked;
 use model_tree::Model;
 use quantity::Time;
-use record_text::Records;
 use room_edge::Room;
+use text_forms::Records;
 
 /// The frames that are drawn, what is counted for the last line, the number of cycles, and room
 /// that each cycle uses again: its records, and the piece that is written.

@@ -15,7 +15,7 @@
 //!   what a run comes to and what it leaves: `specs/Ran.antt`, `Leaves.antt`, `Emitted.antt`,
 //!   `Saving.antt`, `Answers.antt`.
 //! - Laws (`laws`): a run that may start has a verdict, and its cycles fit the model. It rests on
-//!   `flat_run`, `record_text`, `frame_draw` and `state_file`.
+//!   `flat_run`, `text_forms`, `frame_draw` and `state_file`.
 #![tactic(auto)]
 
 mod begin;

@@ -13,3 +13,10 @@ pub mod TextsJoin
 pub mod Examples
 pub mod Rows
 pub mod SavedRows
+pub mod Held
+pub mod Chosen
+pub mod Named
+pub mod RecordTexts
+pub mod CycleNames
+pub mod Begun
+pub mod Placed

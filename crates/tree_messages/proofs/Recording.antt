@@ -13,8 +13,8 @@ use Rattle.cycle_steps.specs.declared.halt.Halt.TheVariants.{Stopped as stopped_
 use Rattle.atomic_face.specs.declared.class.PortNo.{PortNo}
 use Rattle.atomic_face.specs.Classes.{Bag}
 use Rattle.run_model.specs.Run.{PortRecord, port_records, is_of_out}
-use Rattle.record_text.specs.declared.records.Records.{Records}
-use Rattle.record_text.specs.Held.{Holds, AreEmpty, y_at, x_at, s_at, out_at}
+use Rattle.text_forms.specs.declared.records.Records.{Records}
+use Rattle.text_forms.specs.Held.{Holds, AreEmpty, y_at, x_at, s_at, out_at}
 use Rattle.tree_tables.specs.declared.entry.Entry.{Entry}
 use Rattle.served_tree.specs.Service.{Stopped, gave_of, out_record}
 use Rattle.tree_messages.specs.declared.kept.Became.{Became}

@@ -3,7 +3,7 @@ ghost use Rattle.std.specs.Prelude.{◌≡◌, ◌≤◌, ◌++◌, ◌∷◌, [
 ghost use Rattle.std.specs.List.{filter};
 ghost use Rattle.std.specs.Option.{option_map};
 ghost use Rattle.run_model.specs.Run.{port_records, is_of_out};
-ghost use Rattle.record_text.specs.Held.{Holds, AreEmpty, y_at, x_at, s_at, out_at};
+ghost use Rattle.text_forms.specs.Held.{Holds, AreEmpty, y_at, x_at, s_at, out_at};
 ghost use Rattle.served_tree.specs.Service.{out_record};
 ghost use Rattle.tree_messages.specs.Notes.{note_of, notes_of, answer_in};
 ghost use Rattle.tree_messages.specs.Recorded.{given_records, taken_records, move_record, move_records, next_answered, of_leaf_at, is_further, cycle_by, Adds, EndsBy, stop_in};
@@ -14,8 +14,8 @@ use crate::message::Answer;
 use atomic_face::PortNo;
 use cycle_steps::halt::Halt;
 use quantity::{OutOfMemory, Time, Value};
-use record_text::{OutRecord, Records, SRecord, XRecord, YRecord};
 use std::alloc::AllocError;
+use text_forms::{OutRecord, Records, SRecord, XRecord, YRecord};
 use tree_tables::Entry;
 
 /// The records of the cycle at an instant, in place of none; or why it stops.

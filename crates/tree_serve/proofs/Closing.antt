@@ -12,8 +12,8 @@ use Rattle.model_tree.specs.Tree.{Tree}
 use Rattle.run_model.specs.Cycle.{all_after, leaf_next}
 use Rattle.run_model.specs.Fitting.{FitsTree, CycleFits}
 use Rattle.run_model.specs.Run.{RunState, ended, cycled, stop, unless_stop, state_after, cycles_at}
-use Rattle.record_text.specs.declared.records.Records.{Records}
-use Rattle.record_text.specs.Held.{Holds, AreEmpty}
+use Rattle.text_forms.specs.declared.records.Records.{Records}
+use Rattle.text_forms.specs.Held.{Holds, AreEmpty}
 use Rattle.cycle_steps.specs.declared.halt.Halt.{Halt}
 use Rattle.cycle_steps.specs.declared.halt.Halt.TheVariants as halt
 use Rattle.flat_run.specs.declared.progress.Stop.{Stop}

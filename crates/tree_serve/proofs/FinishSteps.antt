@@ -7,8 +7,8 @@ use Rattle.atomic_face.specs.Classes.{Bag, is_at}
 use Rattle.event_list.specs.Events.{Event}
 use Rattle.run_model.specs.Fitting.{CycleFits}
 use Rattle.run_model.specs.Run.{cycles_at}
-use Rattle.record_text.specs.declared.records.Records.{Records}
-use Rattle.record_text.specs.Held.{AreEmpty}
+use Rattle.text_forms.specs.declared.records.Records.{Records}
+use Rattle.text_forms.specs.Held.{AreEmpty}
 use Rattle.cycle_steps.specs.declared.halt.Halt.{Halt}
 use Rattle.flat_run.specs.declared.progress.Stop.{Stop}
 use Rattle.flat_run.specs.Running.{stop_of_halt}

@@ -6,7 +6,7 @@ use Rattle.rule_tree.specs.declared.outcome.RuleStop.{RuleStop}
 use Rattle.model_tree.specs.Tree.{Tree}
 use Rattle.run_model.specs.Cycle.{collected, moves, first_stop}
 use Rattle.run_model.specs.Run.{Cycle as ACycle, RunState, Verdict, done, too_many, stop, Next, ended, cycled, unless_stop, at_top, cycle_of, state_after, cycled_at}
-use Rattle.record_text.specs.declared.records.Records.{Records}
+use Rattle.text_forms.specs.declared.records.Records.{Records}
 use Rattle.flat_run.specs.declared.progress.Progress.{Progress}
 use Rattle.flat_run.specs.declared.progress.Progress.TheVariants as progress
 use Rattle.flat_run.specs.declared.progress.Stop.{Stop}

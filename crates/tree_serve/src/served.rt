@@ -1,6 +1,6 @@
 // A served run as a run of which the next cycle can be asked for.
 ghost use Rattle.std.specs.Prelude.{◌≡◌, Some};
-ghost use Rattle.record_text.specs.Held.{AreEmpty};
+ghost use Rattle.text_forms.specs.Held.{AreEmpty};
 ghost use Rattle.flat_run.specs.Marking.{at_seed, Marks};
 ghost use Rattle.flat_run.specs.Steps.{Goes};
 ghost use Rattle.tree_serve.specs.Calls.{IsBetween};
@@ -13,9 +13,9 @@ use atomic_face::AtomicModel;
 use cell_engine::Steps;
 use flat_run::{Cycles, Progress, Stop};
 use model_tree::Model as Tree;
-use record_text::Records;
 use std::marker::Model;
 use std::sync::ledger::Ledger;
+use text_forms::Records;
 
 /// A run whose messages are served in the order of a seed. It is seen as where it stands, with the
 /// seed that is left and the mark of that order.

@@ -1,6 +1,6 @@
 use Rattle.std.proofs.Common.{◌++◌, ◌∷◌, [], ◌∙◌, List, map, ap, sym, append-nil, cond, eqb}
 use Rattle.std.proofs.lemmas.Bool.{eq-eqb}
-use Rattle.record_text.specs.declared.records.XRecord.{XRecord}
+use Rattle.text_forms.specs.declared.records.XRecord.{XRecord}
 use Rattle.sparse_cycle.specs.Sparse.{bag_in, records_at, value_at_port}
 use Rattle.cycle_steps.specs.Untimed.{x_record, x_records}
 use Rattle.cycle_steps.proofs.OneMore.{appends-more, map-kept}

@@ -3,7 +3,7 @@ use Rattle.std.specs.List.{All}
 use Rattle.std.specs.List.Sorted.{IsNonDecreasingBy}
 use Rattle.std.proofs.lemmas.List.{take_rest}
 use Rattle.std.proofs.lemmas.List.Sorted.{IsNonDecreasingBy-drop}
-use Rattle.record_text.specs.declared.records.XRecord.{XRecord}
+use Rattle.text_forms.specs.declared.records.XRecord.{XRecord}
 use Rattle.sparse_cycle.specs.Sparse.{bag_in}
 use Rattle.cycle_steps.specs.Untimed.{x_records}
 use Rattle.cycle_steps.proofs.Bags.{none-before}

@@ -2,7 +2,7 @@ use Rattle.std.proofs.Common.{eqb, map, refl}
 use Rattle.std.specs.Prelude.{not}
 use Rattle.atomic_face.specs.Classes.{Bag}
 use Rattle.run_model.specs.Run.{port_records}
-use Rattle.record_text.specs.Held.{y_at}
+use Rattle.text_forms.specs.Held.{y_at}
 use Rattle.sparse_cycle.specs.Collect.{y_of, n_of}
 use Rattle.cycle_steps.proofs.OneMore.{appends-more, appended-all, map-kept}
 use Rattle.cycle_steps.proofs.Stops.{stopped}

@@ -1,6 +1,6 @@
 use Rattle.std.proofs.Common.{◌≡◌, ◌++◌, map, drop}
 use Rattle.run_model.specs.Run.{port_records}
-use Rattle.record_text.specs.Held.{y_at}
+use Rattle.text_forms.specs.Held.{y_at}
 use Rattle.sparse_cycle.specs.Collect.{y_of, n_of}
 use Rattle.cycle_steps.proofs.collect.append_given.Given as goal
 

@@ -3,8 +3,8 @@ use Rattle.std.specs.Prelude.{⊤}
 use Rattle.std.specs.List.{All, sum_by}
 use Rattle.std.specs.List.Sorted.{IsNonDecreasingBy}
 use Rattle.std.proofs.lemmas.Result.{on_ok_weaker}
-use Rattle.record_text.specs.declared.records.Records.{Records}
-use Rattle.record_text.specs.declared.records.XRecord.{XRecord}
+use Rattle.text_forms.specs.declared.records.Records.{Records}
+use Rattle.text_forms.specs.declared.records.XRecord.{XRecord}
 use Rattle.sparse_cycle.specs.Sparse.{parts_of}
 use Rattle.sparse_cycle.specs.Walk.{Walked, walk}
 use Rattle.cycle_steps.specs.Untimed.{x_records}

@@ -1,7 +1,7 @@
 use Rattle.std.proofs.Common.{ℕ, List, map, eqb, ap, refl}
 use Rattle.std.specs.List.{filter}
 use Rattle.quantity.specs.declared.value.Value.{Value}
-use Rattle.record_text.specs.Held.{x_at, out_at}
+use Rattle.text_forms.specs.Held.{x_at, out_at}
 use Rattle.cycle_steps.specs.Routed.{values_of_input, fed_to, out_to}
 use Rattle.cycle_steps.proofs.Growth.{grown-same, grown-after}
 use Rattle.cycle_steps.proofs.OneMore.{appends-more, appended-all, fed-kept, out-kept}

@@ -1,5 +1,5 @@
 use Rattle.std.proofs.Common.{◌≡◌, ◌++◌, map, drop}
-use Rattle.record_text.specs.Held.{x_at, out_at}
+use Rattle.text_forms.specs.Held.{x_at, out_at}
 use Rattle.cycle_steps.specs.Routed.{values_of_input, fed_to, out_to}
 use Rattle.cycle_steps.specs.Growing.{Grown}
 use Rattle.cycle_steps.proofs.feed.append_from_input.Given as goal

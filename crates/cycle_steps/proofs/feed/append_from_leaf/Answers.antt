@@ -5,8 +5,8 @@ use Rattle.std.specs.List.Sorted.{IsNonDecreasingBy}
 use Rattle.std.proofs.lemmas.List.{take_rest}
 use Rattle.std.proofs.lemmas.List.Sorted.{IsNonDecreasingBy-drop}
 use Rattle.quantity.specs.declared.value.Value.{Value}
-use Rattle.record_text.specs.declared.records.YRecord.{YRecord}
-use Rattle.record_text.specs.Held.{x_at, out_at}
+use Rattle.text_forms.specs.declared.records.YRecord.{YRecord}
+use Rattle.text_forms.specs.Held.{x_at, out_at}
 use Rattle.sparse_cycle.specs.Feed.{values_of_leaf}
 use Rattle.cycle_steps.specs.Untimed.{y_records}
 use Rattle.cycle_steps.specs.Routed.{fed_to, out_to}

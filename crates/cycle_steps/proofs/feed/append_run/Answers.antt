@@ -2,8 +2,8 @@ use Rattle.std.proofs.Common.{◌++◌, ◌∷◌, [], ◌∙◌, Bool, List, ma
 use Rattle.std.specs.List.{filter}
 use Rattle.std.proofs.lemmas.Bool.{eq-eqb}
 use Rattle.run_model.specs.Run.{PortRecord}
-use Rattle.record_text.specs.declared.records.YRecord.{YRecord}
-use Rattle.record_text.specs.Held.{x_at, out_at}
+use Rattle.text_forms.specs.declared.records.YRecord.{YRecord}
+use Rattle.text_forms.specs.Held.{x_at, out_at}
 use Rattle.sparse_cycle.specs.Feed.{values_of_leaf}
 use Rattle.cycle_steps.specs.Untimed.{y_record, y_records}
 use Rattle.cycle_steps.specs.Routed.{fed_to, out_to}

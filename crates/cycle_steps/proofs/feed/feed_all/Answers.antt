@@ -1,5 +1,5 @@
 use Rattle.std.proofs.Common.{◌++◌, ◌∙◌, ℕ, List, map, refl, ap}
-use Rattle.record_text.specs.Held.{x_at, out_at}
+use Rattle.text_forms.specs.Held.{x_at, out_at}
 use Rattle.route_flat.specs.declared.source.Path.{Path}
 use Rattle.cycle_steps.specs.Untimed.{y_records}
 use Rattle.cycle_steps.specs.Routed.{values_at, path_at, fed_to, out_to, fed_in, out_in}

@@ -2,10 +2,10 @@ use Rattle.std.proofs.Common.{◌∙◌, ◌<◌, ◌≤◌, ◌||◌, List, ℕ
 use Rattle.std.specs.List.{All}
 use Rattle.std.specs.List.Sorted.{IsNonDecreasingBy}
 use Rattle.std.specs.Vec.{vec_capacity}
-use Rattle.record_text.specs.declared.records.XRecord.{XRecord}
-use Rattle.record_text.specs.declared.records.YRecord.{YRecord}
-use Rattle.record_text.specs.declared.records.Records.{Records}
-use Rattle.record_text.specs.Held.{x_at, out_at}
+use Rattle.text_forms.specs.declared.records.XRecord.{XRecord}
+use Rattle.text_forms.specs.declared.records.YRecord.{YRecord}
+use Rattle.text_forms.specs.declared.records.Records.{Records}
+use Rattle.text_forms.specs.Held.{x_at, out_at}
 use Rattle.leaf_set.specs.Members.{is_in}
 use Rattle.sparse_cycle.specs.Sparse.{is_due, due_leaves, given_among}
 use Rattle.sparse_cycle.specs.Collect.{y_of, is_among}

@@ -1,7 +1,7 @@
 use Rattle.std.proofs.Common.{◌∙◌, ◌++◌, ◌<◌, List, ℕ, length, map, sym, subst}
 use Rattle.std.specs.List.{All}
 use Rattle.std.proofs.lemmas.Result.{on_ok_weaker}
-use Rattle.record_text.specs.Held.{x_at, out_at}
+use Rattle.text_forms.specs.Held.{x_at, out_at}
 use Rattle.cycle_steps.specs.Untimed.{y_records}
 use Rattle.cycle_steps.specs.Routed.{path_at, reaches, values_at, fed_in, out_in}
 use Rattle.cycle_steps.proofs.Halves.{filtered-within}

@@ -1,6 +1,6 @@
 use Rattle.std.proofs.Common.{◌∙◌, ◌++◌, List, ap, refl}
 use Rattle.std.specs.List.{list_any}
-use Rattle.record_text.specs.declared.records.YRecord.{YRecord}
+use Rattle.text_forms.specs.declared.records.YRecord.{YRecord}
 use Rattle.port_net.specs.declared.source.Source.TheVariants.{Leaf}
 use Rattle.sparse_cycle.specs.Collect.{is_among}
 use Rattle.cycle_steps.specs.Untimed.{y_record, y_records}

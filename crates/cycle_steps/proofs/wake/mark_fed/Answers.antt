@@ -1,5 +1,5 @@
 use Rattle.std.proofs.Common.{◌∙◌, ◌<◌, List, true, eqb, length, length-set, ap, refl, sym, subst, arith}
-use Rattle.record_text.specs.declared.records.XRecord.{XRecord}
+use Rattle.text_forms.specs.declared.records.XRecord.{XRecord}
 use Rattle.leaf_set.specs.Members.{is_in}
 use Rattle.sparse_cycle.specs.Wake.{is_fed}
 use Rattle.cycle_steps.specs.Untimed.{x_records}

@@ -2,7 +2,7 @@ use Rattle.std.proofs.Common.{◌∙◌, ◌<◌, ◌≤◌, ◌+◌, ℕ, List,
 use Rattle.std.specs.List.{All, sum_by}
 use Rattle.model_tree.specs.Tree.{Tree}
 use Rattle.run_model.specs.Run.{PortRecord}
-use Rattle.record_text.specs.declared.records.XRecord.{XRecord}
+use Rattle.text_forms.specs.declared.records.XRecord.{XRecord}
 use Rattle.cycle_steps.specs.Untimed.{x_records}
 use Rattle.cycle_steps.proofs.Steps.{walk_from, walks-more, halts-here, walked-all, at-start, visits-more, visits-end, visits-within}
 use Rattle.cycle_steps.proofs.Gathered.{same-bound}

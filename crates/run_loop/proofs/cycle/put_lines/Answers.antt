@@ -2,8 +2,8 @@ use Rattle.std.proofs.Common.{◌≡◌, ◌++◌, sym, subst}
 use Rattle.std.specs.Result.{OnOk}
 use Rattle.model_tree.specs.Leaves.{OfTree}
 use Rattle.run_model.specs.Run.{Cycle}
-use Rattle.record_text.specs.Chosen.{letters_of}
-use Rattle.record_text.specs.Held.{Holds}
+use Rattle.text_forms.specs.Chosen.{letters_of}
+use Rattle.text_forms.specs.Held.{Holds}
 use Rattle.run_loop.specs.declared.outputs.Output.{Output}
 use Rattle.run_loop.specs.Pieces.{lines_of}
 use Rattle.run_loop.proofs.cycle.put_lines.Goals as goal

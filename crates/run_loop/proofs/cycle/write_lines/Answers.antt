@@ -1,7 +1,7 @@
 use Rattle.std.proofs.Common.{◌++◌, ◌∙◌, ap, sym}
 use Rattle.std.proofs.lemmas.Result.{on_ok_weaker}
 use Rattle.model_tree.specs.Models.{tree_of}
-use Rattle.record_text.specs.Chosen.{letters_of}
+use Rattle.text_forms.specs.Chosen.{letters_of}
 use Rattle.run_loop.specs.AskedFiles.{names_of}
 use Rattle.run_loop.specs.Pieces.{lines_of}
 use Rattle.run_loop.proofs.Adding.{none_added}

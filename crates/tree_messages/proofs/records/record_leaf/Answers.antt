@@ -2,7 +2,7 @@ use Rattle.std.proofs.Common.{map, ◌++◌, refl, ap, ◌∙◌}
 use Rattle.std.specs.List.{filter}
 use Rattle.std.proofs.lemmas.Result.{on_ok_weaker}
 use Rattle.run_model.specs.Run.{port_records, is_of_out}
-use Rattle.record_text.specs.Held.{y_at, x_at, s_at}
+use Rattle.text_forms.specs.Held.{y_at, x_at, s_at}
 use Rattle.tree_messages.specs.Recorded.{is_further, move_record}
 use Rattle.tree_messages.proofs.records.record_leaf.Goals as goal
 

@@ -1,5 +1,5 @@
 use Rattle.std.proofs.Common.{◌≡◌, ◌++◌, map, drop}
-use Rattle.record_text.specs.Held.{out_at}
+use Rattle.text_forms.specs.Held.{out_at}
 use Rattle.served_tree.specs.Service.{out_record}
 use Rattle.tree_messages.proofs.records.record_out.Given as goal
 

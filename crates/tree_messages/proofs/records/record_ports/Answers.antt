@@ -2,7 +2,7 @@ use Rattle.std.proofs.Common.{[], ◌∷◌, ◌+◌, map, drop, refl}
 use Rattle.std.specs.List.{filter}
 use Rattle.atomic_face.specs.Classes.{Bag}
 use Rattle.run_model.specs.Run.{port_records, is_of_out}
-use Rattle.record_text.specs.Held.{y_at}
+use Rattle.text_forms.specs.Held.{y_at}
 use Rattle.tree_messages.specs.Recorded.{is_further}
 use Rattle.tree_messages.proofs.Rest.{further, all-made}
 use Rattle.tree_messages.proofs.Recording.{ports-first}

@@ -1,7 +1,7 @@
 use Rattle.std.proofs.Common.{◌≡◌, ◌++◌, map, drop}
 use Rattle.std.specs.List.{filter}
 use Rattle.run_model.specs.Run.{port_records, is_of_out}
-use Rattle.record_text.specs.Held.{y_at}
+use Rattle.text_forms.specs.Held.{y_at}
 use Rattle.tree_messages.specs.Recorded.{is_further}
 use Rattle.tree_messages.proofs.records.record_ports.Given as goal
 

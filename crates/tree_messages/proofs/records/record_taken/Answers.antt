@@ -1,7 +1,7 @@
 use Rattle.std.proofs.Common.{rules, ◌≡◌, [], ◌∷◌, ◌++◌, map, refl}
 use Rattle.atomic_face.specs.Classes.{Bag}
 use Rattle.run_model.specs.Run.{port_records}
-use Rattle.record_text.specs.Held.{x_at}
+use Rattle.text_forms.specs.Held.{x_at}
 use Rattle.tree_messages.proofs.Rest.{further, all-made}
 use Rattle.tree_messages.proofs.Recording.{record_at}
 use Rattle.tree_messages.proofs.records.record_taken.Goals as goal

@@ -1,6 +1,6 @@
 use Rattle.std.proofs.Common.{◌≡◌, ◌++◌, map, drop}
 use Rattle.run_model.specs.Run.{port_records}
-use Rattle.record_text.specs.Held.{x_at}
+use Rattle.text_forms.specs.Held.{x_at}
 use Rattle.tree_messages.proofs.records.record_taken.Given as goal
 
 abbrev pub invariant-loop-taken : goal.invariant-loop-taken
