@@ -1,3 +1,4 @@
+pub mod Joining
 mod Noting
 mod Becoming
 mod Rest

@@ -1,3 +1,4 @@
+pub mod Joined
 pub mod Due
 pub mod Notes
 pub mod Mail

@@ -9,6 +9,10 @@
 //! - `start_times` and `least_time` (`start`) say when leaves are due at their start, and which is
 //!   due first; `begin` begins the cycle of an instant, and `end_of` (`records`) makes its records,
 //!   or says by `Halt` why it stops.
+//! - The messages that wait stand in a list in pieces of some hundred (`PieceList` of
+//!   `list_in_pieces`), which is seen as the list of its items (`specs/Joined.antt`): `push` puts
+//!   one behind all others, `take` takes the one of a number out, and moves those of its piece
+//!   alone.
 //! - Definitions: `specs/Ready.antt` (what has to hold where a message is served), `Puts.antt`
 //!   (what that changes), `Mail.antt`, `Notes.antt`, `Due.antt` and `Tabled.antt` (how that stands
 //!   for the service of `served_tree`), `Starting.antt`, `Recorded.antt`.
@@ -17,12 +21,17 @@
 
 mod collect;
 pub mod kept;
+pub mod list_in_pieces;
 mod lists;
 pub mod mail;
 pub mod message;
 pub mod moving;
+mod pieces;
+mod place;
 pub mod records;
 pub mod serving;
 pub mod start;
 pub mod tables;
 mod transition;
+
+pub use list_in_pieces::PieceList;

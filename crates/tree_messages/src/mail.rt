@@ -5,9 +5,9 @@ ghost use Rattle.tree_messages.specs.Notes.{notes_of, fresh_note, all_heard, ans
 ghost use Rattle.tree_messages.specs.Puts.{Puts};
 
 use crate::kept::{Kept, answer_by, given_by, keep_nothing};
+use crate::list_in_pieces::PieceList;
 use crate::message::{Answer, Message};
 use atomic_face::PortNo;
-use piece_list::PieceList;
 use quantity::{OutOfMemory, Value};
 use std::alloc::Global;
 use tree_tables::Entry;

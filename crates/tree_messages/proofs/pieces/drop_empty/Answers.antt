@@ -1,9 +1,9 @@
 use Rattle.std.proofs.Common.{◌≡◌, length, refl, sym, ap, ◌∙◌, arith, eqb-true, vec_len}
 use Rattle.std.proofs.lemmas.List.{nil_from_length}
 use Rattle.std.proofs.lemmas.Option.{slice_get_read}
-use Rattle.piece_list.specs.Joined.{joined}
-use Rattle.piece_list.proofs.Joining.{piece-less}
-use Rattle.piece_list.proofs.pieces.drop_empty.Goals as goal
+use Rattle.tree_messages.specs.Joined.{joined}
+use Rattle.tree_messages.proofs.Joining.{piece-less}
+use Rattle.tree_messages.proofs.pieces.drop_empty.Goals as goal
 
 pub returns-then-is_empty : goal.returns-then-is_empty
 returns-then-is_empty g c =

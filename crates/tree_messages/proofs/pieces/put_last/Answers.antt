@@ -1,7 +1,7 @@
 use Rattle.std.proofs.Common.{◌≡◌, ◌<◌, ◌-◌, suc, length, refl, arith}
 use Rattle.std.proofs.lemmas.Option.{slice_get_read}
-use Rattle.piece_list.proofs.Joining.{put-behind, same-piece}
-use Rattle.piece_list.proofs.pieces.put_last.Goals as goal
+use Rattle.tree_messages.proofs.Joining.{put-behind, same-piece}
+use Rattle.tree_messages.proofs.pieces.put_last.Goals as goal
 
 pub returns-in_default-clause-err : goal.returns-in_default-clause-err
 returns-in_default-clause-err g c =

@@ -1,7 +1,7 @@
 // Pieces of a list, one behind another.
 ghost use Rattle.std.specs.Prelude.{◌≡◌, ◌<◌, ◌+◌, ◌++◌, ◌∷◌, [], Some, length, slice_get, OnOk, OnErr, IsTrue};
 ghost use Rattle.std.specs.List.{remove};
-ghost use Rattle.piece_list.specs.Joined.{joined, IsPlaceOf};
+ghost use Rattle.tree_messages.specs.Joined.{joined, IsPlaceOf};
 
 use crate::place::Place;
 use quantity::OutOfMemory;

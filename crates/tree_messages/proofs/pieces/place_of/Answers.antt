@@ -1,7 +1,7 @@
 use Rattle.std.proofs.Common.{length, refl, arith}
 use Rattle.std.proofs.lemmas.Option.{slice_get_read}
-use Rattle.piece_list.proofs.Joining.{further, all-past}
-use Rattle.piece_list.proofs.pieces.place_of.Goals as goal
+use Rattle.tree_messages.proofs.Joining.{further, all-past}
+use Rattle.tree_messages.proofs.pieces.place_of.Goals as goal
 
 pub loop-i-preserved : goal.loop-i-preserved
 loop-i-preserved g c =

@@ -16,7 +16,7 @@ pub struct PieceList<T: Drop> {
 
 impl<T: Drop> Model for PieceList<T> {
     ghost use Rattle.std.specs.Prelude.{◌≡◌, List, length};
-    ghost use Rattle.piece_list.specs.Joined.{joined};
+    ghost use Rattle.tree_messages.specs.Joined.{joined};
 
     ghost Value = { List T };
 

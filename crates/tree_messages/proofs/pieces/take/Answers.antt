@@ -1,9 +1,9 @@
 use Rattle.std.proofs.Common.{◌≡◌, ◌<◌, List, Vec, length, refl, ◌∙◌, subst}
 use Rattle.std.specs.declared.alloc.Global.{Global}
 use Rattle.std.proofs.lemmas.Option.{slice_get_read, slice_get_within}
-use Rattle.piece_list.specs.Joined.{IsPlaceOf}
-use Rattle.piece_list.proofs.Joining.{taken-is, left-is}
-use Rattle.piece_list.proofs.pieces.take.Goals as goal
+use Rattle.tree_messages.specs.Joined.{IsPlaceOf}
+use Rattle.tree_messages.proofs.Joining.{taken-is, left-is}
+use Rattle.tree_messages.proofs.pieces.take.Goals as goal
 
 pub returns-clause-value : goal.returns-clause-value
 returns-clause-value g c =

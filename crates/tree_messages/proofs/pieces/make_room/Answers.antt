@@ -1,7 +1,7 @@
 use Rattle.std.proofs.Common.{rules, ◌≡◌, ◌++◌, [], ◌∷◌, ap, ◌∙◌, append-nil}
-use Rattle.piece_list.specs.Joined.{joined}
-use Rattle.piece_list.proofs.Joining.{joined-behind}
-use Rattle.piece_list.proofs.pieces.make_room.Goals as goal
+use Rattle.tree_messages.specs.Joined.{joined}
+use Rattle.tree_messages.proofs.Joining.{joined-behind}
+use Rattle.tree_messages.proofs.pieces.make_room.Goals as goal
 
 pub returns-clause-same : goal.returns-clause-same
 returns-clause-same g c =

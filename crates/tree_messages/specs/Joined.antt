@@ -1,7 +1,7 @@
 -- A list in pieces.
 use Rattle.std.specs.Prelude.{◌≡◌, ◌<◌, ◌+◌, ℕ, Some, List, [], ◌∷◌, ◌++◌, Vec, length, take, slice_get}
 use Rattle.std.specs.declared.alloc.Global.{Global}
-use Rattle.piece_list.specs.declared.place.Place.{Place}
+use Rattle.tree_messages.specs.declared.place.Place.{Place}
 
 -- the items of all pieces, one piece behind another
 abbrev pub joined : {T : Type 0} → List (Vec T Global) → List T

@@ -5,7 +5,7 @@ use Rattle.std.specs.List.{remove}
 use Rattle.std.specs.declared.alloc.Global.{Global}
 use Rattle.std.proofs.lemmas.List.{take_more, take_all}
 use Rattle.std.proofs.lemmas.List.Edits.{remove-append_left, remove-append_right}
-use Rattle.piece_list.specs.Joined.{joined}
+use Rattle.tree_messages.specs.Joined.{joined}
 
 pub joined-behind : {T : Type 0} (ps : List (Vec T Global)) (p : Vec T Global)
     → joined (ps ++ p ∷ []) ≡ joined ps ++ p.items
