@@ -7,6 +7,12 @@
 //! - Rooms in memory are read within a limit and past it, and written whole, or fail (`rooms`); of
 //!   the real folder, two files are made in turns with both streams between (`folder`).
 //! - Crates that are tried: `quantity`, `source_text`, `ma_lines`, `event_list`, `room_edge`.
+//!
+//! Tests of the space of a group, with enough memory.
+//!
+//! - Watchers take the place of what was in their list, each cell has a value at the start, a zone
+//!   is added (`spaces`); neighbours of cells at the edge and away from it (`neighbours`).
+//! - Crates that are tried: `cell_grid`, `cell_reach`.
 #![tactic(auto)]
 
 #[cfg(test)]
@@ -14,11 +20,17 @@ mod events;
 #[cfg(test)]
 mod folder;
 #[cfg(test)]
+mod neighbours;
+#[cfg(test)]
+mod offsets;
+#[cfg(test)]
 mod quantities;
 #[cfg(test)]
 mod rooms;
 #[cfg(test)]
 mod sections;
+#[cfg(test)]
+mod spaces;
 #[cfg(test)]
 mod values;
 #[cfg(test)]
