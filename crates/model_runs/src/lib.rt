@@ -9,4 +9,4 @@
 #[cfg(test)]
 mod outcomes;
 #[cfg(test)]
-mod texts;
+mod rule_texts;

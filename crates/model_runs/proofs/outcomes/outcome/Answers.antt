@@ -1,7 +1,7 @@
 use Rattle.std.proofs.Common.{◌≡◌, ◌≤◌, max, arith, rules}
 use Rattle.std.proofs.lemmas.List.Elements.{All-push, All-weaker}
 use Rattle.rule_forms.specs.Depth.{rule_depth}
-use Rattle.rule_runs.proofs.outcomes.outcome.Goals as goal
+use Rattle.model_runs.proofs.outcomes.outcome.Goals as goal
 
 pub loop-tree-preserved : goal.loop-tree-preserved
 loop-tree-preserved c =
