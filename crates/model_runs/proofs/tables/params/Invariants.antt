@@ -5,7 +5,7 @@ use Rattle.quantity.specs.Bytes.{is_among}
 use Rattle.atomic_face.specs.declared.class.Class.TheVariants.{Table}
 use Rattle.atomic_face.specs.declared.params.Param.{Param}
 use Rattle.atomic_face.specs.Settings.{once_keys}
-use Rattle.box_runs.proofs.tables.params.Given as goal
+use Rattle.model_runs.proofs.tables.params.Given as goal
 
 abbrev pub invariant-loop-line : goal.invariant-loop-line
 invariant-loop-line l =

@@ -6,7 +6,7 @@ use Rattle.std.proofs.lemmas.List.Quantifiers.{position-Some}
 use Rattle.atomic_face.specs.declared.class.Class.TheVariants.{Queue, Table}
 use Rattle.atomic_face.proofs.ClassNumbers.{same_class-is}
 use Rattle.atomic_face.specs.Stocked.{Stocked, is_free}
-use Rattle.box_runs.proofs.tables.taken.Goals as goal
+use Rattle.model_runs.proofs.tables.taken.Goals as goal
 
 some_box : Stocked
 some_box = record { box = record { kind = Queue; settings = []; state = [] }; taken = false }

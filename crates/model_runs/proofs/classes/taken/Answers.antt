@@ -3,7 +3,7 @@ use Rattle.std.proofs.lemmas.List.{length-set}
 use Rattle.std.proofs.lemmas.List.Quantifiers.{position-Some}
 use Rattle.atomic_face.specs.declared.class.Class.TheVariants.{Queue}
 use Rattle.atomic_face.specs.Stocked.{Stocked, is_free}
-use Rattle.box_runs.proofs.classes.taken.Goals as goal
+use Rattle.model_runs.proofs.classes.taken.Goals as goal
 
 some_box : Stocked
 some_box = record { box = record { kind = Queue; settings = []; state = [] }; taken = false }
