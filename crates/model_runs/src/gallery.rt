@@ -1,7 +1,7 @@
 // Each model of the gallery is read, over two boxes of each class.
 ghost use Rattle.std.specs.Prelude.{◌<◌, ◌^◌, length, IfOk};
 
-use crate::texts::{FILES, MODELS};
+use crate::gallery_texts::{FILES, MODELS};
 use atomic_face::{AtomicModel, Class, Stock};
 use atomic_kinds::{CounterModel, CpuModel, GeneratorModel, QueueModel};
 use model_read::{ModelRefusal, ReadModel, read_model};

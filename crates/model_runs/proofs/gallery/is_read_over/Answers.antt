@@ -2,8 +2,8 @@ use Rattle.std.proofs.Common.{sym, subst}
 use Rattle.std.specs.Prelude.{IsTrue, not}
 use Rattle.std.specs.List.{list_all}
 use Rattle.atomic_face.specs.StockView.{Stocked}
-use Rattle.gallery_models.proofs.Boxes.{none_taken}
-use Rattle.gallery_models.proofs.tests.is_read_over.Goals as goal
+use Rattle.model_runs.proofs.GalleryBoxes.{none_taken}
+use Rattle.model_runs.proofs.gallery.is_read_over.Goals as goal
 
 pub read_model-requires : goal.read_model-requires
 read_model-requires g c = record {
