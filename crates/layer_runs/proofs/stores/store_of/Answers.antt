@@ -2,7 +2,7 @@ use Rattle.model_tree.specs.Stands.{group_of}
 use Rattle.model_tree.specs.Models.{tree_of}
 use Rattle.model_tree.specs.Boxes.{settings_in}
 use Rattle.run_leaves.proofs.SoundParts.{sound-parts, group-sound}
-use Rattle.cell_runs.proofs.stores.store_of.Goals as goal
+use Rattle.layer_runs.proofs.stores.store_of.Goals as goal
 
 pub new-requires-2 : goal.new-requires-2
 new-requires-2 c =

@@ -8,7 +8,7 @@ use Rattle.cell_table.specs.declared.state.PortState as saved
 use Rattle.cell_table.specs.Saved.{port_of_saved}
 use Rattle.cell_engine.specs.Layout.{Layout}
 use Rattle.cell_engine.specs.Cells.{CanBePut}
-use Rattle.cell_runs.proofs.stores.is_put.Goals as goal
+use Rattle.layer_runs.proofs.stores.is_put.Goals as goal
 
 -- one port, of which one value waits
 one-waits : (l : Layout) (port : saved.PortState) (pair : ℕ × Value) (ports : List saved.PortState) (variables : List Value) → ports ≡ port ∷ [] → port.pairs.items ≡ pair ∷ [] → variables ≡ []
