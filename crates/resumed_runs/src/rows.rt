@@ -1,5 +1,5 @@
 // Runs that save their state, that go on from one, and whose state is refused.
-use crate::models;
+use crate::saved_models;
 use memory_runs::{put_files, run};
 use room_edge::MemoryRoom;
 use std::process::Abort;

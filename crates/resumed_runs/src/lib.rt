@@ -13,8 +13,8 @@ mod faults;
 #[cfg(test)]
 mod halves;
 #[cfg(test)]
-mod models;
-#[cfg(test)]
 mod refusals;
 #[cfg(test)]
 mod rows;
+#[cfg(test)]
+mod saved_models;

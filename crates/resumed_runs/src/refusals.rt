@@ -1,6 +1,6 @@
 // Words of saving and resuming that are refused.
-use crate::models;
 use crate::rows::{Row, answers};
+use crate::saved_models;
 use memory_runs::models::USAGE;
 use std::process::Abort;
 use std::test::Fail;

@@ -1,5 +1,5 @@
 // Runs that save and resume in which a call of the room fails, or whose state is cut short.
-use crate::models;
+use crate::saved_models;
 use memory_runs::run;
 use room_edge::{MemoryRoom, RoomCall};
 use std::process::Abort;

@@ -1,5 +1,5 @@
 // Runs in two halves: what is made is that of one run.
-use crate::models;
+use crate::saved_models;
 use memory_runs::{put_files, run};
 use room_edge::MemoryRoom;
 use std::process::Abort;
