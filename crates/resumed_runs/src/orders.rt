@@ -1,5 +1,5 @@
 // Runs without a seed, and in the orders of two: their files, status and complaint are the same.
-use crate::models;
+use crate::served_models;
 use memory_runs::{put_files, run};
 use room_edge::MemoryRoom;
 use std::process::Abort;

@@ -1,5 +1,5 @@
 // Seeds that are taken, with the mark of their order, and words that are refused.
-use crate::models;
+use crate::served_models;
 use memory_runs::models::USAGE;
 use memory_runs::{put_files, run};
 use room_edge::MemoryRoom;
