@@ -15,13 +15,13 @@ struct Start<'a> {
 /// It is saved.
 const SAVING: Start<'static> = Start {
     words: "cdpp -m ring.ma -t 00:00:00:100 -l log.txt -S s.txt",
-    log: models::RING_LOG,
+    log: saved_models::RING_LOG,
 };
 
 /// It goes on.
 const RESUMING: Start<'static> = Start {
     words: "cdpp -m ring.ma -t 00:00:00:200 -l log.txt -R old.txt",
-    log: models::LATER_LOG,
+    log: saved_models::LATER_LOG,
 };
 
 /// It can't go on to an end before its state.
@@ -78,7 +78,7 @@ fn are_made(rt: &impl Abort, room: &MemoryRoom, log: &str, wanted: &Left<'_>, nu
         (room.made("log.txt"), room.made("s.txt")),
         (
             beginning(log, wanted.log),
-            beginning(models::RING_STATE, wanted.state)
+            beginning(saved_models::RING_STATE, wanted.state)
         ),
         "{number}"
     );
@@ -93,7 +93,7 @@ fn leaves(
     wanted: &Left<'_>,
     number: u64,
 ) -> Result<(), Fail> {
-    room.put_file("ring.ma", models::RING.as_bytes())?;
+    room.put_file("ring.ma", saved_models::RING.as_bytes())?;
     room.put_file("old.txt", state)?;
     let status = run(rt.alloc(), start.words, room)?;
     stands(rt, status.number(), room, wanted, number);
@@ -270,7 +270,7 @@ fn fails_in(
     leaves(
         rt,
         start,
-        models::RING_STATE.as_bytes(),
+        saved_models::RING_STATE.as_bytes(),
         room,
         &wanted,
         number,
@@ -329,7 +329,7 @@ fn cut_leaves(rt: &(impl Abort + AllocGlobal), cut: &Cut<'_>) -> Result<(), Fail
             log,
             state: None,
         };
-        let state = first(models::RING_STATE, count);
+        let state = first(saved_models::RING_STATE, count);
         leaves(rt, &RESUMING, state, &mut room, &wanted, count as u64)?;
     }
     Ok(())

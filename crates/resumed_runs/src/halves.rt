@@ -103,21 +103,21 @@ S / 00:00:00:151 / g(0,0) / 4.00000 / ...
 /// boxes that wait; a cell with events.
 const HALVES: [Halves<'static>; 5] = [
     Halves {
-        files: &[("m.ma", models::RING)],
+        files: &[("m.ma", saved_models::RING)],
         first: "cdpp -m m.ma -t 00:00:00:100 -l log.txt -S s.txt",
         second: "cdpp -m m.ma -t 00:00:00:200 -l log.txt -S t.txt -R s.txt",
         whole: "cdpp -m m.ma -t 00:00:00:200 -l log.txt -S t.txt",
-        made: &[("log.txt", models::WHOLE_LOG), ("t.txt", RESTING)],
+        made: &[("log.txt", saved_models::WHOLE_LOG), ("t.txt", RESTING)],
     },
     Halves {
-        files: &[("m.ma", models::RING)],
+        files: &[("m.ma", saved_models::RING)],
         first: "cdpp -m m.ma -t 00:00:00:100 -d f.txt -g line -w 2 -S s.txt",
         second: "cdpp -m m.ma -t 00:00:00:300 -d f.txt -g line -w 2 -R s.txt",
         whole: "cdpp -m m.ma -t 00:00:00:300 -d f.txt -g line -w 2",
         made: &[("f.txt", FRAMES)],
     },
     Halves {
-        files: &[("m.ma", models::SERVED)],
+        files: &[("m.ma", saved_models::SERVED)],
         first: "cdpp -m m.ma -t 00:00:00:000 -l log.txt -o out.txt -L YXS -S s.txt",
         second: "cdpp -m m.ma -t 00:00:02:000 -l log.txt -o out.txt -L YXS -R s.txt",
         whole: "cdpp -m m.ma -t 00:00:02:000 -l log.txt -o out.txt -L YXS",
@@ -127,7 +127,7 @@ const HALVES: [Halves<'static>; 5] = [
         ],
     },
     Halves {
-        files: &[("m.ma", models::WAITING)],
+        files: &[("m.ma", saved_models::WAITING)],
         first: "cdpp -m m.ma -t 00:00:00:100 -l log.txt -o out.txt -L YXS -S s.txt",
         second: "cdpp -m m.ma -t 00:00:00:300 -l log.txt -o out.txt -L YXS -R s.txt",
         whole: "cdpp -m m.ma -t 00:00:00:300 -l log.txt -o out.txt -L YXS",
@@ -137,7 +137,7 @@ const HALVES: [Halves<'static>; 5] = [
         ],
     },
     Halves {
-        files: &[("m.ma", models::PORT_CELL), ("e.txt", EVENTS)],
+        files: &[("m.ma", saved_models::PORT_CELL), ("e.txt", EVENTS)],
         first: "cdpp -m m.ma -t 00:00:00:050 -e e.txt -l log.txt -L YXS -S s.txt",
         second: "cdpp -m m.ma -t 00:00:00:200 -e e.txt -l log.txt -L YXS -R s.txt",
         whole: "cdpp -m m.ma -t 00:00:00:200 -e e.txt -l log.txt -L YXS",

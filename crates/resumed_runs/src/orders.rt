@@ -23,11 +23,11 @@ const ORDERS: [&str; 3] = ["", " -T 1", " -T 2147483647"];
 /// The ring, a blinker from a file and one that is made, boxes, and a cell that stops.
 const ROWS: [Row<'static>; 5] = [
     Row {
-        files: &[("m.ma", models::RING)],
+        files: &[("m.ma", served_models::RING)],
         words: "cdpp -m m.ma -t 00:00:00:100 -l log.txt",
         status: 0,
         complained: "",
-        made: &[("log.txt", models::RING_LOG)],
+        made: &[("log.txt", served_models::RING_LOG)],
         shown: [
             "end 00:00:00:100 cycles 2\n",
             "end 00:00:00:100 cycles 2 mark 28832\n",
@@ -35,13 +35,13 @@ const ROWS: [Row<'static>; 5] = [
         ],
     },
     Row {
-        files: &[("m.ma", models::LIFE)],
+        files: &[("m.ma", served_models::LIFE)],
         words: "cdpp -m m.ma -t 00:00:00:300 -l log.txt -d f.txt -g Life -w 2",
         status: 0,
         complained: "",
         made: &[
-            ("log.txt", models::LIFE_LOG),
-            ("f.txt", models::LIFE_FRAMES),
+            ("log.txt", served_models::LIFE_LOG),
+            ("f.txt", served_models::LIFE_FRAMES),
         ],
         shown: [
             "end 00:00:00:300 cycles 4\n",
@@ -54,7 +54,7 @@ const ROWS: [Row<'static>; 5] = [
         words: "cdpp -G 5 -t 00:00:00:300 -l log.txt",
         status: 0,
         complained: "",
-        made: &[("log.txt", models::LIFE_LOG)],
+        made: &[("log.txt", served_models::LIFE_LOG)],
         shown: [
             "made 5 cells 25 cycles 4 y 37 s 88 ones 3\n",
             "made 5 cells 25 cycles 4 y 37 s 88 ones 3 mark 988104\n",
@@ -62,12 +62,12 @@ const ROWS: [Row<'static>; 5] = [
         ],
     },
     Row {
-        files: &[("m.ma", models::BOXES)],
+        files: &[("m.ma", served_models::BOXES)],
         words: "cdpp -m m.ma -t 00:00:00:000 -l log.txt -o out.txt -L YXS",
         status: 0,
         complained: "",
         made: &[
-            ("log.txt", models::BOXES_LOG),
+            ("log.txt", served_models::BOXES_LOG),
             ("out.txt", "00:00:00:000 o 8.00000\n"),
         ],
         shown: [
@@ -77,11 +77,14 @@ const ROWS: [Row<'static>; 5] = [
         ],
     },
     Row {
-        files: &[("m.ma", models::LATE), ("e.txt", models::LATE_EVENTS)],
+        files: &[
+            ("m.ma", served_models::LATE),
+            ("e.txt", served_models::LATE_EVENTS),
+        ],
         words: "cdpp -m m.ma -t 00:00:00:200 -e e.txt -l log.txt",
         status: 10,
         complained: "bad delay: g(0,0) at 00:00:00:120: -10.00000\n",
-        made: &[("log.txt", models::LATE_LOG)],
+        made: &[("log.txt", served_models::LATE_LOG)],
         shown: ["", "", ""],
     },
 ];

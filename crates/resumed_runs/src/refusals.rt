@@ -6,7 +6,10 @@ use std::process::Abort;
 use std::test::Fail;
 
 /// The files that are there.
-const FILES: [(&str, &str); 2] = [("ring.ma", models::RING), ("s.txt", models::RING_STATE)];
+const FILES: [(&str, &str); 2] = [
+    ("ring.ma", saved_models::RING),
+    ("s.txt", saved_models::RING_STATE),
+];
 
 /// No file is made.
 const UNMADE: [(&str, Option<&str>); 2] = [("ring.ma", None), ("s.txt", None)];

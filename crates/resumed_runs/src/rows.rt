@@ -21,26 +21,26 @@ pub(crate) struct Row<'a> {
 /// nothing is saved.
 const SAVED: [Row<'static>; 3] = [
     Row {
-        files: &[("ring.ma", models::RING)],
+        files: &[("ring.ma", saved_models::RING)],
         words: "cdpp -m ring.ma -t 00:00:00:100 -l log.txt -S s.txt",
         status: 0,
         shown: "end 00:00:00:100 cycles 2\n",
         complained: "",
         made: &[
-            ("log.txt", Some(models::RING_LOG)),
-            ("s.txt", Some(models::RING_STATE)),
+            ("log.txt", Some(saved_models::RING_LOG)),
+            ("s.txt", Some(saved_models::RING_STATE)),
         ],
     },
     Row {
-        files: &[("ring.ma", models::RING), ("s.txt", "state 1\n")],
+        files: &[("ring.ma", saved_models::RING), ("s.txt", "state 1\n")],
         words: "cdpp -m ring.ma -t 0:0:0:100 -S=s.txt",
         status: 0,
         shown: "end 00:00:00:100 cycles 2\n",
         complained: "",
-        made: &[("s.txt", Some(models::RING_STATE))],
+        made: &[("s.txt", Some(saved_models::RING_STATE))],
     },
     Row {
-        files: &[("k.ma", models::COMPARED)],
+        files: &[("k.ma", saved_models::COMPARED)],
         words: "cdpp -m k.ma -t 00:00:00:100 -l log.txt -S s.txt",
         status: 8,
         shown: "",
@@ -52,31 +52,37 @@ const SAVED: [Row<'static>; 3] = [
 /// The ring that goes on from its state, to a later end and to the state's own; and one run.
 const RESUMED: [Row<'static>; 3] = [
     Row {
-        files: &[("ring.ma", models::RING), ("s.txt", models::RING_STATE)],
+        files: &[
+            ("ring.ma", saved_models::RING),
+            ("s.txt", saved_models::RING_STATE),
+        ],
         words: "cdpp -m ring.ma -t 00:00:00:200 -R s.txt -l log2.txt",
         status: 0,
         shown: "end 00:00:00:200 cycles 1\n",
         complained: "",
-        made: &[("log2.txt", Some(models::LATER_LOG)), ("s.txt", None)],
+        made: &[("log2.txt", Some(saved_models::LATER_LOG)), ("s.txt", None)],
     },
     Row {
-        files: &[("ring.ma", models::RING), ("s.txt", models::RING_STATE)],
+        files: &[
+            ("ring.ma", saved_models::RING),
+            ("s.txt", saved_models::RING_STATE),
+        ],
         words: "cdpp -m ring.ma -t 00:00:00:100 -R s.txt -l log2.txt -S again.txt",
         status: 0,
         shown: "end 00:00:00:100 cycles 0\n",
         complained: "",
         made: &[
             ("log2.txt", Some("")),
-            ("again.txt", Some(models::RING_STATE)),
+            ("again.txt", Some(saved_models::RING_STATE)),
         ],
     },
     Row {
-        files: &[("ring.ma", models::RING)],
+        files: &[("ring.ma", saved_models::RING)],
         words: "cdpp -m ring.ma -t 00:00:00:200 -l log.txt",
         status: 0,
         shown: "end 00:00:00:200 cycles 3\n",
         complained: "",
-        made: &[("log.txt", Some(models::WHOLE_LOG))],
+        made: &[("log.txt", Some(saved_models::WHOLE_LOG))],
     },
 ];
 
@@ -100,7 +106,10 @@ end
 /// States that are refused, and one that is missing; nothing is made.
 const REFUSED_STATES: [Row<'static>; 4] = [
     Row {
-        files: &[("ring.ma", models::RING), ("s.txt", models::RING_STATE)],
+        files: &[
+            ("ring.ma", saved_models::RING),
+            ("s.txt", saved_models::RING_STATE),
+        ],
         words: "cdpp -m ring.ma -t 00:00:00:050 -R s.txt -l log2.txt",
         status: 14,
         shown: "",
@@ -108,7 +117,7 @@ const REFUSED_STATES: [Row<'static>; 4] = [
         made: &[("log2.txt", None)],
     },
     Row {
-        files: &[("ring.ma", models::RING), ("s.txt", NO_END)],
+        files: &[("ring.ma", saved_models::RING), ("s.txt", NO_END)],
         words: "cdpp -m ring.ma -t 00:00:00:200 -R s.txt -l log2.txt",
         status: 14,
         shown: "",
@@ -116,7 +125,7 @@ const REFUSED_STATES: [Row<'static>; 4] = [
         made: &[("log2.txt", None)],
     },
     Row {
-        files: &[("ring.ma", models::RING), ("s.txt", NOT_LATER)],
+        files: &[("ring.ma", saved_models::RING), ("s.txt", NOT_LATER)],
         words: "cdpp -m ring.ma -t 00:00:00:200 -R s.txt -l log2.txt -S again.txt",
         status: 14,
         shown: "",
@@ -124,7 +133,7 @@ const REFUSED_STATES: [Row<'static>; 4] = [
         made: &[("log2.txt", None), ("again.txt", None)],
     },
     Row {
-        files: &[("ring.ma", models::RING)],
+        files: &[("ring.ma", saved_models::RING)],
         words: "cdpp -m ring.ma -t 00:00:00:200 -R s.txt -l log2.txt",
         status: 3,
         shown: "",

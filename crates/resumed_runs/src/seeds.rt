@@ -52,7 +52,7 @@ fn answers_in(
     shown: &str,
     complained: &str,
 ) -> Result<(), Fail> {
-    put_files(room, &[("ring.ma", models::RING)])?;
+    put_files(room, &[("ring.ma", served_models::RING)])?;
     let got = run(rt.alloc(), line, room)?;
     assert_eq!(rt;
         (got.number(), room.shown(), room.complained()),
