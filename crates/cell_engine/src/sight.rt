@@ -123,7 +123,7 @@ fn see_further(emitted: &[Value], cell: u32, differences: &[i32], seen: &mut [Va
 
 /// The number so much further.
 #[inline(always)]
-fn further(cell: u32, difference: i32) -> usize
+pub(crate) fn further(cell: u32, difference: i32) -> usize
     requires near { cell < MAX_CELLS }
     requires low { pos 0 ≤ℤ (pos cell +ℤ difference) }
     requires high { (pos cell +ℤ difference) <ℤ pos 1048577 }

@@ -83,6 +83,15 @@ impl Reach {
         self.back.fill(cell, into);
     }
 
+    /// How much further the numbers of these cells are than the cell's, in the same order, where no
+    /// offset leads past an edge on the way back to it.
+    pub fn watching_differences(&self, cell: u32) -> Option<&[i32]>
+        requires here { cell < cell_count self.now.space }
+        ensures { IfSome result (λ ds. AreDifferences (turned self.now) cell ds.now) }
+    {
+        self.back.differences(cell)
+    }
+
     /// Puts into `into`, in place of what it holds, exactly the cells that have this cell as a
     /// neighbour, in any order and perhaps more than once: at most one for each offset, for which
     /// there has to be room. It takes no memory.
