@@ -69,6 +69,7 @@ pub(crate) fn advance(
 }
 
 /// A cell takes what its rules give, where it is woken.
+#[inline(always)]
 pub(crate) fn wake(
     plan: &Plan,
     i: u32,

@@ -184,8 +184,9 @@ fn is_nothing(offset: &Offset) -> bool
     row & column & (offset.plane == 0)
 }
 
-/// A cell takes what is kept for its own value and counts, else what its rules give.
-#[inline(always)]
+/// A cell takes what is kept for its own value and counts, else what its rules give. Out of line, as
+/// `by_rules`: so little stands where a cell is woken.
+#[inline(never)]
 pub(crate) fn by_few(
     plan: &Plan,
     rules: &[RuleCode],

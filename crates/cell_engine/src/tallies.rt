@@ -1,5 +1,5 @@
 // How many neighbours show 1, 0 and `?` to each cell, kept while cells give.
-ghost use Rattle.std.specs.Prelude.{◌≡◌, [], ◌∷◌, ◌<◌, ◌≤◌, ◌&&◌, ◌==◌, IfOk, IfSome};
+ghost use Rattle.std.specs.Prelude.{◌≡◌, [], ◌∷◌, ◌<◌, ◌≤◌, ◌&&◌, ◌==◌, Some, IfOk, IfSome};
 ghost use Rattle.std.specs.Prelude.{length, map, replicate, slice_set, slice_index_or};
 ghost use Rattle.std.specs.List.{All};
 ghost use Rattle.quantity.specs.declared.bounds.TheConstants.{MAX_CELLS};
@@ -154,7 +154,8 @@ pub(crate) fn are_same(a: Tally, b: Tally) -> bool
 }
 
 /// Each cell that has cell i as its neighbour counts it by what it shows now, once for each offset
-/// that leads there.
+/// that leads there. Out of line, as it is rare.
+#[inline(never)]
 fn move_all(
     plan: &Plan,
     table: &CellTable,
@@ -198,7 +199,7 @@ fn move_further(
     tallies: &mut [Tally],
 )
     requires cell { i < cell_count plan.now.space }
-    requires near { i < MAX_CELLS }
+    requires number { i < MAX_CELLS }
     requires cells { length table.now.cells ≡ cell_count plan.now.space }
     requires few { length plan.now.offsets ≤ 128 }
     requires gone { IsTally gone (before.now ∷ []) }

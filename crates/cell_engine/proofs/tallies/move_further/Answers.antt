@@ -1,4 +1,4 @@
-use Rattle.std.proofs.Common.{◌≡◌, ◌<◌, ◌≤◌, ℕ, Some, length, get_or, set, pos, ◌∙◌, arith}
+use Rattle.std.proofs.Common.{◌≡◌, ◌<◌, ◌≤◌, Some, length, get_or, set, pos, ◌∙◌, arith}
 use Rattle.std.proofs.lemmas.List.{length-map}
 use Rattle.cell_reach.specs.Neighbourhoods.{neighbours, turned, further}
 use Rattle.cell_engine.specs.Step.{near}
@@ -21,7 +21,7 @@ move_one-requires c =
     let ts = c.loop-difference.tallies in
     let lt : k < length ds = c.loop-difference-test.true in
     let x = c.further.result in
-    let is : x ≡ further i d = further_is (length c.args.tallies.now) i x d c.requires.near c.requires.most (c.requires.inside k (pos 0) lt) c.further.ensures in
+    let is : x ≡ further i d = further_is (length c.args.tallies.now) i x d c.requires.number c.requires.most (c.requires.inside k (pos 0) lt) c.further.ensures in
     let at = at_difference i ds (neighbours (turned n) i) k x lt c.requires.lead is in
     let many = as_many n i ds c.requires.lead in
     let short : k < length n.offsets = omega (arith, lt, many) in
@@ -42,7 +42,7 @@ loop-difference-preserved c =
     let d = get_or ds k (pos 0) in
     let lt : k < length ds = c.loop-difference-test.true in
     let x = c.further.result in
-    let is : x ≡ further i d = further_is (length c.args.tallies.now) i x d c.requires.near c.requires.most (c.requires.inside k (pos 0) lt) c.further.ensures in
+    let is : x ≡ further i d = further_is (length c.args.tallies.now) i x d c.requires.number c.requires.most (c.requires.inside k (pos 0) lt) c.further.ensures in
     let at = at_difference i ds (neighbours (turned n) i) k x lt c.requires.lead is in
     let many = as_many n i ds c.requires.lead in
     let short : k < length n.offsets = omega (arith, lt, many) in
