@@ -1,6 +1,6 @@
 -- Tallies while what one cell shows changes: before offset k cells see it by the new value, from
 -- there on by the old one.
-use Rattle.std.proofs.Common.{◌≡◌, ℕ, ◌+◌, ◌<◌, ◌≤◌, Option, Some, None, List, [], ◌∷◌, ◌++◌, map, length, get_or, set, take, drop, append_assoc, append-nil, inl, inr, pos, refl, sym, ◌∙◌, ap, subst, arith}
+use Rattle.std.proofs.Common.{◌≡◌, ℕ, ◌+◌, ◌<◌, ◌≤◌, Option, Some, None, List, [], ◌∷◌, ◌++◌, map, length, get_or, set, take, drop, append_assoc, append-nil, inl, inr, ℤ, pos, refl, sym, ◌∙◌, ap, subst, arith}
 use Rattle.std.specs.Prelude.{IfSome}
 use Rattle.std.proofs.lemmas.Bool.{cases_eq}
 use Rattle.std.proofs.lemmas.List.{length-map, length-append, get_or-map, get_or-set_same, get_or-set_other, take-append-drop, take_all, drop_all, drop_more, map_more}
@@ -15,7 +15,7 @@ use Rattle.rule_eval.specs.Tallies.{IsTally, CanMove, moved_tally}
 use Rattle.rule_eval.proofs.Tallied.{counted-cons, is_moved, can_move}
 use Rattle.cell_grid.specs.Space.{cell_count, neighbour, opposite}
 use Rattle.cell_grid.proofs.Opposites.{leads_back, leads_on, neighbour-inside}
-use Rattle.cell_reach.specs.Neighbourhoods.{Neighbourhood, neighbours, turned}
+use Rattle.cell_reach.specs.Neighbourhoods.{Neighbourhood, neighbours, turned, further}
 use Rattle.cell_engine.specs.Step.{out_of}
 use Rattle.cell_engine.specs.Tallied.{no_tally, moved_at, AreTallies, midway, AreMidway}
 
@@ -158,6 +158,16 @@ module _ (n : Neighbourhood) (es : List Value) (i : ℕ) (before : Value) (was i
       let x_here : x < cell_count n.space = neighbour-inside n.space i x (opposite (get_or n.offsets k no_offset)) here (sym (watcher-of k lt) ∙ sym at) in
       let short : length (neighbours n x) ≤ 128 = omega (arith, few, length-map n.offsets (neighbour n.space x)) in
       here_can (get_or ts x no_tally) (neighbours n x) k (long-of x k lt) (mid x (omega (arith, x_here, whole))) (leads-there x k x_here lt (sym at)) short
+
+-- a cell that is so much further is the one that is found by the offset
+pub at_difference : (cell : ℕ) (ds : List ℤ) (ms : List (Option ℕ)) (k x : ℕ) → k < length ds → ms ≡ map (λ (d : ℤ). Some (further cell d)) ds → x ≡ further cell (get_or ds k (pos 0)) → Some x ≡ get_or ms k None
+at_difference cell ds ms k x lt lead is =
+    ap Some is ∙ sym (ap (λ (os : List (Option ℕ)). get_or os k None) lead ∙ get_or-map (λ (d : ℤ). Some (further cell d)) ds k (pos 0) None lt)
+
+-- each offset has its difference
+pub as_many : (n : Neighbourhood) (cell : ℕ) (ds : List ℤ) → neighbours (turned n) cell ≡ map (λ (d : ℤ). Some (further cell d)) ds → length ds ≡ length n.offsets
+as_many n cell ds lead =
+    sym (length-map ds (λ (d : ℤ). Some (further cell d))) ∙ sym (ap length lead) ∙ length-map (map opposite n.offsets) (neighbour n.space cell) ∙ length-map n.offsets opposite
 
 -- ---- where the cell is counted as before
 

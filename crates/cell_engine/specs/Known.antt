@@ -40,7 +40,8 @@ pub record SeesFew (own : ℕ) (v : Value) (t : Tally) (s : Sight) : Type 0 wher
 pub record AlwaysGive (own : ℕ) (rules : List Rule) (v : Value) (t : Tally) (c : Constant)
     : Type 0 where
   pub bounded : c.delay ≤ MAX_DELAY
-  pub given : (s : Sight) → SeesFew own v t s → Evaluates (chosen rules s) (Ok (c.given, c.delay)) []
+  pub given : (s : Sight) → SeesFew own v t s
+      → Evaluates (chosen rules s) (Ok (c.given, c.delay)) []
 
 -- what is kept is what the rules give
 abbrev pub IsAnswer : ℕ → List Rule → Known → Type 0

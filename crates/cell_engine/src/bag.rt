@@ -19,7 +19,8 @@ ghost use Rattle.cell_table.specs.Told.{cell_at, OnlyCell};
 ghost use Rattle.cell_engine.specs.Cells.{Computes};
 ghost use Rattle.cell_engine.specs.Layout.{StandsFor};
 ghost use Rattle.cell_engine.specs.Known.{IsMemo};
-ghost use Rattle.cell_engine.specs.Step.{IsOfGroup, gives_apart, is_for, near, ruled, sees, woken_at};
+ghost use Rattle.cell_engine.specs.Step.{IsOfGroup, gives_apart, is_for, near};
+ghost use Rattle.cell_engine.specs.Step.{ruled, sees, woken_at};
 ghost use Rattle.cell_engine.specs.Store.{IsAtDesk};
 ghost use Rattle.cell_engine.specs.Tallied.{outs_of, AreTallies};
 
@@ -68,6 +69,7 @@ pub(crate) fn advance(
 }
 
 /// A cell takes what its rules give, where it is woken.
+#[inline(always)]
 pub(crate) fn wake(
     plan: &Plan,
     i: u32,

@@ -1,6 +1,7 @@
-// What rules gave for an own value and counts, kept for the next time. The evaluator is asked once
-// for each; what it gave then is taken without it.
-ghost use Rattle.std.specs.Prelude.{◌≡◌, ◌<◌, ◌≤◌, ℕ, None, List, [], length, map, replicate, slice_index_or, IfOk, IfSome, IsTrue, Ok, Some};
+// What rules gave for an own value and counts, kept for the next time, when it is taken without
+// the evaluator.
+ghost use Rattle.std.specs.Prelude.{◌≡◌, ◌<◌, ◌≤◌, ℕ, List, [], Some, None, Ok, length, replicate};
+ghost use Rattle.std.specs.Prelude.{slice_index_or, IfOk, IfSome, IsTrue};
 ghost use Rattle.std.specs.List.{All, list_all};
 ghost use Rattle.quantity.specs.declared.bounds.TheConstants.{MAX_DELAY};
 ghost use Rattle.rule_tree.specs.Expression.{Rule};
@@ -183,8 +184,9 @@ fn is_nothing(offset: &Offset) -> bool
     row & column & (offset.plane == 0)
 }
 
-/// A cell takes what is kept for its own value and counts, else what its rules give.
-#[inline(always)]
+/// A cell takes what is kept for its own value and counts, else what its rules give. Out of line, as
+/// `by_rules`: so little stands where a cell is woken.
+#[inline(never)]
 pub(crate) fn by_few(
     plan: &Plan,
     rules: &[RuleCode],

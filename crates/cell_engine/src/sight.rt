@@ -25,6 +25,7 @@ pub(crate) fn place_of(plan: &Plan, i: u32) -> Place
 }
 
 /// What a cell sees, with a value at the port that its rules are for.
+#[inline(always)]
 pub(crate) fn view<'a>(
     plan: &Plan,
     table: &'a CellTable,
@@ -56,6 +57,7 @@ pub(crate) fn view<'a>(
 }
 
 /// What the neighbours of a cell gave at their ports, offset by offset. It takes no memory.
+#[inline(always)]
 pub(crate) fn look(
     plan: &Plan,
     table: &CellTable,
@@ -82,6 +84,7 @@ pub(crate) fn look(
 }
 
 /// What the neighbours of a cell gave at their port out, the only one.
+#[inline(always)]
 fn look_at_outs(
     plan: &Plan,
     emitted: &[Value],
@@ -109,6 +112,7 @@ fn look_at_outs(
 }
 
 /// What the cells so much further gave at their port out.
+#[inline(always)]
 fn see_further(emitted: &[Value], cell: u32, differences: &[i32], seen: &mut [Value])
     requires near { cell < MAX_CELLS }
     requires cells { length emitted.now ≤ MAX_CELLS }
@@ -123,7 +127,7 @@ fn see_further(emitted: &[Value], cell: u32, differences: &[i32], seen: &mut [Va
 
 /// The number so much further.
 #[inline(always)]
-fn further(cell: u32, difference: i32) -> usize
+pub(crate) fn further(cell: u32, difference: i32) -> usize
     requires near { cell < MAX_CELLS }
     requires low { pos 0 ≤ℤ (pos cell +ℤ difference) }
     requires high { (pos cell +ℤ difference) <ℤ pos 1048577 }
@@ -134,6 +138,7 @@ fn further(cell: u32, difference: i32) -> usize
 }
 
 /// What each neighbour gave at its port out, the only one.
+#[inline(never)]
 fn see_outs(emitted: &[Value], neighbours: &[Option<u32>], seen: &mut [Value])
     requires cells { AreCells (length emitted.now) neighbours.now }
     requires length { length seen.old ≡ length neighbours.now }
@@ -156,6 +161,8 @@ fn out_of(emitted: &[Value], neighbour: Option<u32>) -> Value
     }
 }
 
+/// What each neighbour gave at each of its ports.
+#[inline(never)]
 fn see_all(table: &CellTable, neighbours: &[Option<u32>], seen: &mut Vec<Value>)
     requires cells { AreCells (length table.now.cells) neighbours.now }
     requires empty { seen.old.items ≡ [] }

@@ -1,10 +1,13 @@
 // How many neighbours show 1, 0 and `?` to each cell, kept while cells give.
-ghost use Rattle.std.specs.Prelude.{◌≡◌, [], ◌∷◌, ◌<◌, ◌≤◌, ◌&&◌, ◌==◌, length, replicate, slice_set, slice_index_or, IfOk, IfSome};
+ghost use Rattle.std.specs.Prelude.{◌≡◌, [], ◌∷◌, ◌<◌, ◌≤◌, ◌&&◌, ◌==◌, Some, IfOk, IfSome};
+ghost use Rattle.std.specs.Prelude.{length, map, replicate, slice_set, slice_index_or};
+ghost use Rattle.std.specs.List.{All};
+ghost use Rattle.quantity.specs.declared.bounds.TheConstants.{MAX_CELLS};
 ghost use Rattle.quantity.specs.declared.value.Value.{Value as AnyValue};
 ghost use Rattle.rule_eval.specs.Tallies.{IsTally, CanMove, moved_tally};
 ghost use Rattle.cell_grid.specs.Space.{cell_count};
-ghost use Rattle.cell_reach.specs.Neighbourhoods.{neighbours, turned};
-ghost use Rattle.cell_engine.specs.Step.{near};
+ghost use Rattle.cell_reach.specs.Neighbourhoods.{further, neighbours, turned};
+ghost use Rattle.cell_engine.specs.Step.{IsBelow, near};
 ghost use Rattle.cell_engine.specs.Store.{IsAtDesk};
 ghost use Rattle.cell_engine.specs.Tallied.{outs_of, no_tally, moved_at};
 ghost use Rattle.cell_engine.specs.Tallied.{AreTallies, AreKept, AreUnseen};
@@ -12,6 +15,7 @@ ghost use Rattle.cell_engine.specs.Tallied.{AreTallies, AreKept, AreUnseen};
 use crate::counting::sets_count;
 use crate::desk::Desk;
 use crate::plan::Plan;
+use crate::sight::further;
 use cell_table::CellTable;
 use quantity::{OutOfMemory, Value};
 use rule_eval::Tally;
@@ -125,8 +129,17 @@ fn move_on(
     if are_same(gone, come) {
         return;
     }
-    plan.reach.watchers_by_offset(i, around);
-    move_all(plan, table, i, before, gone, come, around, tallies);
+    // For the proof: there are at most `MAX_CELLS` cells.
+    let _most = plan.grid.cells();
+    match plan.reach.watching_differences(i) {
+        Some(differences) => {
+            move_further(plan, table, i, before, gone, come, differences, tallies);
+        }
+        None => {
+            plan.reach.watchers_by_offset(i, around);
+            move_all(plan, table, i, before, gone, come, around, tallies);
+        }
+    }
 }
 
 /// Whether two tallies have the same numbers.
@@ -141,7 +154,8 @@ pub(crate) fn are_same(a: Tally, b: Tally) -> bool
 }
 
 /// Each cell that has cell i as its neighbour counts it by what it shows now, once for each offset
-/// that leads there.
+/// that leads there. Out of line, as it is rare.
+#[inline(never)]
 fn move_all(
     plan: &Plan,
     table: &CellTable,
@@ -173,6 +187,41 @@ fn move_all(
     let _before = before;
 }
 
+/// The same, where the numbers of these cells are so much further.
+fn move_further(
+    plan: &Plan,
+    table: &CellTable,
+    i: u32,
+    before: &Value,
+    gone: Tally,
+    come: Tally,
+    differences: &[i32],
+    tallies: &mut [Tally],
+)
+    requires cell { i < cell_count plan.now.space }
+    requires number { i < MAX_CELLS }
+    requires cells { length table.now.cells ≡ cell_count plan.now.space }
+    requires few { length plan.now.offsets ≤ 128 }
+    requires gone { IsTally gone (before.now ∷ []) }
+    requires come { IsTally come (slice_index_or (outs_of table.now) i AnyValue.Undefined ∷ []) }
+    requires most { length tallies.old ≤ MAX_CELLS }
+    requires inside { All (IsBelow (length tallies.old) i) differences.now }
+    requires lead { neighbours (turned (near plan.now)) i
+        ≡ map (λ d. Some (further i d)) differences.now }
+    requires whole { length tallies.old ≡ cell_count plan.now.space }
+    requires tallies { AreTallies (near plan.now) (slice_set (outs_of table.now) i before.now)
+        tallies.old }
+    ensures { AreTallies (near plan.now) (outs_of table.now) tallies.new }
+{
+    for difference in differences {
+        move_one(tallies, further(i, *difference), gone, come);
+    }
+    // Only the clauses and the loop's invariant speak of these.
+    let _plan = plan;
+    let _table = table;
+    let _before = before;
+}
+
 /// The tally of a cell is moved, if one is.
 #[inline(always)]
 fn move_for(watcher: Option<u32>, gone: Tally, come: Tally, tallies: &mut [Tally])
@@ -182,27 +231,27 @@ fn move_for(watcher: Option<u32>, gone: Tally, come: Tally, tallies: &mut [Tally
     ensures { tallies.new ≡ moved_at watcher gone come tallies.old }
 {
     match watcher {
-        Some(cell) => move_one(tallies, cell, gone, come),
+        Some(cell) => move_one(tallies, cell as usize, gone, come),
         None => {}
     }
 }
 
 #[inline(always)]
-fn move_one(tallies: &mut [Tally], cell: u32, gone: Tally, come: Tally)
+fn move_one(tallies: &mut [Tally], cell: usize, gone: Tally, come: Tally)
     requires within { cell < length tallies.old }
     requires can { CanMove (slice_index_or tallies.old cell no_tally) gone come }
     ensures { tallies.new ≡ slice_set tallies.old cell
         (moved_tally (slice_index_or tallies.old cell no_tally) gone come) }
 {
     let tally = tally_at(tallies, cell);
-    tallies[cell as usize] = tally.moved(gone, come);
+    tallies[cell] = tally.moved(gone, come);
 }
 
 /// The tally of a cell, of which it is known that it is kept.
 #[inline(always)]
-fn tally_at(tallies: &[Tally], cell: u32) -> Tally
+fn tally_at(tallies: &[Tally], cell: usize) -> Tally
     requires { cell < length tallies.now }
     ensures { result ≡ slice_index_or tallies.now cell no_tally }
 {
-    tallies[cell as usize]
+    tallies[cell]
 }

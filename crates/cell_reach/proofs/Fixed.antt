@@ -172,6 +172,9 @@ module _ (s : Space) (cell : ℕ) (p : Place) (held steps : List Step) (n : Neig
 -- ---- watchers
 
 -- a neighbourhood of the opposite offsets
+pub is_turned : (n m back : Neighbourhood) → back.space ≡ n.space → back.offsets ≡ map opposite n.offsets → n ≡ m → back ≡ turned m
+is_turned n m back space offsets is = (λ k. record { space = space k; offsets = offsets k }) ∙ ap turned is
+
 pub turned_neighbours : (n m back : Neighbourhood) (cell : ℕ) → back.space ≡ n.space → back.offsets ≡ map opposite n.offsets → n ≡ m → neighbours back cell ≡ neighbours (turned m) cell
 turned_neighbours n m back cell space offsets is =
     (λ k. map (neighbour (space k) cell) (offsets k)) ∙ ap (λ (h : Neighbourhood). neighbours (turned h) cell) is

@@ -84,6 +84,7 @@ impl Inner {
     }
 
     /// Whether a place is one of them: false exactly where it isn't.
+    #[inline(always)]
     pub fn has(&self, place: Place) -> bool
         ensures { IsTrue result ↔ IsInner self.now place }
     {

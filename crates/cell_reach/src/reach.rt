@@ -53,6 +53,7 @@ impl Reach {
     /// differences are the same for all such cells. None exactly where an offset leads past an edge
     /// from there, or the place is outside the space. Nothing is divided, so a cell's place is worked
     /// out once, for all that it is needed for.
+    #[inline(always)]
     pub fn differences_at(&self, place: Place) -> Option<&[i32]>
         ensures some { IsSome result ↔ StandsInside self.now place }
         ensures all { IfSome result (λ ds. length ds.now ≡ length self.now.offsets) }
@@ -81,6 +82,16 @@ impl Reach {
         ensures { into.new ≡ neighbours (turned self.now) cell }
     {
         self.back.fill(cell, into);
+    }
+
+    /// How much further the numbers of these cells are than the cell's, in the same order, where no
+    /// offset leads past an edge on the way back to it.
+    #[inline(always)]
+    pub fn watching_differences(&self, cell: u32) -> Option<&[i32]>
+        requires here { cell < cell_count self.now.space }
+        ensures { IfSome result (λ ds. AreDifferences (turned self.now) cell ds.now) }
+    {
+        self.back.differences(cell)
     }
 
     /// Puts into `into`, in place of what it holds, exactly the cells that have this cell as a

@@ -72,6 +72,7 @@ impl Strides {
 
     /// How much further the cell is that each step leads to from this cell, where none passes an
     /// edge.
+    #[inline(always)]
     pub fn differences(&self, cell: u32) -> Option<&[i32]>
         requires here { cell < cell_count self.now.space }
         ensures all { IfSome result (λ ds. length ds.now ≡ length self.now.offsets) }
@@ -82,6 +83,7 @@ impl Strides {
 
     /// The same of the cell at a place: nothing is divided. None exactly where a step leads past an
     /// edge from there, or the place is outside the space.
+    #[inline(always)]
     pub fn differences_at(&self, place: Place) -> Option<&[i32]>
         ensures some { IsSome result ↔ StandsInside self.now place }
         ensures all { IfSome result (λ ds. length ds.now ≡ length self.now.offsets) }
